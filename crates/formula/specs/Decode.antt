@@ -1,0 +1,135 @@
+-- 01, 'The refusal table', the order of checks: record by record from the front (kind present, 2; known, 3; allowed
+-- here, 4; body present, 2; then 5, 6, 7 or 8); then 9.
+use Prim.Native.Nat.{ℕ, zero, suc, _+_, _-_}
+use mathlib.Core.Bool.{Bool, true, false, cond, _&&_}
+use mathlib.Core.List.{List, [], _∷_, _++_}
+use lib.Dec.{eqb, leb, ltb}
+use lib.ListN.{length}
+use Rattle.formula.specs.declared.Refusal.{Refusal}
+use Rattle.formula.specs.declared.Refusal.the-variants.{Truncated, UnknownKind, Misplaced, BadVariableCount, NoSuchVariable, RepeatedVariable, TooManyClauses, TrailingByte}
+use Rattle.formula.specs.Format.{Literal, names}
+
+-- what reading gives: a number of variables and the clauses as they were written, or a refusal
+pub data Decoding : Type 0 where
+  readable : ℕ → List (List Literal) → Decoding
+  refused : Refusal → Decoding
+
+-- 01's kinds 1 to 5
+pub data Kind : Type 0 where
+  variable-count : Kind
+  literal : Bool → Kind
+  clause-end : Kind
+  formula-end : Kind
+  unknown : Kind
+
+abbrev pub kind-of : ℕ → Kind
+kind-of zero = unknown
+kind-of (suc zero) = variable-count
+kind-of (suc (suc zero)) = literal true
+kind-of (suc (suc (suc zero))) = literal false
+kind-of (suc (suc (suc (suc zero)))) = clause-end
+kind-of (suc (suc (suc (suc (suc zero))))) = formula-end
+kind-of (suc (suc (suc (suc (suc (suc k)))))) = unknown
+
+-- where reading stands: the offset of the next record, the number of variables once kind 1 is read, the clauses that have
+-- ended, and the literals of the one that has not
+pub record Reading : Type 0 where
+  pub at : ℕ
+  pub variables : ℕ
+  pub ended : List (List Literal)
+  pub current : List Literal
+
+abbrev pub start : Reading
+start = record { at = 0; variables = 0; ended = []; current = [] }
+
+-- after a record: reading goes on, with the bytes that follow, or it stops
+pub data Step : Type 0 where
+  next : Reading → List ℕ → Step
+  stop : Decoding → Step
+
+abbrev pub refuse : Refusal → Step
+refuse r = stop (refused r)
+
+-- no literal of the current clause is read yet
+abbrev pub none-yet : List Literal → Bool
+none-yet [] = true
+none-yet (l ∷ c) = false
+
+-- kind 1 comes first and only there; kind 5 may not stand while a clause has records and no end
+abbrev pub allowed : Reading → Kind → Bool
+allowed r variable-count = eqb (r .at) 0
+allowed r (literal sign) = ltb 0 (r .at)
+allowed r clause-end = ltb 0 (r .at)
+allowed r formula-end = ltb 0 (r .at) && none-yet (r .current)
+allowed r unknown = false
+
+-- the body of kind 1: the number of variables, 1 to 48 (else 5)
+abbrev pub variable-count-body : ℕ → Reading → List ℕ → Step
+variable-count-body len r [] = refuse (Truncated len)
+variable-count-body len r (n ∷ s) =
+    cond (ltb 0 n && leb n 48)
+    (next (record { at = r .at + 2; variables = n; ended = r .ended; current = r .current }) s)
+    (refuse (BadVariableCount (r .at)))
+
+-- the body of kinds 2 and 3: a variable, 1 to n (else 6), that this clause has not named (else 7)
+abbrev pub literal-body : ℕ → Reading → Bool → List ℕ → Step
+literal-body len r sign [] = refuse (Truncated len)
+literal-body len r sign (b ∷ s) =
+    cond (ltb 0 b && leb b (r .variables))
+    (cond (names (r .current) (b - 1))
+    (refuse (RepeatedVariable (r .at)))
+    (next
+    (record {
+      at = r .at + 2;
+      variables = r .variables;
+      ended = r .ended;
+      current = r .current ++ (record { variable = b - 1; positive = sign } ∷ []);
+    })
+    s))
+    (refuse (NoSuchVariable (r .at)))
+
+-- kind 4: at most 96 clauses (else 8)
+abbrev pub clause-ends : Reading → List ℕ → Step
+clause-ends r s =
+    cond (ltb (length (r .ended)) 96)
+    (next
+    (record { at = r .at + 1; variables = r .variables; ended = r .ended ++ (r .current ∷ []); current = [] })
+    s)
+    (refuse (TooManyClauses (r .at)))
+
+-- kind 5: nothing after it (else 9)
+abbrev pub formula-ends : Reading → List ℕ → Step
+formula-ends r [] = stop (readable (r .variables) (r .ended))
+formula-ends r (b ∷ s) = refuse (TrailingByte (r .at + 1))
+
+-- what the rest of a record of an allowed kind gives; `s` are the bytes after the kind
+abbrev pub after-kind : ℕ → Reading → Kind → List ℕ → Step
+after-kind len r variable-count s = variable-count-body len r s
+after-kind len r (literal sign) s = literal-body len r sign s
+after-kind len r clause-end s = clause-ends r s
+after-kind len r formula-end s = formula-ends r s
+after-kind len r unknown s = refuse (UnknownKind (r .at))
+
+abbrev pub known : Kind → Bool
+known variable-count = true
+known (literal sign) = true
+known clause-end = true
+known formula-end = true
+known unknown = false
+
+-- one record, at the front of the bytes that are left of an input of `len` bytes
+unfoldable pub read-record : ℕ → Reading → List ℕ → Step
+read-record len r [] = refuse (Truncated len)
+read-record len r (k ∷ s) =
+    cond (known (kind-of k))
+    (cond (allowed r (kind-of k)) (after-kind len r (kind-of k) s) (refuse (Misplaced (r .at))))
+    (refuse (UnknownKind (r .at)))
+
+-- record after record. The first number is at least the count of the bytes that are left, and a record has a byte or
+-- two: where it is 0 no byte is left.
+unfoldable pub records : ℕ → ℕ → Reading → List ℕ → Decoding
+records zero len r s = refused (Truncated len)
+records (suc k) len r s = elim (read-record len r s) [ next r′ s′ ↦ records k len r′ s′ | stop d ↦ d ]
+
+unfoldable pub decode : List ℕ → Decoding
+decode s = records (length s) (length s) start s

@@ -1,0 +1,66 @@
+-- 01, 'The sheet': an encoded formula as a grammar. A formula is a number of variables and a list of clauses; a clause
+-- is the list of its literals in written order. Variables count from 0: variable v is 01's switch v + 1.
+use Prim.Native.Nat.{ℕ, _+_, _<_, _≤_}
+use mathlib.Core.Bool.{Bool, true, false, not, _&&_, _||_}
+use mathlib.Core.List.{List, [], _∷_, _++_}
+use mathlib.Core.Path.{_≡_}
+use lib.Dec.{eqb}
+use lib.ListN.{length}
+use Rattle.lists.specs.Every.{Every}
+
+-- a variable named as true (01: a switch named as on) or as false
+pub record Literal : Type 0 where
+  pub variable : ℕ
+  pub positive : Bool
+
+-- kind 2 names a variable as true, kind 3 as false
+abbrev pub literal-kind : Bool → ℕ
+literal-kind true = 2
+literal-kind false = 3
+
+-- the record of a literal: its kind, then the variable from 1
+unfoldable pub literal-bytes : Literal → List ℕ
+literal-bytes l = literal-kind (l .positive) ∷ (l .variable + 1) ∷ []
+
+unfoldable pub literals-bytes : List Literal → List ℕ
+literals-bytes [] = []
+literals-bytes (l ∷ c) = literal-bytes l ++ literals-bytes c
+
+-- a clause: zero or more literals, followed by kind 4
+unfoldable pub clause-bytes : List Literal → List ℕ
+clause-bytes c = literals-bytes c ++ (4 ∷ [])
+
+unfoldable pub clauses-bytes : List (List Literal) → List ℕ
+clauses-bytes [] = []
+clauses-bytes (c ∷ cs) = clause-bytes c ++ clauses-bytes cs
+
+-- kind 1 with the number of variables, then the clauses, then kind 5
+unfoldable pub formula-bytes : ℕ → List (List Literal) → List ℕ
+formula-bytes n cs = 1 ∷ n ∷ (clauses-bytes cs ++ (5 ∷ []))
+
+-- the clause names v, either way
+unfoldable pub names : List Literal → ℕ → Bool
+names [] v = false
+names (l ∷ c) v = eqb (l .variable) v || names c v
+
+-- the clause names no variable twice
+unfoldable pub distinct : List Literal → Bool
+distinct [] = true
+distinct (l ∷ c) = not (names c (l .variable)) && distinct c
+
+-- a clause over the variables below n, none named twice
+pub record ClauseOver (n : ℕ) (c : List Literal) : Type 0 where
+  pub below : Every (λ l. l .variable < n) c
+  pub once : distinct c ≡ true
+
+-- 1 to 48 variables and at most 96 clauses over them
+pub record Sized (n : ℕ) (cs : List (List Literal)) : Type 0 where
+  pub some : 1 ≤ n
+  pub most : n ≤ 48
+  pub few : length cs ≤ 96
+  pub clauses : Every (ClauseOver n) cs
+
+-- a readable input is the bytes of such a formula
+pub record Encodes (s : List ℕ) (n : ℕ) (cs : List (List Literal)) : Type 0 where
+  pub bytes : s ≡ formula-bytes n cs
+  pub sized : Sized n cs
