@@ -1,6 +1,13 @@
 // Encoded formulas: the reader, its refusals, and the act check.
 ghost use mathlib.Core.Path.{_≡_};
-ghost use Rattle.formula.specs.Refusals.{listing};
+ghost use Prim.Native.Nat.{_+_, _<_, _≤_, _^_};
+ghost use lib.ListN.{length};
+ghost use mathlib.Core.List.{[]};
+ghost use lib.Bits.{bitOr};
+ghost use Rattle.formula.specs.Check.{values, checked};
+ghost use Rattle.formula.specs.Masked.{no-clause, with-literal, formula-of, held, decoded};
+ghost use Rattle.formula.specs.Decode.{refused};
+ghost use Rattle.formula.specs.InnerReader.{count-event, variable-event, literal-event, end-event, finish-event, record-event};
 
 // A clause (01: rule): the variables that it names as true (01: on) and those that it names as false.
 pub struct Clause {
@@ -48,4 +55,204 @@ pub enum Verdict {
     Model,
     NotModel,
     Refused(Refusal),
+}
+
+// Where reading stands: the offset of the next record, the number of variables once kind 1 is read, how many clauses have
+// ended, and what the current clause names so far.
+struct Reader {
+    at: usize,
+    variables: usize,
+    count: usize,
+    current: Clause,
+}
+
+// What a record gives.
+enum Event {
+    Next(Reader),
+    Finished,
+    Stopped(Refusal),
+}
+
+// The number of a byte.
+fn wide(x: u8) -> usize
+    ensures { λ r. ⌜ r ≡ x ⌝ }
+{
+    x as usize
+}
+
+fn empty_clause() -> Clause
+    ensures { λ r. ⌜ r ≡ no-clause ⌝ }
+{
+    Clause {
+        positive: 0,
+        negative: 0,
+    }
+}
+
+fn no_clauses() -> [Clause; 96]
+    ensures { λ r. ⌜ r ≡ formula-of 0 [] .clauses ⌝ }
+{
+    [Clause {
+        positive: 0,
+        negative: 0,
+    }; 96]
+}
+
+// The clause that names v as well.
+fn add_literal(c: Clause, v: usize, sign: bool) -> Clause
+    requires { ⌜ v < 64 ⌝ }
+    ensures { λ r. ⌜ r ≡ with-literal c v sign ⌝ }
+{
+    if sign {
+        Clause {
+            positive: masks::with(c.positive, v),
+            negative: c.negative,
+        }
+    } else {
+        Clause {
+            positive: c.positive,
+            negative: masks::with(c.negative, v),
+        }
+    }
+}
+
+// Kind 1.
+fn read_count(input: &[u8], r: Reader) -> Event
+    requires { ⌜ r .at < length (now input) ⌝ }
+    ensures { λ e. ⌜ e ≡ count-event (now (input .entry)) r ⌝ }
+{
+    let at = r.at;
+    if at != 0 {
+        return Event::Stopped(Refusal::Misplaced(at));
+    }
+    if input.len() <= at + 1 {
+        return Event::Stopped(Refusal::Truncated(input.len()));
+    }
+    let n = wide(input[at + 1]);
+    if n == 0 {
+        return Event::Stopped(Refusal::BadVariableCount(at));
+    }
+    if 48 < n {
+        return Event::Stopped(Refusal::BadVariableCount(at));
+    }
+    let current = r.current;
+    Event::Next(Reader {
+        at: at + 2,
+        variables: n,
+        count: r.count,
+        current,
+    })
+}
+
+// A literal of variable v.
+fn read_variable(r: Reader, v: usize, sign: bool) -> Event
+    requires { ⌜ (v < 64) × (r .at + 2 < 2 ^ 64) ⌝ }
+    ensures { λ e. ⌜ e ≡ variable-event r v sign ⌝ }
+{
+    let current = r.current;
+    if masks::member(current.positive | current.negative, v) {
+        return Event::Stopped(Refusal::RepeatedVariable(r.at));
+    }
+    Event::Next(Reader {
+        at: r.at + 2,
+        variables: r.variables,
+        count: r.count,
+        current: add_literal(current, v, sign),
+    })
+}
+
+// Kinds 2 and 3.
+fn read_literal(input: &[u8], r: Reader, sign: bool) -> Event
+    requires { ⌜ (r .at < length (now input)) × (r .variables ≤ 48) ⌝ }
+    ensures { λ e. ⌜ e ≡ literal-event (now (input .entry)) r sign ⌝ }
+{
+    let at = r.at;
+    if at == 0 {
+        return Event::Stopped(Refusal::Misplaced(at));
+    }
+    if input.len() <= at + 1 {
+        return Event::Stopped(Refusal::Truncated(input.len()));
+    }
+    let b = wide(input[at + 1]);
+    if b == 0 {
+        return Event::Stopped(Refusal::NoSuchVariable(at));
+    }
+    if r.variables < b {
+        return Event::Stopped(Refusal::NoSuchVariable(at));
+    }
+    read_variable(r, b - 1, sign)
+}
+
+// Kind 4.
+fn read_end(r: Reader) -> Event
+    requires { ⌜ r .at + 1 < 2 ^ 64 ⌝ }
+    ensures { λ e. ⌜ e ≡ end-event r ⌝ }
+{
+    let at = r.at;
+    if at == 0 {
+        return Event::Stopped(Refusal::Misplaced(at));
+    }
+    if 96 <= r.count {
+        return Event::Stopped(Refusal::TooManyClauses(at));
+    }
+    Event::Next(Reader {
+        at: at + 1,
+        variables: r.variables,
+        count: r.count + 1,
+        current: empty_clause(),
+    })
+}
+
+// Kind 5.
+fn read_finish(input: &[u8], r: Reader) -> Event
+    requires { ⌜ r .at < length (now input) ⌝ }
+    ensures { λ e. ⌜ e ≡ finish-event (now (input .entry)) r ⌝ }
+{
+    let at = r.at;
+    if at == 0 {
+        return Event::Stopped(Refusal::Misplaced(at));
+    }
+    let current = r.current;
+    if (current.positive | current.negative) != 0 {
+        return Event::Stopped(Refusal::Misplaced(at));
+    }
+    if at + 1 < input.len() {
+        return Event::Stopped(Refusal::TrailingByte(at + 1));
+    }
+    Event::Finished
+}
+
+// One record.
+fn read_record(input: &[u8], r: Reader) -> Event
+    requires { ⌜ r .variables ≤ 48 ⌝ }
+    ensures { λ e. ⌜ e ≡ record-event (now (input .entry)) r ⌝ }
+{
+    let at = r.at;
+    if input.len() <= at {
+        return Event::Stopped(Refusal::Truncated(input.len()));
+    }
+    let kind = input[at];
+    match kind {
+        1 => read_count(input, r),
+        2 => read_literal(input, r, true),
+        3 => read_literal(input, r, false),
+        4 => read_end(r),
+        5 => read_finish(input, r),
+        0 | 6..=255 => Event::Stopped(Refusal::UnknownKind(at)),
+    }
+}
+
+fn refuse(refusal: Refusal) -> Decoded
+    ensures { λ d. ⌜ d ≡ held (refused refusal) ⌝ }
+{
+    let clauses = no_clauses();
+    let formula = Formula {
+        variables: 0,
+        count: 0,
+        clauses,
+    };
+    Decoded {
+        outcome: Outcome::Refused(refusal),
+        formula,
+    }
 }

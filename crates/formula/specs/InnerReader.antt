@@ -1,0 +1,77 @@
+-- What the reader's functions compute over masks, record by record; proofs/ReaderLaws.antt ties it to Decode.
+use Prim.Native.Nat.{ℕ, zero, suc, _+_, _-_}
+use mathlib.Core.Bool.{Bool, true, false, cond, _&&_}
+use mathlib.Core.List.{List}
+use lib.Bits.{bitOr}
+use lib.Dec.{eqb, leb, ltb}
+use lib.ListN.{length, getD}
+use Rattle.masks.specs.Mask.{bit}
+use Rattle.formula.specs.declared.Clause.{Clause}
+use Rattle.formula.specs.declared.Event.{Event}
+use Rattle.formula.specs.declared.Event.the-variants.{Next, Finished, Stopped}
+use Rattle.formula.specs.declared.Reader.{Reader}
+use Rattle.formula.specs.declared.Refusal.the-variants.{Truncated, UnknownKind, Misplaced, BadVariableCount, NoSuchVariable, RepeatedVariable, TooManyClauses, TrailingByte}
+use Rattle.formula.specs.Decode.{Kind, variable-count, literal, clause-end, formula-end, unknown, kind-of}
+use Rattle.formula.specs.Masked.{no-clause, with-literal}
+
+abbrev pub named : Clause → ℕ
+named c = bitOr (c .positive) (c .negative)
+
+-- kind 1
+unfoldable pub count-event : List ℕ → Reader → Event
+count-event s r =
+    cond (eqb (r .at) 0)
+    (cond (ltb (r .at + 1) (length s))
+    (cond (ltb 0 (getD s (r .at + 1) 0) && leb (getD s (r .at + 1) 0) 48)
+    (Next (record { at = r .at + 2; variables = getD s (r .at + 1) 0; count = r .count; current = r .current }))
+    (Stopped (BadVariableCount (r .at))))
+    (Stopped (Truncated (length s))))
+    (Stopped (Misplaced (r .at)))
+
+-- a literal of variable v
+unfoldable pub variable-event : Reader → ℕ → Bool → Event
+variable-event r v sign =
+    cond (bit (named (r .current)) v)
+    (Stopped (RepeatedVariable (r .at)))
+    (Next (record { at = r .at + 2; variables = r .variables; count = r .count; current = with-literal (r .current) v sign }))
+
+-- kinds 2 and 3
+unfoldable pub literal-event : List ℕ → Reader → Bool → Event
+literal-event s r sign =
+    cond (eqb (r .at) 0)
+    (Stopped (Misplaced (r .at)))
+    (cond (ltb (r .at + 1) (length s))
+    (cond (ltb 0 (getD s (r .at + 1) 0) && leb (getD s (r .at + 1) 0) (r .variables))
+    (variable-event r (getD s (r .at + 1) 0 - 1) sign)
+    (Stopped (NoSuchVariable (r .at))))
+    (Stopped (Truncated (length s))))
+
+-- kind 4
+unfoldable pub end-event : Reader → Event
+end-event r =
+    cond (eqb (r .at) 0)
+    (Stopped (Misplaced (r .at)))
+    (cond (ltb (r .count) 96)
+    (Next (record { at = r .at + 1; variables = r .variables; count = r .count + 1; current = no-clause }))
+    (Stopped (TooManyClauses (r .at))))
+
+-- kind 5
+unfoldable pub finish-event : List ℕ → Reader → Event
+finish-event s r =
+    cond (eqb (r .at) 0)
+    (Stopped (Misplaced (r .at)))
+    (cond (eqb (named (r .current)) 0)
+    (cond (ltb (r .at + 1) (length s)) (Stopped (TrailingByte (r .at + 1))) Finished)
+    (Stopped (Misplaced (r .at))))
+
+abbrev pub kind-event : List ℕ → Reader → Kind → Event
+kind-event s r variable-count = count-event s r
+kind-event s r (literal sign) = literal-event s r sign
+kind-event s r clause-end = end-event r
+kind-event s r formula-end = finish-event s r
+kind-event s r unknown = Stopped (UnknownKind (r .at))
+
+-- one record
+unfoldable pub record-event : List ℕ → Reader → Event
+record-event s r =
+    cond (ltb (r .at) (length s)) (kind-event s r (kind-of (getD s (r .at) 0))) (Stopped (Truncated (length s)))
