@@ -50,6 +50,10 @@ pub data Step : Type 0 where
 abbrev pub refuse : Refusal → Step
 refuse r = stop (refused r)
 
+-- x is 1 to m
+abbrev pub one-to : ℕ → ℕ → Bool
+one-to m x = ltb 0 x && leb x m
+
 -- no literal of the current clause is read yet
 abbrev pub none-yet : List Literal → Bool
 none-yet [] = true
@@ -67,7 +71,7 @@ allowed r unknown = false
 abbrev pub variable-count-body : ℕ → Reading → List ℕ → Step
 variable-count-body len r [] = refuse (Truncated len)
 variable-count-body len r (n ∷ s) =
-    cond (ltb 0 n && leb n 48)
+    cond (one-to 48 n)
     (next (record { at = r .at + 2; variables = n; ended = r .ended; current = r .current }) s)
     (refuse (BadVariableCount (r .at)))
 
@@ -75,7 +79,7 @@ variable-count-body len r (n ∷ s) =
 abbrev pub literal-body : ℕ → Reading → Bool → List ℕ → Step
 literal-body len r sign [] = refuse (Truncated len)
 literal-body len r sign (b ∷ s) =
-    cond (ltb 0 b && leb b (r .variables))
+    cond (one-to (r .variables) b)
     (cond (names (r .current) (b - 1))
     (refuse (RepeatedVariable (r .at)))
     (next

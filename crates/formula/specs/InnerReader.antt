@@ -1,9 +1,9 @@
 -- What the reader's functions compute over masks, record by record; proofs/ReaderLaws.antt ties it to Decode.
-use Prim.Native.Nat.{ℕ, zero, suc, _+_, _-_}
-use mathlib.Core.Bool.{Bool, true, false, cond, _&&_}
+use Prim.Native.Nat.{ℕ, _+_, _-_}
+use mathlib.Core.Bool.{Bool, cond}
 use mathlib.Core.List.{List}
 use lib.Bits.{bitOr}
-use lib.Dec.{eqb, leb, ltb}
+use lib.Dec.{eqb, ltb}
 use lib.ListN.{length, getD}
 use Rattle.masks.specs.Mask.{bit}
 use Rattle.formula.specs.declared.Clause.{Clause}
@@ -11,7 +11,7 @@ use Rattle.formula.specs.declared.Event.{Event}
 use Rattle.formula.specs.declared.Event.the-variants.{Next, Finished, Stopped}
 use Rattle.formula.specs.declared.Reader.{Reader}
 use Rattle.formula.specs.declared.Refusal.the-variants.{Truncated, UnknownKind, Misplaced, BadVariableCount, NoSuchVariable, RepeatedVariable, TooManyClauses, TrailingByte}
-use Rattle.formula.specs.Decode.{Kind, variable-count, literal, clause-end, formula-end, unknown, kind-of}
+use Rattle.formula.specs.Decode.{Kind, variable-count, literal, clause-end, formula-end, unknown, kind-of, one-to}
 use Rattle.formula.specs.Masked.{no-clause, with-literal}
 
 abbrev pub named : Clause → ℕ
@@ -22,7 +22,7 @@ unfoldable pub count-event : List ℕ → Reader → Event
 count-event s r =
     cond (eqb (r .at) 0)
     (cond (ltb (r .at + 1) (length s))
-    (cond (ltb 0 (getD s (r .at + 1) 0) && leb (getD s (r .at + 1) 0) 48)
+    (cond (one-to 48 (getD s (r .at + 1) 0))
     (Next (record { at = r .at + 2; variables = getD s (r .at + 1) 0; count = r .count; current = r .current }))
     (Stopped (BadVariableCount (r .at))))
     (Stopped (Truncated (length s))))
@@ -41,7 +41,7 @@ literal-event s r sign =
     cond (eqb (r .at) 0)
     (Stopped (Misplaced (r .at)))
     (cond (ltb (r .at + 1) (length s))
-    (cond (ltb 0 (getD s (r .at + 1) 0) && leb (getD s (r .at + 1) 0) (r .variables))
+    (cond (one-to (r .variables) (getD s (r .at + 1) 0))
     (variable-event r (getD s (r .at + 1) 0 - 1) sign)
     (Stopped (NoSuchVariable (r .at))))
     (Stopped (Truncated (length s))))
