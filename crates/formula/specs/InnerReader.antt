@@ -1,18 +1,20 @@
 -- What the reader's functions compute over masks, record by record; proofs/ReaderLaws.antt ties it to Decode.
-use Prim.Native.Nat.{ℕ, _+_, _-_}
+use Prim.Native.Nat.{ℕ, _+_, _-_, _≤_}
 use mathlib.Core.Bool.{Bool, cond}
-use mathlib.Core.List.{List}
+use mathlib.Core.List.{List, map}
+use mathlib.Core.Path.{_≡_}
 use lib.Bits.{bitOr}
 use lib.Dec.{eqb, ltb}
-use lib.ListN.{length, getD}
+use lib.ListN.{length, getD, drop}
+use Rattle.lists.specs.Padded.{padded}
 use Rattle.masks.specs.Mask.{bit}
 use Rattle.formula.specs.declared.Clause.{Clause}
 use Rattle.formula.specs.declared.Event.{Event}
 use Rattle.formula.specs.declared.Event.the-variants.{Next, Finished, Stopped}
 use Rattle.formula.specs.declared.Reader.{Reader}
 use Rattle.formula.specs.declared.Refusal.the-variants.{Truncated, UnknownKind, Misplaced, BadVariableCount, NoSuchVariable, RepeatedVariable, TooManyClauses, TrailingByte}
-use Rattle.formula.specs.Decode.{Kind, variable-count, literal, clause-end, formula-end, unknown, kind-of, one-to}
-use Rattle.formula.specs.Masked.{no-clause, with-literal}
+use Rattle.formula.specs.Decode.{Kind, variable-count, literal, clause-end, formula-end, unknown, kind-of, one-to, Reading, records, decode}
+use Rattle.formula.specs.Masked.{no-clause, with-literal, clause-of}
 
 abbrev pub named : Clause → ℕ
 named c = bitOr (c .positive) (c .negative)
@@ -75,3 +77,20 @@ kind-event s r unknown = Stopped (UnknownKind (r .at))
 unfoldable pub record-event : List ℕ → Reader → Event
 record-event s r =
     cond (ltb (r .at) (length s)) (kind-event s r (kind-of (getD s (r .at) 0))) (Stopped (Truncated (length s)))
+
+-- the reader at a reading, and the event that a step is
+abbrev pub reader-of : Reading → Reader
+reader-of g = record { at = g .at; variables = g .variables; count = length (g .ended); current = clause-of (g .current) }
+
+-- what the loop of the reader keeps: its reader and array stand for a reading from which the rest of the input gives what
+-- the whole gives. The fuel is at least the bytes that are left.
+pub record Reads (s : List ℕ) (r : Reader) (clauses : List Clause) : Type 0 where
+  pub reading : Reading
+  pub is : r ≡ reader-of reading
+  pub kept : clauses ≡ padded 96 no-clause (map clause-of (reading .ended))
+  pub inside : reading .at ≤ length s
+  pub small : reading .variables ≤ 48
+  pub few : length (reading .ended) ≤ 96
+  pub fuel : ℕ
+  pub enough : length s ≤ reading .at + fuel
+  pub rest : records fuel (length s) reading (drop (reading .at) s) ≡ decode s

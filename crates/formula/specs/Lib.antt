@@ -1,6 +1,7 @@
 pub mod Check
 pub mod Decode
 pub mod Format
+pub mod InnerCheck
 pub mod InnerReader
 pub mod Masked
 pub mod Models

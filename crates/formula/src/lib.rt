@@ -5,8 +5,10 @@ ghost use lib.ListN.{length};
 ghost use mathlib.Core.List.{[]};
 ghost use lib.Bits.{bitOr};
 ghost use Rattle.formula.specs.Check.{values, checked};
+ghost use Rattle.formula.specs.InnerCheck.{clause-holds, clauses-hold};
 ghost use Rattle.formula.specs.Masked.{no-clause, with-literal, formula-of, held, decoded};
 ghost use Rattle.formula.specs.Decode.{refused};
+ghost use Rattle.formula.specs.Refusals.{listing};
 ghost use Rattle.formula.specs.InnerReader.{count-event, variable-event, literal-event, end-event, finish-event, record-event};
 
 // A clause (01: rule): the variables that it names as true (01: on) and those that it names as false.
@@ -254,5 +256,128 @@ fn refuse(refusal: Refusal) -> Decoded
     Decoded {
         outcome: Outcome::Refused(refusal),
         formula,
+    }
+}
+
+// The formula that the input encodes, or the first refusal that the order of checks reaches.
+pub fn decode(input: &[u8]) -> Decoded
+    ensures { λ d. ⌜ d ≡ decoded (now (input .entry)) ⌝ }
+{
+    let mut clauses = no_clauses();
+    let mut reader = Reader {
+        at: 0,
+        variables: 0,
+        count: 0,
+        current: empty_clause(),
+    };
+    loop {
+        match read_record(input, reader) {
+            Event::Next(after) => {
+                if reader.count < after.count {
+                    let i = reader.count;
+                    let ended = reader.current;
+                    clauses[i] = ended;
+                }
+                reader = after;
+            }
+            Event::Finished => {
+                let formula = Formula {
+                    variables: reader.variables,
+                    count: reader.count,
+                    clauses,
+                };
+                return Decoded {
+                    outcome: Outcome::Accepted,
+                    formula,
+                };
+            }
+            Event::Stopped(refusal) => {
+                return refuse(refusal);
+            }
+        }
+    }
+}
+
+// 01's number of a refusal.
+pub fn number_of(refusal: Refusal) -> u64
+    ensures { λ r. ⌜ r ≡ listing refusal .number ⌝ }
+{
+    match refusal {
+        Refusal::ShortBuffer(_) => 1,
+        Refusal::Truncated(_) => 2,
+        Refusal::UnknownKind(_) => 3,
+        Refusal::Misplaced(_) => 4,
+        Refusal::BadVariableCount(_) => 5,
+        Refusal::NoSuchVariable(_) => 6,
+        Refusal::RepeatedVariable(_) => 7,
+        Refusal::TooManyClauses(_) => 8,
+        Refusal::TrailingByte(_) => 9,
+        Refusal::Unmatched(_) => 10,
+        Refusal::ForeignCheckpoint(_) => 11,
+        Refusal::StrayVariable(_) => 12,
+    }
+}
+
+// 01's place of a refusal.
+pub fn place_of(refusal: Refusal) -> usize
+    ensures { λ r. ⌜ r ≡ listing refusal .place ⌝ }
+{
+    match refusal {
+        Refusal::ShortBuffer(p) => p,
+        Refusal::Truncated(p) => p,
+        Refusal::UnknownKind(p) => p,
+        Refusal::Misplaced(p) => p,
+        Refusal::BadVariableCount(p) => p,
+        Refusal::NoSuchVariable(p) => p,
+        Refusal::RepeatedVariable(p) => p,
+        Refusal::TooManyClauses(p) => p,
+        Refusal::TrailingByte(p) => p,
+        Refusal::Unmatched(p) => p,
+        Refusal::ForeignCheckpoint(p) => p,
+        Refusal::StrayVariable(p) => p,
+    }
+}
+
+// Some variable stands the way that the clause names it.
+pub fn holds(c: Clause, assignment: u64) -> bool
+    ensures { λ r. ⌜ r ≡ clause-holds assignment c ⌝ }
+{
+    masks::meets(c.positive, assignment) || masks::minus(c.negative, assignment) != 0
+}
+
+// Every clause of the formula holds.
+fn all_hold(f: Formula, assignment: u64) -> bool
+    requires { ⌜ f .count ≤ 96 ⌝ }
+    ensures { λ r. ⌜ r ≡ clauses-hold assignment (f .clauses) (f .count) ⌝ }
+{
+    let mut i: usize = 0;
+    while i < f.count {
+        if !holds(f.clauses[i], assignment) {
+            return false;
+        }
+        i += 1;
+    }
+    true
+}
+
+// The act check (01): whether the assignment is a model of the encoded formula, matched or not.
+pub fn check(input: &[u8], assignment: u64) -> Verdict
+    ensures { λ r. ⌜ values r ≡ checked (now (input .entry)) assignment ⌝ }
+{
+    let d = decode(input);
+    let outcome = d.outcome;
+    match outcome {
+        Outcome::Refused(refusal) => Verdict::Refused(refusal),
+        Outcome::Accepted => {
+            let f = d.formula;
+            if (assignment >> f.variables) != 0 {
+                return Verdict::Refused(Refusal::StrayVariable(0));
+            }
+            if all_hold(f, assignment) {
+                Verdict::Model
+            } else {
+                Verdict::NotModel
+            }
+        }
     }
 }

@@ -1,0 +1,18 @@
+-- What the code of check computes over masks; proofs/CheckLaws.antt ties it to Models.
+use Prim.Native.Nat.{ℕ, zero, suc}
+use mathlib.Core.Bool.{Bool, true, not, _&&_, _||_}
+use mathlib.Core.List.{List}
+use lib.Dec.{eqb}
+use lib.ListN.{getD}
+use Rattle.masks.specs.Mask.{meets, minus}
+use Rattle.formula.specs.declared.Clause.{Clause}
+use Rattle.formula.specs.Masked.{no-clause}
+
+-- the positive mask meets the assignment, or the negative mask its complement
+abbrev pub clause-holds : ℕ → Clause → Bool
+clause-holds a c = meets (c .positive) a || not (eqb (minus (c .negative) a) 0)
+
+-- the first n clauses of an array hold
+unfoldable pub clauses-hold : ℕ → List Clause → ℕ → Bool
+clauses-hold a cs zero = true
+clauses-hold a cs (suc n) = clauses-hold a cs n && clause-holds a (getD cs n no-clause)
