@@ -1,0 +1,3 @@
+pub mod FormatLaws
+pub mod ExtendsLaws
+pub mod DecodeLaws
