@@ -20,6 +20,11 @@ abbrev pub reading-of : Beginning → Reading
 reading-of nothing = start
 reading-of (inside n cs c) = record { at = length (written (inside n cs c)); variables = n; ended = cs; current = c }
 
+-- its offset is the number of the bytes before it
+pub reading-at : (b : Beginning) → reading-of b .at ≡ length (written b)
+reading-at nothing = refl
+reading-at (inside n cs c) = refl
+
 -- a literal of a variable below the number of variables that the clause has not named
 read-literal : (len : ℕ) (r : Reading) (v : ℕ) (sign : Bool) (s : List ℕ) → 0 < r .at → v < r .variables → names (r .current) v ≡ false
     → read-record len r (literal-kind sign ∷ (v + 1) ∷ s)

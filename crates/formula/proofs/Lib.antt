@@ -1,3 +1,4 @@
-pub mod FormatLaws
-pub mod ExtendsLaws
 pub mod DecodeLaws
+pub mod ExtendsLaws
+pub mod FormatLaws
+pub mod RefusalLaws
