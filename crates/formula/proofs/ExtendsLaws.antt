@@ -6,10 +6,15 @@ use mathlib.Core.Path.{_≡_, refl, sym, ap, _∙_}
 use native.Mathlib.Omega.{arith}
 use borrow.Author.Tests.{lt-ltb, le-leb}
 use lib.ListN.{length, length-append}
-use Rattle.formula.specs.Format.{Literal, literal-kind, literal-bytes, literals-bytes, clause-bytes, clauses-bytes, names, distinct, ClauseOver, Sized}
+use Rattle.formula.specs.Format.{Literal, literal-kind, literal-bytes, literals-bytes, clause-bytes, clauses-bytes, formula-bytes, names, distinct, ClauseOver, Sized}
 use Rattle.formula.specs.Decode.{Decoding, Reading, Step, next, stop, read-record, records}
 use Rattle.formula.specs.Table.{Beginning, nothing, inside, written, Begins}
 use Rattle.formula.proofs.FormatLaws.{literals-append, clauses-append, clause-more, sized-more}
+
+-- a formula is a beginning with no open clause, then kind 5
+pub formula-written : (n : ℕ) (cs : List (List Literal)) → written (inside n cs []) ++ (5 ∷ []) ≡ formula-bytes n cs
+unfolding formula-bytes literals-bytes
+formula-written n cs = rw (append-nil (clauses-bytes cs))
 
 -- a record takes one beginning to the next: kind 1, a literal, or the end of a clause
 pub data Extends : Beginning → List ℕ → Beginning → Type 0 where

@@ -1,4 +1,5 @@
 pub mod DecodeLaws
 pub mod ExtendsLaws
 pub mod FormatLaws
+pub mod OutcomeLaws
 pub mod RefusalLaws
