@@ -111,7 +111,9 @@ pub gives-formula : (len n : ℕ) (cs : List (List Literal)) → Gives len (read
 unfolding read-record
 gives-formula len n cs = gives-stop (rw (lt-ltb 0 (length (written (inside n cs []))) (omega arith)))
 
--- what reading an input from the start gives is what it decodes to
-pub decode-is : {s : List ℕ} {d : Decoding} → Gives (length s) start s d → decode s ≡ d
+-- an input decodes to what its bytes after a beginning of the grammar give
+pub decode-after : {s : List ℕ} {r : Decoding} (b : Beginning) → Begins b → (rest : List ℕ) → s ≡ written b ++ rest
+    → Gives (length s) (reading-of b) rest r → decode s ≡ r
 unfolding decode
-decode-is {s} g = g .runs (length s) (omega arith)
+decode-after {s} b h rest e g =
+    ap (λ (t : List ℕ). records (length s) (length s) start t) e ∙ gives-beginning b h g .runs (length s) (omega (arith, ap length e))

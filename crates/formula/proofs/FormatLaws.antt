@@ -3,12 +3,21 @@ use Prim.Native.Nat.{ℕ, suc, _+_, _≤_, _<_}
 use mathlib.Core.Bool.{Bool, true, false, not, _&&_, _||_, or-assoc, and-eq-true-iff, true≢false}
 use mathlib.Core.List.{List, [], _∷_, _++_, append-assoc}
 use mathlib.Core.Path.{_≡_, refl, sym, ap, _∙_}
+use native.Mathlib.Decide.{ℕ-discrete}
 use native.Mathlib.Omega.{arith}
-use borrow.Author.Tests.{eqb-false, ne-eqb, not-true}
+use borrow.Author.Tests.{ne-eqb, not-true}
 use lib.Dec.{eqb}
 use lib.ListN.{length, length-append}
 use Rattle.lists.proofs.EveryLaws.{every-append}
 use Rattle.formula.specs.Format.{Literal, literal-bytes, literals-bytes, clause-bytes, clauses-bytes, names, distinct, ClauseOver, Sized}
+
+-- the test of equality goes either way
+pub eqb-comm : (a b : ℕ) → eqb a b ≡ eqb b a
+eqb-comm a b = go (ℕ-discrete a b)
+  where
+    go : Dec (a ≡ b) → eqb a b ≡ eqb b a
+    go (yes e) = rw e
+    go (no n) = ne-eqb a b n ∙ sym (ne-eqb b a (λ e. n (sym e)))
 
 -- the literals of two lists are written one list after the other
 pub literals-append : (c d : List Literal) → literals-bytes (c ++ d) ≡ literals-bytes c ++ literals-bytes d
@@ -39,8 +48,7 @@ distinct-more [] l h k = refl
 distinct-more (x ∷ c) l h k =
     let a : (not (names c (x .variable)) ≡ true) × (distinct c ≡ true) = and-eq-true-iff (not (names c (x .variable))) (distinct c) .0 h in
     let b : (eqb (x .variable) (l .variable) ≡ false) × (names c (l .variable) ≡ false) = neither (eqb (x .variable) (l .variable)) (names c (l .variable)) k in
-    let e : eqb (l .variable) (x .variable) ≡ false = ne-eqb (l .variable) (x .variable) (λ q. eqb-false (x .variable) (l .variable) (b .0) (sym q)) in
-    rw (distinct-more c l (a .1) (b .1), names-append c (l ∷ []) (x .variable), not-true (names c (x .variable)) (a .0), e)
+    rw (distinct-more c l (a .1) (b .1), names-append c (l ∷ []) (x .variable), not-true (names c (x .variable)) (a .0), eqb-comm (l .variable) (x .variable), b .0)
 
 -- a variable of a clause with no variable twice is not named before
 pub distinct-fresh : (c : List Literal) (l : Literal) (d : List Literal) → distinct (c ++ (l ∷ d)) ≡ true → names c (l .variable) ≡ false
@@ -51,7 +59,7 @@ distinct-fresh (x ∷ c) l d h =
     let b : (names c (x .variable) ≡ false) × ((eqb (l .variable) (x .variable) || names d (x .variable)) ≡ false) =
         neither (names c (x .variable)) (eqb (l .variable) (x .variable) || names d (x .variable)) (sym (names-append c (l ∷ d) (x .variable)) ∙ not-true _ (a .0)) in
     let e : eqb (l .variable) (x .variable) ≡ false = neither (eqb (l .variable) (x .variable)) (names d (x .variable)) (b .1) .0 in
-    rw (ne-eqb (x .variable) (l .variable) (λ q. eqb-false (l .variable) (x .variable) e (sym q)), distinct-fresh c l d (a .1))
+    rw (eqb-comm (x .variable) (l .variable), e, distinct-fresh c l d (a .1))
 
 -- one more literal, of a variable below n that the clause has not named
 pub clause-more : {n : ℕ} {c : List Literal} (l : Literal) → ClauseOver n c → l .variable < n → names c (l .variable) ≡ false → ClauseOver n (c ++ (l ∷ []))

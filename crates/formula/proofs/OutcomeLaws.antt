@@ -9,10 +9,12 @@ use native.Mathlib.Omega.{arith}
 use lib.ListN.{length, length-append}
 use Rattle.formula.specs.declared.Refusal.{Refusal}
 use Rattle.formula.specs.declared.Refusal.the-variants.{Truncated, UnknownKind, Misplaced, BadVariableCount, NoSuchVariable, RepeatedVariable, TooManyClauses, TrailingByte}
-use Rattle.formula.specs.Format.{Literal, literal-kind, literal-bytes, literals-bytes, formula-bytes, names, Sized, Encodes}
+use Rattle.formula.specs.Format.{Literal, literal-kind, literal-bytes, names, distinct, Sized, Encodes}
+use Rattle.formula.specs.Decode.{Decoding, readable, refused, decode}
 use Rattle.formula.specs.Table.{Beginning, nothing, inside, written, Begins, MayStand, Given, no-kind, kind-unknown, kind-misplaced, no-body, count-bad, variable-unknown, variable-repeated, clause-extra, byte-extra, Refuses}
 use Rattle.formula.proofs.ExtendsLaws.{formula-written, Extends, count, literal, clause-end, extends-begins, extends-written, extends-longer}
-use Rattle.formula.proofs.RefusalLaws.{each-kind}
+use Rattle.formula.proofs.DecodeLaws.{gives-stop, gives-formula, decode-after}
+use Rattle.formula.proofs.RefusalLaws.{each-kind, given-read}
 
 -- what may stand after a beginning: the last record of a formula, a record that is wrong, or one more record of the grammar
 data Front (len : ℕ) : Beginning → List ℕ → Type 0 where
@@ -80,25 +82,35 @@ module _ (len : ℕ) where
       (literal-front n cs c false s (omega arith, omega arith, λ q. absurd (omega arith)) (omega arith)) (clause-front n cs c s (g .0))
       (formula-front n cs c s) (λ k o. fails (UnknownKind _) (kind-unknown k o)) k
 
--- what an input is: the bytes of a formula, or bytes that meet a refusal's 'given if'
-pub data Outcome (s : List ℕ) : Type 0 where
-  formula : (n : ℕ) (cs : List (List Literal)) → Encodes s n cs → Outcome s
-  refusal : (r : Refusal) → Refuses s r → Outcome s
+-- what a result of reading says of the input: it is the bytes of that formula, or meets that refusal's 'given if'
+abbrev pub Means : List ℕ → Decoding → Type 0
+Means s (readable n cs) = Encodes s n cs
+Means s (refused r) = Refuses s r
 
 -- after a beginning of the grammar
-outcome-after : (s : List ℕ) (k : ℕ) (b : Beginning) → Begins b → (rest : List ℕ) → length rest ≤ k → s ≡ written b ++ rest → Outcome s
-outcome-after s zero b g [] l e = refusal (Truncated (length s)) (record { before = b; begins = g; rest = []; bytes = e; given = no-kind })
-outcome-after s zero b g (x ∷ rest) l e = absurd (omega arith)
-outcome-after s (suc k) b g rest l e = go (outcome-after s k) b g rest l e (front (length s) b g rest)
+means-after : (s : List ℕ) (k : ℕ) (b : Beginning) → Begins b → (rest : List ℕ) → length rest ≤ k → s ≡ written b ++ rest → (d : Decoding) × Means s d
+means-after s zero b g [] l e = (refused (Truncated (length s)), record { before = b; begins = g; rest = []; bytes = e; given = no-kind })
+means-after s zero b g (x ∷ rest) l e = absurd (omega arith)
+means-after s (suc k) b g rest l e = go (means-after s k) b g rest l e (front (length s) b g rest)
   where
-    go : ((b : Beginning) → Begins b → (rest : List ℕ) → length rest ≤ k → s ≡ written b ++ rest → Outcome s) → (b : Beginning) → Begins b
-        → (rest : List ℕ) → length rest ≤ suc k → s ≡ written b ++ rest → Front (length s) b rest → Outcome s
-    go again b g rest l e (ends {n} {cs}) = formula n cs (record { bytes = e ∙ formula-written n cs; sized = g .0 })
-    go again b g rest l e (fails r w) = refusal r (record { before = b; begins = g; rest = rest; bytes = e; given = w })
+    go : ((b : Beginning) → Begins b → (rest : List ℕ) → length rest ≤ k → s ≡ written b ++ rest → (d : Decoding) × Means s d) → (b : Beginning)
+        → Begins b → (rest : List ℕ) → length rest ≤ suc k → s ≡ written b ++ rest → Front (length s) b rest → (d : Decoding) × Means s d
+    go again b g rest l e (ends {n} {cs}) = (readable n cs, record { bytes = e ∙ formula-written n cs; sized = g .0 })
+    go again b g rest l e (fails r w) = (refused r, record { before = b; begins = g; rest = rest; bytes = e; given = w })
     go again b g rest l e (continues {b′ = b′} {x = x} t w q) =
         again b′ (extends-begins w g) t (omega (arith, extends-longer w, ap length q ∙ length-append x t))
         (e ∙ rw (q, extends-written w, append-assoc))
 
--- every input has an outcome
-pub outcome : (s : List ℕ) → Outcome s
-outcome s = outcome-after s (length s) nothing tt s (omega arith) refl
+-- a result that says what the input is, is the one that reading gives
+pub decode-gives : (s : List ℕ) (d : Decoding) → Means s d → decode s ≡ d
+unfolding distinct
+decode-gives s (readable n cs) e =
+    decode-after (inside n cs []) (e .sized, record { below = tt; once = refl }) (5 ∷ []) (e .bytes ∙ sym (formula-written n cs)) (gives-formula (length s) n cs)
+decode-gives s (refused r) e =
+    decode-after (e .before) (e .begins) (e .rest) (e .bytes) (gives-stop (given-read (length s) (e .given) refl))
+
+-- what reading gives says what the input is
+pub decode-means : (s : List ℕ) → Means s (decode s)
+decode-means s =
+    let w : (d : Decoding) × Means s d = means-after s (length s) nothing tt s (omega arith) refl in
+    rw (decode-gives s (w .0) (w .1)) (w .1)

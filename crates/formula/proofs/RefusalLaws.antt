@@ -12,6 +12,7 @@ use Rattle.formula.specs.declared.Refusal.{Refusal}
 use Rattle.formula.specs.declared.Refusal.the-variants.{Truncated, UnknownKind, Misplaced, BadVariableCount, NoSuchVariable, RepeatedVariable, TooManyClauses, TrailingByte}
 use Rattle.formula.specs.Format.{Literal, literal-kind, names}
 use Rattle.formula.specs.Decode.{Reading, start, Step, refuse, read-record}
+use Rattle.formula.specs.Refusals.{listing}
 use Rattle.formula.specs.Table.{Beginning, nothing, inside, written, MayStand, Given, no-kind, kind-unknown, kind-misplaced, no-body, count-bad, variable-unknown, variable-repeated, clause-extra, byte-extra}
 use Rattle.formula.proofs.DecodeLaws.{reading-of, reading-at}
 
@@ -100,3 +101,15 @@ module _ (len : ℕ) where
   given-read (clause-extra {n} {c} {s} cs h) e =
       rw (e, lt-ltb 0 (length (written (inside n cs c))) (omega arith), le-ltb (length cs) 96 (omega arith))
   given-read (byte-extra {n} {cs} x s) e = rw (e, lt-ltb 0 (length (written (inside n cs []))) (omega arith))
+
+-- a refusal of the reader has a number from 2 to 9
+pub given-number : {len at : ℕ} {b : Beginning} {s : List ℕ} {r : Refusal} → Given len at b s r → (2 ≤ listing r .number) × (listing r .number ≤ 9)
+given-number no-kind = omega arith
+given-number (kind-unknown k h) = omega arith
+given-number (kind-misplaced k h l m) = omega arith
+given-number (no-body k m l) = omega arith
+given-number (count-bad n h) = omega arith
+given-number (variable-unknown n sign v h) = omega arith
+given-number (variable-repeated n sign v h l k) = omega arith
+given-number (clause-extra cs h) = omega arith
+given-number (byte-extra x s) = omega arith
