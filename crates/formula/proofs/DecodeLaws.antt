@@ -1,17 +1,16 @@
 -- What the reader makes of a beginning of the grammar, and of a record that is wrong.
 use Prim.Native.Nat.{ℕ, zero, suc, _+_, _-_, _≤_, _<_}
-use mathlib.Core.Bool.{Bool, true, false, cond}
+use mathlib.Core.Bool.{Bool, true, false}
 use mathlib.Core.List.{List, [], _∷_, _++_, append-assoc, append-nil}
-use mathlib.Core.Path.{_≡_, refl, sym, ap, _∙_}
+use mathlib.Core.Path.{_≡_, refl, ap, _∙_}
 use native.Mathlib.Omega.{arith}
 use borrow.Author.Tests.{lt-ltb, le-leb}
 use lib.ListN.{length, length-append}
 use lib.Seq.{append-snoc}
 use Rattle.lists.specs.Every.{Every}
-use Rattle.formula.specs.declared.Refusal.{Refusal}
-use Rattle.formula.specs.Format.{Literal, literal-kind, literal-bytes, literals-bytes, clause-bytes, clauses-bytes, names, distinct, ClauseOver, Sized}
-use Rattle.formula.specs.Decode.{Decoding, readable, refused, Reading, start, Step, next, stop, refuse, read-record, records, decode}
-use Rattle.formula.specs.Table.{Beginning, nothing, inside, written, Begins, Given}
+use Rattle.formula.specs.Format.{Literal, literal-kind, literal-bytes, literals-bytes, clause-bytes, clauses-bytes, names, distinct, ClauseOver}
+use Rattle.formula.specs.Decode.{Decoding, readable, Reading, start, next, stop, read-record, records, decode}
+use Rattle.formula.specs.Table.{Beginning, nothing, inside, written, Begins}
 use Rattle.formula.proofs.ExtendsLaws.{Extends, count, literal, clause-end, extends-length, extends-longer}
 use Rattle.formula.proofs.FormatLaws.{distinct-fresh}
 

@@ -1,13 +1,11 @@
 -- One record more: how a beginning of the grammar grows, and what the reader makes of that record.
-use Prim.Native.Nat.{ℕ, suc, _+_, _-_, _≤_, _<_}
-use mathlib.Core.Bool.{Bool, true, false, cond}
+use Prim.Native.Nat.{ℕ, _+_, _≤_, _<_}
+use mathlib.Core.Bool.{false}
 use mathlib.Core.List.{List, [], _∷_, _++_, append-assoc, append-nil}
-use mathlib.Core.Path.{_≡_, refl, sym, ap, _∙_}
+use mathlib.Core.Path.{_≡_, refl, ap, _∙_}
 use native.Mathlib.Omega.{arith}
-use borrow.Author.Tests.{lt-ltb, le-leb}
 use lib.ListN.{length, length-append}
-use Rattle.formula.specs.Format.{Literal, literal-kind, literal-bytes, literals-bytes, clause-bytes, clauses-bytes, formula-bytes, names, distinct, ClauseOver, Sized}
-use Rattle.formula.specs.Decode.{Decoding, Reading, Step, next, stop, read-record, records}
+use Rattle.formula.specs.Format.{Literal, literal-bytes, literals-bytes, clause-bytes, clauses-bytes, formula-bytes, names, distinct}
 use Rattle.formula.specs.Table.{Beginning, nothing, inside, written, Begins}
 use Rattle.formula.proofs.FormatLaws.{literals-append, clauses-append, clause-more, sized-more}
 

@@ -1,15 +1,15 @@
 -- Laws of the grammar: one more literal, one more clause.
-use Prim.Native.Nat.{ℕ, suc, _+_, _≤_, _<_}
-use mathlib.Core.Bool.{Bool, true, false, not, _&&_, _||_, or-assoc, and-eq-true-iff, true≢false}
+use Prim.Native.Nat.{ℕ, _<_}
+use mathlib.Core.Bool.{Bool, true, false, not, _||_, or-assoc, and-eq-true-iff, true≢false}
 use mathlib.Core.List.{List, [], _∷_, _++_, append-assoc}
-use mathlib.Core.Path.{_≡_, refl, sym, ap, _∙_}
+use mathlib.Core.Path.{_≡_, refl, sym, _∙_}
 use native.Mathlib.Decide.{ℕ-discrete}
 use native.Mathlib.Omega.{arith}
 use borrow.Author.Tests.{ne-eqb, not-true}
 use lib.Dec.{eqb}
 use lib.ListN.{length, length-append}
 use Rattle.lists.proofs.EveryLaws.{every-append}
-use Rattle.formula.specs.Format.{Literal, literal-bytes, literals-bytes, clause-bytes, clauses-bytes, names, distinct, ClauseOver, Sized}
+use Rattle.formula.specs.Format.{Literal, literals-bytes, clauses-bytes, names, distinct, ClauseOver, Sized}
 
 -- the test of equality goes either way
 pub eqb-comm : (a b : ℕ) → eqb a b ≡ eqb b a

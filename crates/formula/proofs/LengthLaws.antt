@@ -1,10 +1,10 @@
 -- The length of an encoded formula, and the longest one.
 use Prim.Native.Nat.{ℕ, zero, suc, _+_, _*_, _≤_, _<_}
-use mathlib.Core.Bool.{Bool, true, false, not, _&&_, _||_, and-eq-true-iff, or-comm}
-use mathlib.Core.List.{List, [], _∷_, _++_}
-use mathlib.Core.Path.{_≡_, refl, sym, ap, _∙_}
+use mathlib.Core.Bool.{true, false, not, and-eq-true-iff, or-comm}
+use mathlib.Core.List.{List, [], _∷_}
+use mathlib.Core.Path.{_≡_, refl, ap, _∙_}
 use native.Mathlib.Omega.{arith}
-use borrow.Author.Tests.{not-true, ne-eqb, eqb-true}
+use borrow.Author.Tests.{not-true, ne-eqb}
 use lib.Dec.{eqb}
 use lib.ListN.{length, length-append, replicate, length-replicate}
 use Rattle.lists.specs.Every.{Every}

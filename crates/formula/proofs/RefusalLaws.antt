@@ -1,17 +1,17 @@
 -- What the reader makes of a record that is wrong.
-use Prim.Native.Nat.{ℕ, zero, suc, _+_, _-_, _≤_, _<_}
-use mathlib.Core.Bool.{Bool, true, false, cond, _&&_, and-false}
-use mathlib.Core.List.{List, [], _∷_, _++_}
+use Prim.Native.Nat.{ℕ, zero, suc, _-_, _≤_, _<_}
+use mathlib.Core.Bool.{Bool, true, false, _&&_, and-false}
+use mathlib.Core.List.{List, [], _∷_}
 use mathlib.Core.Logic.{_⊎_, inl, inr}
-use mathlib.Core.Path.{_≡_, refl, sym, ap, _∙_}
+use mathlib.Core.Path.{_≡_, refl, ap}
 use native.Mathlib.Omega.{arith}
 use borrow.Author.Tests.{lt-ltb, le-ltb, le-leb, lt-leb, ne-eqb}
 use lib.Dec.{ltb, leb}
 use lib.ListN.{length}
 use Rattle.formula.specs.declared.Refusal.{Refusal}
-use Rattle.formula.specs.declared.Refusal.the-variants.{Truncated, UnknownKind, Misplaced, BadVariableCount, NoSuchVariable, RepeatedVariable, TooManyClauses, TrailingByte}
+use Rattle.formula.specs.declared.Refusal.the-variants.{Truncated, UnknownKind, Misplaced, NoSuchVariable, RepeatedVariable}
 use Rattle.formula.specs.Format.{Literal, literal-kind, names}
-use Rattle.formula.specs.Decode.{Reading, start, Step, refuse, read-record}
+use Rattle.formula.specs.Decode.{Reading, start, refuse, read-record}
 use Rattle.formula.specs.Refusals.{listing}
 use Rattle.formula.specs.Table.{Beginning, nothing, inside, written, MayStand, Given, no-kind, kind-unknown, kind-misplaced, no-body, count-bad, variable-unknown, variable-repeated, clause-extra, byte-extra}
 use Rattle.formula.proofs.DecodeLaws.{reading-of, reading-at}
@@ -31,13 +31,13 @@ each-kind P p₁ p₂ p₃ p₄ p₅ p (suc (suc (suc (suc zero)))) = p₄
 each-kind P p₁ p₂ p₃ p₄ p₅ p (suc (suc (suc (suc (suc zero))))) = p₅
 each-kind P p₁ p₂ p₃ p₄ p₅ p (suc (suc (suc (suc (suc (suc k)))))) = p _ (inr (omega arith))
 
--- a number outside 1 to 5 is within them
+-- no number is outside 1 to 5 and within
 no-kind-there : {A : Type 0} (k : ℕ) → (k < 1) ⊎ (5 < k) → 1 ≤ k → k ≤ 5 → A
 no-kind-there k (inl o) h l = absurd (omega arith)
 no-kind-there k (inr o) h l = absurd (omega arith)
 
 module _ (len : ℕ) where
-  -- 3
+  -- 3: a kind byte that is not 1 to 5
   unknown-read : (r : Reading) (k : ℕ) (s : List ℕ) → (k < 1) ⊎ (5 < k) → read-record len r (k ∷ s) ≡ refuse (UnknownKind (r .at))
   unfolding read-record
   unknown-read r k s (inl h) = let e : k ≡ 0 = omega arith in ap (λ (j : ℕ). read-record len r (j ∷ s)) e
@@ -45,7 +45,7 @@ module _ (len : ℕ) where
       let e : k ≡ suc (suc (suc (suc (suc (suc (k - 6)))))) = omega arith in
       ap (λ (j : ℕ). read-record len r (j ∷ s)) e
 
-  -- 4
+  -- 4: a kind that may not stand here
   misplaced-read : (b : Beginning) (k : ℕ) (s : List ℕ) → 1 ≤ k → k ≤ 5 → (MayStand b k → ⊥)
       → read-record len (reading-of b) (k ∷ s) ≡ refuse (Misplaced (length (written b)))
   unfolding read-record
@@ -64,7 +64,7 @@ module _ (len : ℕ) where
       last [] m = absurd (m refl)
       last (l ∷ d) m = rw (and-false (ltb 0 (length (written (inside n cs (l ∷ d))))))
 
-  -- 2
+  -- 2: a kind that has a body, and no byte after it
   body-read : (b : Beginning) (k : ℕ) → MayStand b k → k ≤ 3 → read-record len (reading-of b) (k ∷ []) ≡ refuse (Truncated len)
   unfolding read-record
   body-read nothing k m l = rw m
@@ -73,14 +73,14 @@ module _ (len : ℕ) where
       (λ h l. rw (lt-ltb 0 (length (written (inside n cs c))) (omega arith))) (λ h l. rw (lt-ltb 0 (length (written (inside n cs c))) (omega arith)))
       (λ h l. absurd (omega arith)) (λ h l. absurd (omega arith)) (λ k o h l. no-kind-there k o (omega arith) (omega arith)) k (m .0) l
 
-  -- 6
+  -- 6: a variable that is 0 or above the number of variables
   variable-read : (r : Reading) (sign : Bool) (v : ℕ) (s : List ℕ) → 0 < r .at → (v < 1) ⊎ (r .variables < v)
       → read-record len r (literal-kind sign ∷ v ∷ s) ≡ refuse (NoSuchVariable (r .at))
   unfolding read-record
   variable-read r true v s h o = rw (lt-ltb 0 (r .at) h, outside (r .variables) v o)
   variable-read r false v s h o = rw (lt-ltb 0 (r .at) h, outside (r .variables) v o)
 
-  -- 7
+  -- 7: a variable that the clause has named
   repeated-read : (r : Reading) (sign : Bool) (v : ℕ) (s : List ℕ) → 0 < r .at → 1 ≤ v → v ≤ r .variables → names (r .current) (v - 1) ≡ true
       → read-record len r (literal-kind sign ∷ v ∷ s) ≡ refuse (RepeatedVariable (r .at))
   unfolding read-record
