@@ -1,4 +1,4 @@
--- What the reader makes of a beginning of the grammar, and of a record that is wrong.
+-- What the reader makes of a beginning of the grammar.
 use Prim.Native.Nat.{ℕ, zero, suc, _+_, _-_, _≤_, _<_}
 use mathlib.Core.Bool.{Bool, true, false}
 use mathlib.Core.List.{List, [], _∷_, _++_, append-assoc, append-nil}
@@ -27,7 +27,7 @@ reading-at (inside n cs c) = refl
 -- a literal of a variable below the number of variables that the clause has not named
 read-literal : (len : ℕ) (r : Reading) (v : ℕ) (sign : Bool) (s : List ℕ) → 0 < r .at → v < r .variables → names (r .current) v ≡ false
     → read-record len r (literal-kind sign ∷ (v + 1) ∷ s)
-      ≡ next (record { at = r .at + 2; variables = r .variables; ended = r .ended; current = r .current ++ (record { variable = v; positive = sign } ∷ []) }) s
+    ≡ next (record { at = r .at + 2; variables = r .variables; ended = r .ended; current = r .current ++ (record { variable = v; positive = sign } ∷ []) }) s
 unfolding read-record
 read-literal len r v true s h k f =
     let e : v + 1 - 1 ≡ v = omega arith in
@@ -37,7 +37,7 @@ read-literal len r v false s h k f =
     rw (lt-ltb 0 (r .at) h, lt-ltb 0 (v + 1) (omega arith), le-leb (v + 1) (r .variables) (omega arith), e, f)
 
 -- the reader takes a record of the grammar, and stands after the next beginning
-pub extends-read : {b b′ : Beginning} {x : List ℕ} (len : ℕ) (s : List ℕ) → Extends b x b′ → read-record len (reading-of b) (x ++ s) ≡ next (reading-of b′) s
+extends-read : {b b′ : Beginning} {x : List ℕ} (len : ℕ) (s : List ℕ) → Extends b x b′ → read-record len (reading-of b) (x ++ s) ≡ next (reading-of b′) s
 unfolding read-record literal-bytes clauses-bytes literals-bytes
 extends-read len s (count n h k) = rw (lt-ltb 0 n h, le-leb n 48 k)
 extends-read len s (literal {n} {cs} {c} l h k) =
@@ -62,7 +62,7 @@ gives-stop {len} {r} {s} {d} e = record { runs = go s e }
     go t q (suc k) h = rw (q, records)
 
 -- a record that the reader takes gives what the bytes after it give
-pub gives-next : {len : ℕ} {r r′ : Reading} {s s′ : List ℕ} {d : Decoding} → read-record len r s ≡ next r′ s′ → length s′ < length s
+gives-next : {len : ℕ} {r r′ : Reading} {s s′ : List ℕ} {d : Decoding} → read-record len r s ≡ next r′ s′ → length s′ < length s
     → Gives len r′ s′ d → Gives len r s d
 unfolding records
 gives-next {len} {r} {r′} {s} {s′} {d} e l g = record { runs = go }
@@ -72,13 +72,13 @@ gives-next {len} {r} {r′} {s} {s′} {d} e l g = record { runs = go }
     go (suc k) h = rw (e, records) (g .runs k (omega arith))
 
 -- what the bytes after a record of the grammar give, the record and they give
-pub gives-record : {len : ℕ} {b b′ : Beginning} {x : List ℕ} {s : List ℕ} {d : Decoding} → Extends b x b′ → Gives len (reading-of b′) s d
+gives-record : {len : ℕ} {b b′ : Beginning} {x : List ℕ} {s : List ℕ} {d : Decoding} → Extends b x b′ → Gives len (reading-of b′) s d
     → Gives len (reading-of b) (x ++ s) d
 gives-record {len} {x = x} {s = s} e g =
     gives-next (extends-read len s e) (simp length-append (omega (arith, extends-longer e))) g
 
 -- what follows the literals d of a clause that has c gives, the literals and it give
-pub gives-literals : {len n : ℕ} {cs : List (List Literal)} {s : List ℕ} {r : Decoding} (c d : List Literal) → Every (λ l. l .variable < n) d
+gives-literals : {len n : ℕ} {cs : List (List Literal)} {s : List ℕ} {r : Decoding} (c d : List Literal) → Every (λ l. l .variable < n) d
     → distinct (c ++ d) ≡ true → Gives len (reading-of (inside n cs (c ++ d))) s r → Gives len (reading-of (inside n cs c)) (literals-bytes d ++ s) r
 unfolding literals-bytes
 gives-literals c [] h o g = rw append-nil at g
@@ -87,7 +87,7 @@ gives-literals {n = n} {cs = cs} c (l ∷ d) h o g =
     rw append-assoc (gives-record x (gives-literals (c ++ (l ∷ [])) d (h .1) (rw append-snoc o) (rw append-snoc g)))
 
 -- and so for whole clauses
-pub gives-clauses : {len n : ℕ} {s : List ℕ} {r : Decoding} (cs ds : List (List Literal)) → Every (ClauseOver n) ds → length (cs ++ ds) ≤ 96
+gives-clauses : {len n : ℕ} {s : List ℕ} {r : Decoding} (cs ds : List (List Literal)) → Every (ClauseOver n) ds → length (cs ++ ds) ≤ 96
     → Gives len (reading-of (inside n (cs ++ ds) [])) s r → Gives len (reading-of (inside n cs [])) (clauses-bytes ds ++ s) r
 unfolding clauses-bytes clause-bytes
 gives-clauses cs [] h l g = rw append-nil at g
@@ -98,7 +98,7 @@ gives-clauses {n = n} cs (c ∷ ds) h l g =
     (gives-literals [] c (h .0 .below) (h .0 .once) (gives-record x (gives-clauses (cs ++ (c ∷ [])) ds (h .1) (rw append-snoc l) (rw append-snoc g))))
 
 -- what follows a beginning of the grammar gives, the beginning and it give
-pub gives-beginning : {len : ℕ} {s : List ℕ} {r : Decoding} (b : Beginning) → Begins b → Gives len (reading-of b) s r → Gives len start (written b ++ s) r
+gives-beginning : {len : ℕ} {s : List ℕ} {r : Decoding} (b : Beginning) → Begins b → Gives len (reading-of b) s r → Gives len start (written b ++ s) r
 gives-beginning nothing h g = g
 gives-beginning (inside n cs c) h g =
     simp append-assoc

@@ -1,4 +1,4 @@
--- One record more: how a beginning of the grammar grows, and what the reader makes of that record.
+-- One record more: how a beginning of the grammar grows.
 use Prim.Native.Nat.{ℕ, _+_, _≤_, _<_}
 use mathlib.Core.Bool.{false}
 use mathlib.Core.List.{List, [], _∷_, _++_, append-assoc, append-nil}

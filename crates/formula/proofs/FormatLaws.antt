@@ -41,25 +41,31 @@ neither : (a b : Bool) → (a || b) ≡ false → (a ≡ false) × (b ≡ false)
 neither true b e = absurd (true≢false e)
 neither false b e = (refl, e)
 
--- a clause with no variable twice, and one more variable, has no variable twice
+-- in a clause with no variable twice the first variable is not named again, and the rest has none twice
+pub distinct-rest : (l : Literal) (c : List Literal) → distinct (l ∷ c) ≡ true → (names c (l .variable) ≡ false) × (distinct c ≡ true)
+unfolding distinct
+distinct-rest l c h =
+    let a : (not (names c (l .variable)) ≡ true) × (distinct c ≡ true) = and-eq-true-iff (not (names c (l .variable))) (distinct c) .0 h in
+    (not-true (names c (l .variable)) (a .0), a .1)
+
+-- a clause with no variable twice, and one more variable, has none twice
 pub distinct-more : (c : List Literal) (l : Literal) → distinct c ≡ true → names c (l .variable) ≡ false → distinct (c ++ (l ∷ [])) ≡ true
 unfolding distinct names
 distinct-more [] l h k = refl
 distinct-more (x ∷ c) l h k =
-    let a : (not (names c (x .variable)) ≡ true) × (distinct c ≡ true) = and-eq-true-iff (not (names c (x .variable))) (distinct c) .0 h in
-    let b : (eqb (x .variable) (l .variable) ≡ false) × (names c (l .variable) ≡ false) = neither (eqb (x .variable) (l .variable)) (names c (l .variable)) k in
-    rw (distinct-more c l (a .1) (b .1), names-append c (l ∷ []) (x .variable), not-true (names c (x .variable)) (a .0), eqb-comm (l .variable) (x .variable), b .0)
+    let a = distinct-rest x c h in
+    let b = neither (eqb (x .variable) (l .variable)) (names c (l .variable)) k in
+    rw (distinct-more c l (a .1) (b .1), names-append c (l ∷ []) (x .variable), a .0, eqb-comm (l .variable) (x .variable), b .0)
 
--- a variable of a clause with no variable twice is not named before
+-- in a clause with no variable twice a variable is not named before its literal
 pub distinct-fresh : (c : List Literal) (l : Literal) (d : List Literal) → distinct (c ++ (l ∷ d)) ≡ true → names c (l .variable) ≡ false
-unfolding distinct names
+unfolding names
 distinct-fresh [] l d h = refl
 distinct-fresh (x ∷ c) l d h =
-    let a : (not (names (c ++ (l ∷ d)) (x .variable)) ≡ true) × (distinct (c ++ (l ∷ d)) ≡ true) = and-eq-true-iff (not (names (c ++ (l ∷ d)) (x .variable))) (distinct (c ++ (l ∷ d))) .0 h in
-    let b : (names c (x .variable) ≡ false) × ((eqb (l .variable) (x .variable) || names d (x .variable)) ≡ false) =
-        neither (names c (x .variable)) (eqb (l .variable) (x .variable) || names d (x .variable)) (sym (names-append c (l ∷ d) (x .variable)) ∙ not-true _ (a .0)) in
-    let e : eqb (l .variable) (x .variable) ≡ false = neither (eqb (l .variable) (x .variable)) (names d (x .variable)) (b .1) .0 in
-    rw (eqb-comm (x .variable) (l .variable), e, distinct-fresh c l d (a .1))
+    let a = distinct-rest x (c ++ (l ∷ d)) h in
+    let b = neither (names c (x .variable)) (eqb (l .variable) (x .variable) || names d (x .variable)) (sym (names-append c (l ∷ d) (x .variable)) ∙ a .0) in
+    let e = neither (eqb (l .variable) (x .variable)) (names d (x .variable)) (b .1) in
+    rw (eqb-comm (x .variable) (l .variable), e .0, distinct-fresh c l d (a .1))
 
 -- one more literal, of a variable below n that the clause has not named
 pub clause-more : {n : ℕ} {c : List Literal} (l : Literal) → ClauseOver n c → l .variable < n → names c (l .variable) ≡ false → ClauseOver n (c ++ (l ∷ []))

@@ -1,10 +1,10 @@
 -- The length of an encoded formula, and the longest one.
 use Prim.Native.Nat.{ℕ, zero, suc, _+_, _*_, _≤_, _<_}
-use mathlib.Core.Bool.{true, false, not, and-eq-true-iff, or-comm}
+use mathlib.Core.Bool.{true, false, or-comm}
 use mathlib.Core.List.{List, [], _∷_}
 use mathlib.Core.Path.{_≡_, refl, ap, _∙_}
 use native.Mathlib.Omega.{arith}
-use borrow.Author.Tests.{not-true, ne-eqb}
+use borrow.Author.Tests.{ne-eqb}
 use lib.Dec.{eqb}
 use lib.ListN.{length, length-append, replicate, length-replicate}
 use Rattle.lists.specs.Every.{Every}
@@ -14,7 +14,7 @@ use Rattle.masks.proofs.BitLaws.{bit-none, bit-with}
 use Rattle.masks.proofs.MembersLaws.{members-le}
 use Rattle.masks.proofs.SizeLaws.{with-count, size-none}
 use Rattle.formula.specs.Format.{Literal, literal-bytes, literals-bytes, clause-bytes, clauses-bytes, formula-bytes, names, distinct, ClauseOver, Encodes}
-use Rattle.formula.proofs.FormatLaws.{eqb-comm}
+use Rattle.formula.proofs.FormatLaws.{eqb-comm, distinct-rest}
 
 -- the variables of a clause as a mask
 variables-of : List Literal → ℕ
@@ -29,11 +29,11 @@ variables-bit (l ∷ c) v = bit-with (variables-of c) (l .variable) v ∙ rw (va
 
 -- a clause over n variables with none twice has a literal for each member
 variables-count : (n : ℕ) (c : List Literal) → Every (λ l. l .variable < n) c → distinct c ≡ true → length (members (variables-of c) n) ≡ length c
-unfolding variables-of distinct
+unfolding variables-of
 variables-count n [] h o = size-none n
 variables-count n (l ∷ c) h o =
-    let a : (not (names c (l .variable)) ≡ true) × (distinct c ≡ true) = and-eq-true-iff (not (names c (l .variable))) (distinct c) .0 o in
-    with-count (variables-of c) (l .variable) n (variables-bit c (l .variable) ∙ not-true _ (a .0)) (h .0) ∙ ap suc (variables-count n c (h .1) (a .1))
+    let a = distinct-rest l c o in
+    with-count (variables-of c) (l .variable) n (variables-bit c (l .variable) ∙ a .0) (h .0) ∙ ap suc (variables-count n c (h .1) (a .1))
 
 -- so it has n literals at most
 pub clause-le : {n : ℕ} {c : List Literal} → ClauseOver n c → length c ≤ n
@@ -101,9 +101,13 @@ all-true-clauses : (k : ℕ) → length (clauses-bytes (replicate k (all-true 48
 unfolding clauses-bytes
 all-true-clauses zero = refl
 all-true-clauses (suc k) =
-    omega
-    (arith, length-append (clause-bytes (all-true 48)) (clauses-bytes (replicate k (all-true 48))), clause-length (all-true 48), all-true-length 48,
-      all-true-clauses k)
+    omega (
+      arith,
+      length-append (clause-bytes (all-true 48)) (clauses-bytes (replicate k (all-true 48))),
+      clause-length (all-true 48),
+      all-true-length 48,
+      all-true-clauses k,
+    )
 
 -- they have 9315 bytes
 pub fullest-length : length (formula-bytes 48 fullest) ≡ 9315
@@ -117,10 +121,10 @@ fullest-encoded =
     record {
       bytes = refl;
       sized =
-        record {
-          some = omega arith;
-          most = omega arith;
-          few = omega (arith, length-replicate 96 (all-true 48));
-          clauses = every-replicate (ClauseOver 48) 96 (all-true 48) (record { below = all-true-below 48 48 (omega arith); once = all-true-once 48 });
-        };
+          record {
+            some = omega arith;
+            most = omega arith;
+            few = omega (arith, length-replicate 96 (all-true 48));
+            clauses = every-replicate (ClauseOver 48) 96 (all-true 48) (record { below = all-true-below 48 48 (omega arith); once = all-true-once 48 });
+          };
     }

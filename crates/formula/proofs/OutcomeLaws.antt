@@ -14,7 +14,7 @@ use Rattle.formula.specs.Decode.{Decoding, readable, refused, decode}
 use Rattle.formula.specs.Table.{Beginning, nothing, inside, written, Begins, MayStand, Given, no-kind, kind-unknown, kind-misplaced, no-body, count-bad, variable-unknown, variable-repeated, clause-extra, byte-extra, Refuses}
 use Rattle.formula.proofs.ExtendsLaws.{formula-written, Extends, count, literal, clause-end, extends-begins, extends-written, extends-longer}
 use Rattle.formula.proofs.DecodeLaws.{gives-stop, gives-formula, decode-after}
-use Rattle.formula.proofs.RefusalLaws.{each-kind, given-read}
+use Rattle.formula.proofs.RefusalLaws.{each-kind, inner-stands, given-read}
 
 -- what may stand after a beginning: the last record of a formula, a record that is wrong, or one more record of the grammar
 data Front (len : ℕ) : Beginning → List ℕ → Type 0 where
@@ -50,9 +50,8 @@ module _ (len : ℕ) where
       go h k true e = fails (RepeatedVariable _) (variable-repeated n sign v h k e)
       go h k false e =
           let q : v - 1 + 1 ≡ v = omega arith in
-          let x : Extends (inside n cs c) (literal-bytes (record { variable = v - 1; positive = sign })) (inside n cs (c ++ (record { variable = v - 1; positive = sign } ∷ []))) =
-              literal {n = n} (record { variable = v - 1; positive = sign }) (omega arith) e in
-          continues {s = literal-kind sign ∷ v ∷ s} s x (rw q)
+          let l : Literal = record { variable = v - 1; positive = sign } in
+          continues {s = literal-kind sign ∷ v ∷ s} s (literal {n = n} {cs = cs} {c = c} l (omega arith) e) (rw q)
 
   -- kind 4
   clause-front : (n : ℕ) (cs : List (List Literal)) (c : List Literal) (s : List ℕ) → Sized n cs → Front len (inside n cs c) (4 ∷ s)
@@ -68,6 +67,7 @@ module _ (len : ℕ) where
   formula-front n cs [] (x ∷ s) = fails (TrailingByte _) (byte-extra x s)
   formula-front n cs (l ∷ c) s = fails (Misplaced _) (kind-misplaced {b = inside n cs (l ∷ c)} 5 (omega arith) (omega arith) (λ m. omega (arith, ap length (m .2 refl))))
 
+  -- a beginning of the grammar is followed by one of the three
   front : (b : Beginning) → Begins b → (s : List ℕ) → Front len b s
   front b g [] = fails (Truncated len) no-kind
   front nothing g (k ∷ s) =
@@ -78,8 +78,8 @@ module _ (len : ℕ) where
       misplaced k h = fails (Misplaced 0) (kind-misplaced {b = nothing} k (omega arith) (omega arith) (λ m. omega arith))
   front (inside n cs c) g (k ∷ s) =
       each-kind (λ k. Front len (inside n cs c) (k ∷ s)) (fails (Misplaced _) (kind-misplaced 1 (omega arith) (omega arith) (λ (m : MayStand (inside n cs c) 1). omega arith)))
-      (literal-front n cs c true s (omega arith, omega arith, λ q. absurd (omega arith)) (omega arith))
-      (literal-front n cs c false s (omega arith, omega arith, λ q. absurd (omega arith)) (omega arith)) (clause-front n cs c s (g .0))
+      (literal-front n cs c true s (inner-stands n cs c 2 (omega arith) (omega arith)) (omega arith))
+      (literal-front n cs c false s (inner-stands n cs c 3 (omega arith) (omega arith)) (omega arith)) (clause-front n cs c s (g .0))
       (formula-front n cs c s) (λ k o. fails (UnknownKind _) (kind-unknown k o)) k
 
 -- what a result of reading says of the input: it is the bytes of that formula, or meets that refusal's 'given if'
@@ -87,7 +87,7 @@ abbrev pub Means : List ℕ → Decoding → Type 0
 Means s (readable n cs) = Encodes s n cs
 Means s (refused r) = Refuses s r
 
--- after a beginning of the grammar
+-- some result says what the input is, after a beginning of the grammar
 means-after : (s : List ℕ) (k : ℕ) (b : Beginning) → Begins b → (rest : List ℕ) → length rest ≤ k → s ≡ written b ++ rest → (d : Decoding) × Means s d
 means-after s zero b g [] l e = (refused (Truncated (length s)), record { before = b; begins = g; rest = []; bytes = e; given = no-kind })
 means-after s zero b g (x ∷ rest) l e = absurd (omega arith)

@@ -32,7 +32,7 @@ refused-all s r = decode-gives s (refused r)
 pub longest : (s : List ℕ) (n : ℕ) (cs : List (List Literal)) → decode s ≡ readable n cs → length s ≤ 9315
 longest s n cs e = formula-le (accepted-only s n cs e)
 
--- and one has so many
+-- 'the longest readable sheet has 9,315 bytes': one has so many
 pub longest-exists : (s : List ℕ) × (cs : List (List Literal)) × (length s ≡ 9315) × (decode s ≡ readable 48 cs)
 longest-exists = (formula-bytes 48 fullest, fullest, fullest-length, accepted-all (formula-bytes 48 fullest) 48 fullest fullest-encoded)
 

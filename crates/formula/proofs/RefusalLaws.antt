@@ -32,9 +32,13 @@ each-kind P p₁ p₂ p₃ p₄ p₅ p (suc (suc (suc (suc (suc zero))))) = p₅
 each-kind P p₁ p₂ p₃ p₄ p₅ p (suc (suc (suc (suc (suc (suc k)))))) = p _ (inr (omega arith))
 
 -- no number is outside 1 to 5 and within
-no-kind-there : {A : Type 0} (k : ℕ) → (k < 1) ⊎ (5 < k) → 1 ≤ k → k ≤ 5 → A
-no-kind-there k (inl o) h l = absurd (omega arith)
-no-kind-there k (inr o) h l = absurd (omega arith)
+not-both : {A : Type 0} (k : ℕ) → (k < 1) ⊎ (5 < k) → 1 ≤ k → k ≤ 5 → A
+not-both k (inl o) h l = absurd (omega arith)
+not-both k (inr o) h l = absurd (omega arith)
+
+-- kinds 2 to 4 may stand after kind 1
+pub inner-stands : (n : ℕ) (cs : List (List Literal)) (c : List Literal) (k : ℕ) → 2 ≤ k → k ≤ 4 → MayStand (inside n cs c) k
+inner-stands n cs c k h l = (h, omega arith, λ q. absurd (omega arith))
 
 module _ (len : ℕ) where
   -- 3: a kind byte that is not 1 to 5
@@ -51,14 +55,14 @@ module _ (len : ℕ) where
   unfolding read-record
   misplaced-read nothing k s =
       each-kind (λ k. 1 ≤ k → k ≤ 5 → (k ≡ 1 → ⊥) → read-record len start (k ∷ s) ≡ refuse (Misplaced 0)) (λ h l m. absurd (m refl)) (λ h l m. refl)
-      (λ h l m. refl) (λ h l m. refl) (λ h l m. refl) (λ k o h l m. no-kind-there k o h l) k
+      (λ h l m. refl) (λ h l m. refl) (λ h l m. refl) (λ k o h l m. not-both k o h l) k
   misplaced-read (inside n cs c) k s =
       each-kind
       (λ k. 1 ≤ k → k ≤ 5 → (MayStand (inside n cs c) k → ⊥) → read-record len (reading-of (inside n cs c)) (k ∷ s)
-        ≡ refuse (Misplaced (length (written (inside n cs c)))))
-      (λ h l m. rw (ne-eqb (length (written (inside n cs c))) 0 (omega arith))) (λ h l m. absurd (m (omega arith, omega arith, λ q. absurd (omega arith))))
-      (λ h l m. absurd (m (omega arith, omega arith, λ q. absurd (omega arith)))) (λ h l m. absurd (m (omega arith, omega arith, λ q. absurd (omega arith))))
-      (λ h l m. last c (λ e. m (omega arith, omega arith, λ q. e))) (λ k o h l m. no-kind-there k o h l) k
+      ≡ refuse (Misplaced (length (written (inside n cs c)))))
+      (λ h l m. rw (ne-eqb (length (written (inside n cs c))) 0 (omega arith))) (λ h l m. absurd (m (inner-stands n cs c 2 (omega arith) (omega arith))))
+      (λ h l m. absurd (m (inner-stands n cs c 3 (omega arith) (omega arith)))) (λ h l m. absurd (m (inner-stands n cs c 4 (omega arith) (omega arith))))
+      (λ h l m. last c (λ e. m (omega arith, omega arith, λ q. e))) (λ k o h l m. not-both k o h l) k
     where
       last : (d : List Literal) → (d ≡ [] → ⊥) → read-record len (reading-of (inside n cs d)) (5 ∷ s) ≡ refuse (Misplaced (length (written (inside n cs d))))
       last [] m = absurd (m refl)
@@ -71,7 +75,7 @@ module _ (len : ℕ) where
   body-read (inside n cs c) k m l =
       each-kind (λ k. 2 ≤ k → k ≤ 3 → read-record len (reading-of (inside n cs c)) (k ∷ []) ≡ refuse (Truncated len)) (λ h l. absurd (omega arith))
       (λ h l. rw (lt-ltb 0 (length (written (inside n cs c))) (omega arith))) (λ h l. rw (lt-ltb 0 (length (written (inside n cs c))) (omega arith)))
-      (λ h l. absurd (omega arith)) (λ h l. absurd (omega arith)) (λ k o h l. no-kind-there k o (omega arith) (omega arith)) k (m .0) l
+      (λ h l. absurd (omega arith)) (λ h l. absurd (omega arith)) (λ k o h l. not-both k o (omega arith) (omega arith)) k (m .0) l
 
   -- 6: a variable that is 0 or above the number of variables
   variable-read : (r : Reading) (sign : Bool) (v : ℕ) (s : List ℕ) → 0 < r .at → (v < 1) ⊎ (r .variables < v)
