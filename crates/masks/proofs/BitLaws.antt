@@ -27,39 +27,37 @@ each-digit P a b (suc (suc x)) h = absurd (omega arith)
 each-pair : (P : ℕ → ℕ → Type 0) → P 0 0 → P 0 1 → P 1 0 → P 1 1 → (x y : ℕ) → x < 2 → y < 2 → P x y
 each-pair P a b c d x y h k = each-digit (λ z. P z y) (each-digit (P 0) a b y k) (each-digit (P 1) c d y k) x h
 
+-- f of two digits is a digit, and is 1 as op′ says
+abbrev Digit : (ℕ → ℕ → ℕ) → (Bool → Bool → Bool) → ℕ → ℕ → Type 0
+Digit f op′ x y = (f x y < 2) × (eqb (f x y) 1 ≡ op′ (eqb x 1) (eqb y 1))
+
 -- what an operation does digit by digit it does member by member
 module _ (op f : ℕ → ℕ → ℕ) (op′ : Bool → Bool → Bool)
     (shr : (a b k : ℕ) → op a b / 2 ^ k ≡ op (a / 2 ^ k) (b / 2 ^ k))
     (step : (a b : ℕ) → op a b ≡ op (a / 2) (b / 2) * 2 + f (a % 2) (b % 2))
-    (digit : (x y : ℕ) → x < 2 → y < 2 → (f x y < 2) × (eqb (f x y) 1 ≡ op′ (eqb x 1) (eqb y 1))) where
+    (d00 : Digit f op′ 0 0) (d01 : Digit f op′ 0 1) (d10 : Digit f op′ 1 0) (d11 : Digit f op′ 1 1) where
   bit-op : (a b i : ℕ) → bit (op a b) i ≡ op′ (bit a i) (bit b i)
   unfolding bit
   bit-op a b i =
       let x = a / 2 ^ i in
       let y = b / 2 ^ i in
-      let d = digit (x % 2) (y % 2) (mod-lt x two-pos) (mod-lt y two-pos) in
+      let d = each-pair (Digit f op′) d00 d01 d10 d11 (x % 2) (y % 2) (mod-lt x two-pos) (mod-lt y two-pos) in
       ap (λ (n : ℕ). eqb (n % 2) 1) (shr a b i ∙ step x y)
       ∙ ap (λ (n : ℕ). eqb n 1) (digits-mod (op (x / 2) (y / 2)) (d .0))
       ∙ d .1
 
 -- the members of both
 pub bit-and : (a b i : ℕ) → bit (bitAnd a b) i ≡ bit a i && bit b i
-bit-and =
-    bit-op bitAnd min _&&_ and-shr and-step
-    (each-pair (λ x y. (min x y < 2) × (eqb (min x y) 1 ≡ eqb x 1 && eqb y 1)) (omega arith, refl) (omega arith, refl) (omega arith, refl) (omega arith, refl))
+bit-and = bit-op bitAnd min _&&_ and-shr and-step (omega arith, refl) (omega arith, refl) (omega arith, refl) (omega arith, refl)
 
 -- the members of either
 pub bit-or : (a b i : ℕ) → bit (bitOr a b) i ≡ bit a i || bit b i
-bit-or =
-    bit-op bitOr max _||_ or-shr or-step
-    (each-pair (λ x y. (max x y < 2) × (eqb (max x y) 1 ≡ eqb x 1 || eqb y 1)) (omega arith, refl) (omega arith, refl) (omega arith, refl) (omega arith, refl))
+bit-or = bit-op bitOr max _||_ or-shr or-step (omega arith, refl) (omega arith, refl) (omega arith, refl) (omega arith, refl)
 
 -- the members of just one
 pub bit-xor : (a b i : ℕ) → bit (bitXor a b) i ≡ xor (bit a i) (bit b i)
 unfolding xor
-bit-xor =
-    bit-op bitXor differ xor xor-shr xor-step
-    (each-pair (λ x y. (differ x y < 2) × (eqb (differ x y) 1 ≡ xor (eqb x 1) (eqb y 1))) (omega arith, refl) (omega arith, refl) (omega arith, refl) (omega arith, refl))
+bit-xor = bit-op bitXor differ xor xor-shr xor-step (omega arith, refl) (omega arith, refl) (omega arith, refl) (omega arith, refl)
 
 -- 0 is a member of an odd mask
 pub bit-first : (m : ℕ) → bit m 0 ≡ eqb (m % 2) 1
@@ -100,7 +98,8 @@ pub bit-not : (k i m : ℕ) → m < 2 ^ k → i < k → bit ((2 ^ k - 1) - m) i 
 bit-not zero i m h l = absurd (not-suc-le-zero l)
 bit-not (suc k) zero m h l =
     let e : ((2 ^ suc k - 1) - m) % 2 ≡ 1 - m % 2 = omega arith in
-    bit-first ((2 ^ suc k - 1) - m) ∙ rw e (each-digit (λ x. eqb (1 - x) 1 ≡ not (eqb x 1)) refl refl (m % 2) (mod-lt m two-pos)) ∙ ap not (sym (bit-first m))
+    let f = each-digit (λ x. eqb (1 - x) 1 ≡ not (eqb x 1)) refl refl (m % 2) (mod-lt m two-pos) in
+    bit-first ((2 ^ suc k - 1) - m) ∙ rw e f ∙ ap not (sym (bit-first m))
 bit-not (suc k) (suc i) m h l =
     let e : ((2 ^ suc k - 1) - m) / 2 ≡ (2 ^ k - 1) - m / 2 = omega arith in
     bit-suc ((2 ^ suc k - 1) - m) i ∙ rw e (bit-not k i (m / 2) (omega arith) (le-of-suc-le-suc l)) ∙ ap not (sym (bit-suc m i))
@@ -123,8 +122,11 @@ bit-below k i m h e = go (decLt i k)
 pub mask-ext : (k a b : ℕ) → a < 2 ^ k → b < 2 ^ k → ((i : ℕ) → i < k → bit a i ≡ bit b i) → a ≡ b
 mask-ext zero a b ha hb e = lt-one ha ∙ sym (lt-one hb)
 mask-ext (suc k) a b ha hb e =
-    let low : a % 2 ≡ b % 2 = each-pair (λ x y. eqb x 1 ≡ eqb y 1 → x ≡ y) (λ _. refl) (λ f. cc) (λ f. cc) (λ _. refl) (a % 2) (b % 2) (mod-lt a two-pos) (mod-lt b two-pos) (sym (bit-first a) ∙ e 0 (zero-lt-suc k) ∙ bit-first b) in
-    let high : a / 2 ≡ b / 2 = mask-ext k (a / 2) (b / 2) (omega arith) (omega arith) (λ i l. sym (bit-suc a i) ∙ e (suc i) (suc-le-suc l) ∙ bit-suc b i) in
+    let same = each-pair (λ x y. eqb x 1 ≡ eqb y 1 → x ≡ y) (λ _. refl) (λ f. cc) (λ f. cc) (λ _. refl) in
+    let first = sym (bit-first a) ∙ e 0 (zero-lt-suc k) ∙ bit-first b in
+    let low : a % 2 ≡ b % 2 = same (a % 2) (b % 2) (mod-lt a two-pos) (mod-lt b two-pos) first in
+    let rest : (i : ℕ) → i < k → bit (a / 2) i ≡ bit (b / 2) i = λ i l. sym (bit-suc a i) ∙ e (suc i) (suc-le-suc l) ∙ bit-suc b i in
+    let high : a / 2 ≡ b / 2 = mask-ext k (a / 2) (b / 2) (omega arith) (omega arith) rest in
     omega arith
 
 -- the members of a that are not members of b
