@@ -1,0 +1,1 @@
+// Matching clauses to variables.
