@@ -28,21 +28,22 @@ no-links = replicate 64 0
 unfoldable pub begin : ℕ → Search
 begin clause = record { queue = clause ∷ []; taken = 0; seen = 0; links = no-links; free = 64 }
 
+-- Below, own v is the number, from 1, of the clause that is matched to v, and 0 if v is unmatched.
+
 -- 'an unseen one becomes seen and remembers this rule; if it is unpaired, a chain is found [..]; if it is paired, its rule joins the queue'
-unfoldable pub see : List ℕ → ℕ → ℕ → Search → Search
-see matching clause v s = record {
-  queue = cond (eqb (owner matching v) 0) (s .queue) (s .queue ++ ((owner matching v - 1) ∷ []));
+unfoldable pub see : (ℕ → ℕ) → ℕ → ℕ → Search → Search
+see own clause v s = record {
+  queue = cond (eqb (own v) 0) (s .queue) (s .queue ++ ((own v - 1) ∷ []));
   taken = s .taken;
   seen = with (s .seen) v;
   links = set (s .links) v clause;
-  free = cond (eqb (owner matching v) 0) v 64;
+  free = cond (eqb (own v) 0) v 64;
 }
 
 -- 'Go through its switches upward', until an augmenting path is found
-unfoldable pub scan : List ℕ → ℕ → List ℕ → Search → Search
-scan matching clause [] s = s
-scan matching clause (v ∷ vs) s =
-    cond (eqb (s .free) 64) (scan matching clause vs (cond (bit (s .seen) v) s (see matching clause v s))) s
+unfoldable pub scan : (ℕ → ℕ) → ℕ → List ℕ → Search → Search
+scan own clause [] s = s
+scan own clause (v ∷ vs) s = cond (eqb (s .free) 64) (scan own clause vs (cond (bit (s .seen) v) s (see own clause v s))) s
 
 -- 'Take the front rule off: this is one reach'
 unfoldable pub take-front : Search → Search
@@ -51,14 +52,14 @@ take-front s = record { queue = s .queue; taken = suc (s .taken); seen = s .seen
 abbrev pub front : Search → ℕ
 front s = getD (s .queue) (s .taken) 0
 
-unfoldable pub expand : List ℕ → List ℕ → Search → Search
-expand sets matching s = scan matching (front s) (members (getD sets (front s) 0) 64) (take-front s)
+unfoldable pub expand : List ℕ → (ℕ → ℕ) → Search → Search
+expand sets own s = scan own (front s) (members (getD sets (front s) 0) 64) (take-front s)
 
 -- until an augmenting path is found or the queue is empty; k bounds the expansions
-unfoldable pub search : ℕ → List ℕ → List ℕ → Search → Search
-search zero sets matching s = s
-search (suc k) sets matching s =
-    cond (eqb (s .free) 64 && ltb (s .taken) (length (s .queue))) (search k sets matching (expand sets matching s)) s
+unfoldable pub search : ℕ → List ℕ → (ℕ → ℕ) → Search → Search
+search zero sets own s = s
+search (suc k) sets own s =
+    cond (eqb (s .free) 64 && ltb (s .taken) (length (s .queue))) (search k sets own (expand sets own s)) s
 
 -- 'The chain is then re-paired link by link back to the new rule': the clause that v remembers gets v, and what it had is next.
 -- The new clause is the one after those matched so far; k bounds the links.
@@ -84,7 +85,7 @@ pub data Outcome : Type 0 where
 unfoldable pub match-rest : ℕ → List ℕ → List ℕ → ℕ → Outcome
 match-rest zero sets matching e = success matching e
 match-rest (suc k) sets matching e =
-    let s = search bound sets matching (begin (length matching)) in
+    let s = search bound sets (owner matching) (begin (length matching)) in
     cond (eqb (s .free) 64)
     (failure (take (s .taken) (s .queue)) (e + s .taken))
     (match-rest k sets (rematch bound (s .links) matching (s .free)) (e + s .taken))
