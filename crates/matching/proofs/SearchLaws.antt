@@ -311,3 +311,116 @@ module _ (sets m : List ℕ) (M : Partial sets m) where
       (λ w. scan-ok h c vs (see (owner m) c v s) (scanning-new h c v (w .0) vs s S b (w .1)))
       (zero-or-suc (owner m v))))
       (look (bit (s .seen) v))
+
+  -- ── The search ──────────────────────────────────────────────────────────────────────────────────────────────────────
+
+  inv-take : (h : ℕ) (s : Search) → Inv sets m h s → Inv sets m h (take-front s)
+  unfolding take-front
+  inv-take h s I = record {
+    pos = I .pos;
+    root = I .root;
+    some = I .some;
+    closed = I .closed;
+    place = I .place;
+    link = I .link;
+    each = I .each;
+    sized = I .sized;
+    word = I .word;
+    wide = I .wide;
+  }
+
+  -- the clause at place h is gone through
+  inv-next : (h c : ℕ) (s : Search) → Scanning h c [] s → Inv sets m (suc h) s
+  inv-next h c s S =
+      let I = S .inv in
+      record {
+        pos = I .pos;
+        root = I .root;
+        some = I .some;
+        closed = λ k x l nm. ⊎-elim
+            (λ (e : k ≡ h). ⊎-elim (λ u. u) (λ F. absurd (omega (arith, F .within))) (S .all x (rw (e, S .front-is) at nm)))
+            (λ less. I .closed k x less nm)
+            (below-cases l);
+        place = I .place;
+        link = I .link;
+        each = I .each;
+        sized = I .sized;
+        word = I .word;
+        wide = I .wide;
+      }
+
+  -- the queue is used up
+  pub record Stuck (s : Search) : Type 0 where
+    pub inv : Inv sets m (s .taken) s
+    pub all-taken : s .taken ≡ length (s .queue)
+    pub none : s .free ≡ 64
+
+  abbrev pub Ended : Search → Type 0
+  Ended s = (Stuck s ⊎ Reached s) × (s .taken ≤ suc (length m))
+
+  see-taken : (own : ℕ → ℕ) (c v : ℕ) (s : Search) → see own c v s .taken ≡ s .taken
+  unfolding see
+  see-taken own c v s = refl
+
+  pub scan-taken : (own : ℕ → ℕ) (c : ℕ) (vs : List ℕ) (s : Search) → scan own c vs s .taken ≡ s .taken
+  scan-taken own c [] s = rw scan-none
+  scan-taken own c (v ∷ vs) s =
+      ⊎-elim
+      (λ (f : eqb (s .free) 64 ≡ true).
+      let e = eqb-true (s .free) 64 f in
+      ⊎-elim
+      (λ (b : bit (s .seen) v ≡ true). rw (scan-old own c v vs s e b) (scan-taken own c vs s))
+      (λ (b : bit (s .seen) v ≡ false). rw (scan-new own c v vs s e b) (scan-taken own c vs (see own c v s) ∙ see-taken own c v s))
+      (look (bit (s .seen) v)))
+      (λ (f : eqb (s .free) 64 ≡ false). rw (scan-stop own c (v ∷ vs) s (eqb-false (s .free) 64 f)))
+      (look (eqb (s .free) 64))
+
+  pub expand-taken : (own : ℕ → ℕ) (s : Search) → expand sets own s .taken ≡ suc (s .taken)
+  unfolding expand take-front
+  expand-taken own s = scan-taken own (front s) (members (at sets (front s)) 64) (take-front s)
+
+  scanning-begin : Words sets → (s : Search) → Inv sets m (s .taken) s → s .free ≡ 64 → s .taken < length (s .queue)
+      → Scanning (s .taken) (front s) (members (at sets (front s)) 64) (take-front s)
+  unfolding take-front
+  scanning-begin W s I f l = record {
+    inv = inv-take (s .taken) s I;
+    open-h = l;
+    front-is = refl;
+    none = f;
+    all = λ y nm. inr (members-find (at sets (front s)) 64 y (bit-below 64 y (at sets (front s)) (word-all sets W (front s)) nm) nm);
+    named = λ i h. members-are (at sets (front s)) 64 i h;
+  }
+
+  pub expand-ok : Words sets → (s : Search) → Inv sets m (s .taken) s → s .free ≡ 64 → s .taken < length (s .queue)
+      → Scanning (s .taken) (front s) [] (expand sets (owner m) s) ⊎ Reached (expand sets (owner m) s)
+  unfolding expand
+  expand-ok W s I f l = scan-ok (s .taken) (front s) (members (at sets (front s)) 64) (take-front s) (scanning-begin W s I f l)
+
+  pub search-ok : Words sets → (k : ℕ) (s : Search) → k + s .taken ≡ bound → Inv sets m (s .taken) s → s .free ≡ 64 → s .taken ≤ length (s .queue)
+      → Ended (search k sets (owner m) s)
+  unfolding search
+  search-ok W zero s e I f l =
+      let a = members-le (s .seen) 64 in
+      (inl (record { inv = I; all-taken = omega (arith, I .sized); none = f }), omega (arith, tail-le (s .taken) s I))
+  search-ok W (suc k) s e I f l =
+      ⊎-elim
+      (λ (lt : s .taken < length (s .queue)).
+      let c = front s in
+      let r = expand sets (owner m) s in
+      let t = expand-taken (owner m) s in
+      rw (search-on k sets (owner m) s f lt)
+      (⊎-elim
+      (λ (S : Scanning (s .taken) c [] r).
+      search-ok W k r (omega arith) (subst (λ (h : ℕ). Inv sets m h r) (sym t) (inv-next (s .taken) c r S)) (S .none) (omega (arith, S .open-h)))
+      (λ (R : Reached r).
+      rw (search-found k sets (owner m) r (λ q. omega (arith, R .0))) (inr R, omega (arith, tail-le (s .taken) s I)))
+      (expand-ok W s I f lt)))
+      (λ (le : length (s .queue) ≤ s .taken).
+      rw (search-empty (suc k) sets (owner m) s le)
+      (inl (record { inv = I; all-taken = omega arith; none = f }), omega (arith, tail-le (s .taken) s I)))
+      (lt-or-le (s .taken) (length (s .queue)))
+
+  -- the search for the next clause
+  pub search-next : Words sets → Ended (search bound sets (owner m) (begin (length m)))
+  unfolding begin
+  search-next W = search-ok W bound (begin (length m)) refl (inv-begin sets m) refl (omega arith)
