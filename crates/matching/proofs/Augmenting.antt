@@ -11,13 +11,8 @@ use lib.Dec.{eqb}
 use borrow.Author.Tests.{eqb-true, eqb-false, eq-eqb, ne-eqb}
 use Rattle.masks.specs.Mask.{bit}
 use Rattle.matching.specs.Search.{rematch}
+use Rattle.matching.specs.Inner.{at, Free, Distinct, Partial}
 use Rattle.matching.proofs.Counting.{look, clash, below-cases}
-use Rattle.matching.proofs.OwnerLaws.{at, Free, Distinct}
-
--- the first clauses are matched, in order
-pub record Partial (sets matching : List ℕ) : Type 0 where
-  pub named : (i : ℕ) → i < length matching → bit (at sets i) (at matching i) ≡ true
-  pub distinct : Distinct matching
 
 -- an element of a list with one more at its end
 pub snoc-cases : (l : List ℕ) (x i : ℕ) → i < length (l ++ (x ∷ [])) → ((i ≡ length l) × (at (l ++ (x ∷ [])) i ≡ x)) ⊎ ((i < length l) × (at (l ++ (x ∷ [])) i ≡ at l i))

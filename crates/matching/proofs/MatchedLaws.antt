@@ -15,8 +15,8 @@ use Rattle.masks.proofs.BitLaws.{bit-or, bit-none, bit-below}
 use Rattle.masks.proofs.MembersLaws.{Found}
 use Rattle.matching.specs.Matched.{Matches, Matched, Words, union, chosen}
 use Rattle.matching.specs.Search.{marks}
+use Rattle.matching.specs.Inner.{at, Distinct}
 use Rattle.matching.proofs.Counting.{look, clash, or-e, or-l, or-r, one-if, count, count-all, pigeon}
-use Rattle.matching.proofs.OwnerLaws.{at, Distinct}
 
 -- ── Unions ────────────────────────────────────────────────────────────────────────────────────────────────────────────
 

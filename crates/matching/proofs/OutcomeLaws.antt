@@ -15,15 +15,11 @@ use Rattle.masks.proofs.BitLaws.{mask-ext, bit-below}
 use Rattle.masks.proofs.MembersLaws.{Found}
 use Rattle.matching.specs.Matched.{Matches, Matched, Words, union, chosen}
 use Rattle.matching.specs.Search.{owner, Search, begin, search, rematch, bound, Outcome, success, failure, match-rest, outcome, marks}
+use Rattle.matching.specs.Inner.{at, Distinct, Partial, next-search}
 use Rattle.matching.proofs.Counting.{look, clash, zero-or-pos, count-all, pigeon}
-use Rattle.matching.proofs.OwnerLaws.{at, Free, Distinct}
-use Rattle.matching.proofs.Augmenting.{Partial, Path, rematch-partial}
+use Rattle.matching.proofs.Augmenting.{Path, rematch-partial}
 use Rattle.matching.proofs.SearchLaws.{Inv, Stuck, Reached, Ended, search-next, tail-le, word-all}
 use Rattle.matching.proofs.MatchedLaws.{union-of, union-in, union-word, matched-room, chosen-matched, chosen-in, chosen-from, marks-in, marks-from, marks-count, length-marks}
-
--- the search for the clause after those of m
-abbrev pub next-search : List ℕ → List ℕ → Search
-next-search sets m = search bound sets (owner m) (begin (length m))
 
 pub match-none : (sets m : List ℕ) (e : ℕ) → match-rest 0 sets m e ≡ success m e
 unfolding match-rest

@@ -9,18 +9,8 @@ use lib.ListN.{length, getD, set}
 use lib.Dec.{eqb}
 use borrow.Author.Tests.{eqb-true, eqb-false, eq-eqb, ne-eqb}
 use Rattle.matching.specs.Search.{owner}
+use Rattle.matching.specs.Inner.{at, Free, Distinct}
 use Rattle.matching.proofs.Counting.{look, clash, zero-or-pos}
-
-abbrev pub at : List ℕ → ℕ → ℕ
-at l i = getD l i 0
-
--- no clause has the variable v
-abbrev pub Free : List ℕ → ℕ → Type 0
-Free matching v = (i : ℕ) → i < length matching → at matching i ≡ v → ⊥
-
--- no variable twice
-abbrev pub Distinct : List ℕ → Type 0
-Distinct matching = (i j : ℕ) → i < length matching → j < length matching → at matching i ≡ at matching j → i ≡ j
 
 -- the owner's number goes by the first place that has the variable
 owner-here : (x v : ℕ) (l : List ℕ) → x ≡ v → owner (x ∷ l) v ≡ 1

@@ -15,9 +15,10 @@ use Rattle.masks.proofs.MembersLaws.{Found, members-find, members-are, members-
 use Rattle.masks.proofs.SizeLaws.{with-count, size-none}
 use Rattle.matching.specs.Matched.{Words}
 use Rattle.matching.specs.Search.{owner, Search, no-links, begin, see, scan, take-front, front, expand, search, bound}
+use Rattle.matching.specs.Inner.{at, Free, Distinct, Partial}
 use Rattle.matching.proofs.Counting.{look, clash, and-l, and-r, and-i, below-cases, zero-or-pos, lt-or-le, pigeon, count-all}
-use Rattle.matching.proofs.OwnerLaws.{at, Free, Distinct, zero-or-suc, owner-free, owner-some}
-use Rattle.matching.proofs.Augmenting.{Partial, Links, Path, snoc-cases}
+use Rattle.matching.proofs.OwnerLaws.{zero-or-suc, owner-free, owner-some}
+use Rattle.matching.proofs.Augmenting.{Links, Path, snoc-cases}
 
 -- ── The definitions' turns ────────────────────────────────────────────────────────────────────────────────────────────
 
