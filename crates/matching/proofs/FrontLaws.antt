@@ -7,18 +7,19 @@ use Prim.Native.Nat.{ℕ, zero, suc, _+_, _-_, _^_, _≤_, _<_}
 use native.Mathlib.Numerals.{add-one}
 use native.Mathlib.Omega.{arith}
 use lib.ListN.{length, getD, set, take, length-set}
-use lib.Seq.{take-suc-set, getD-set-same, getD-set-other}
+use lib.Seq.{take-suc-set, getD-set-same, getD-set-other, getD-take, length-take-le}
 use lib.Dec.{eqb}
-use borrow.Author.Tests.{eqb-true, eqb-false, ne-eqb}
+use borrow.Author.Tests.{ne-eqb, not-true}
 use Rattle.masks.specs.Mask.{bit, with, minus, without, lowest, members, size}
-use Rattle.masks.proofs.BitLaws.{bit-none, bit-with-other, bit-without-same, bit-without-other, with-lt, minus-lt}
+use Rattle.masks.proofs.BitLaws.{bit-none, bit-minus, bit-with-other, bit-without-same, bit-without-other, with-lt, minus-lt}
 use Rattle.masks.proofs.MembersLaws.{lowest-is, members-le, members-none, members-lowest}
 use Rattle.masks.proofs.SizeLaws.{with-count, without-count}
-use Rattle.matching.specs.Search.{Search, see, scan}
+use Rattle.matching.specs.Search.{Search, see, scan, take-front, expand, search-from, begin, no-links, bound}
 use Rattle.matching.specs.Inner.{at, search-of, Sound, Owned, Apart}
 use Rattle.matching.specs.declared.Front.{Front}
-use Rattle.matching.proofs.Counting.{look, clash, below-cases}
-use Rattle.matching.proofs.SearchLaws.{see-free, scan-none, scan-new, scan-stop}
+use Rattle.matching.proofs.Counting.{clash, and-r, below-cases}
+use Rattle.matching.proofs.SearchLaws.{see-free, see-seen, scan-none, scan-new, scan-stop, expand-taken, search-on, search-found, search-empty}
+use Rattle.matching.proofs.UnseenLaws.{scan-unseen}
 
 -- while a variable is not seen the queue has room
 pub sound-room : (front : Front) (queue : List ℕ) (v : ℕ) → Sound front queue → v < 64 → bit (front .seen) v ≡ false → front .tail < 65
@@ -85,10 +86,6 @@ next-is rest v l ne e =
     let L = lowest-is 64 rest l pos in
     rw e (record { low = L .below; in-rest = L .set; first = members-lowest 64 64 rest l l pos; fewer = omega (arith, without-count rest (lowest rest) 64 (L .set) (L .below)) })
 
-see-seen : (own : ℕ → ℕ) (c v : ℕ) (s : Search) → see own c v s .seen ≡ with (s .seen) v
-unfolding see
-see-seen own c v s = refl
-
 -- after the next variable
 pub going-see : {own : ℕ → ℕ} {clause : ℕ} {result : Search} {queue links : List ℕ} {state : Front} {rest v : ℕ} (queue′ links′ : List ℕ) (state′ : Front) (rest′ : ℕ)
     → Going own clause result queue links state rest → Next rest v → rest′ ≡ without rest v
@@ -129,3 +126,85 @@ pub going-none : {own : ℕ → ℕ} {clause : ℕ} {result : Search} {queue lin
 going-none {own} {clause} {result} {queue} {links} {state} {rest} G z =
     sym (scan-none own clause (search-of state queue links))
     ∙ ap (λ (l : List ℕ). scan own clause l (search-of state queue links)) (sym (rw z (members-none 0 64 (λ i _. bit-none i)))) ∙ G .same
+
+-- ── Expansions ────────────────────────────────────────────────────────────────────────────────────────────────────────
+
+-- the front clause is taken off
+abbrev pub taken-off : Front → Front
+taken-off front = record { seen = front .seen; head = front .head + 1; tail = front .tail; free = front .free }
+
+pub sound-taken : (front : Front) (queue : List ℕ) → Sound front queue → Sound (taken-off front) queue
+sound-taken front queue S = record { counted = S .counted; word = S .word; low = S .low; long = S .long }
+
+-- the seen variables of the front clause are passed over
+pub expand-unseen : (sets owners queue links : List ℕ) (front : Front) → front .head < front .tail
+    → scan (at owners) (at queue (front .head)) (members (minus (at sets (at queue (front .head))) (front .seen)) 64) (search-of (taken-off front) queue links)
+    ≡ expand sets (at owners) (search-of front queue links)
+unfolding expand take-front
+expand-unseen sets owners queue links front l =
+    let c = at queue (front .head) in
+    rw (getD-take (front .tail) queue (front .head) 0 l, ← add-one (front .head))
+    (sym (scan-unseen (at owners) c (at sets c) (search-of (taken-off front) queue links)))
+
+pub minus-apart : (a b : ℕ) → Apart (minus a b) b
+minus-apart a b x t = not-true _ (and-r (bit a x) (not (bit b x)) (sym (bit-minus a b x) ∙ t))
+
+-- what the search still has to do from here gives what it has to give
+pub record Searching (sets : List ℕ) (own : ℕ → ℕ) (result : Search) (queue links : List ℕ) (front : Front) : Type 0 where
+  pub sound : Sound front queue
+  pub none : front .free ≡ 64
+  pub same : search-from (bound - front .head) sets own (search-of front queue links) ≡ result
+
+-- a queue never has more than 65 clauses
+pub sound-tail : (front : Front) (queue : List ℕ) → Sound front queue → front .tail ≤ bound
+sound-tail front queue S = omega (arith, S .counted, members-le (front .seen) 64)
+
+length-queue : (front : Front) (queue links : List ℕ) → Sound front queue → length (search-of front queue links .queue) ≡ front .tail
+length-queue front queue links S = length-take-le (front .tail) queue (omega (arith, S .long, sound-tail front queue S))
+
+-- after an expansion
+pub searching-expand : {sets : List ℕ} {own : ℕ → ℕ} {result : Search} {queue links : List ℕ} {front : Front} (queue′ links′ : List ℕ) (front′ : Front)
+    → Searching sets own result queue links front → front .head < front .tail
+    → search-of front′ queue′ links′ ≡ expand sets own (search-of front queue links)
+    → (front′ .head ≡ suc (front .head)) × (search-from (bound - front′ .head) sets own (search-of front′ queue′ links′) ≡ result)
+searching-expand {sets} {own} {result} {queue} {links} {front} queue′ links′ front′ G l e =
+    let h : front′ .head ≡ suc (front .head) = ap (λ (s : Search). s .taken) e ∙ expand-taken sets own (search-of front queue links) in
+    let n : bound - front .head ≡ suc (bound - front′ .head) = omega (arith, sound-tail front queue (G .sound)) in
+    (h,
+    rw e (sym (search-on (bound - front′ .head) sets own (search-of front queue links) (G .none) (rw (length-queue front queue links (G .sound)) l))
+    ∙ ap (λ (k : ℕ). search-from k sets own (search-of front queue links)) (sym n) ∙ G .same))
+
+pub searching-on : {sets : List ℕ} {own : ℕ → ℕ} {result : Search} {queue links : List ℕ} {front : Front} (queue′ links′ : List ℕ) (front′ : Front)
+    → Searching sets own result queue links front → front .head < front .tail
+    → search-of front′ queue′ links′ ≡ expand sets own (search-of front queue links) → Sound front′ queue′ → front′ .free ≡ 64
+    → Searching sets own result queue′ links′ front′
+searching-on queue′ links′ front′ G l e S f = record { sound = S; none = f; same = searching-expand queue′ links′ front′ G l e .1 }
+
+-- an augmenting path is found
+pub searching-found : {sets : List ℕ} {own : ℕ → ℕ} {result : Search} {queue links : List ℕ} {front : Front} (queue′ links′ : List ℕ) (front′ : Front)
+    → Searching sets own result queue links front → front .head < front .tail
+    → search-of front′ queue′ links′ ≡ expand sets own (search-of front queue links) → (front′ .free ≡ 64 → ⊥)
+    → search-of front′ queue′ links′ ≡ result
+searching-found {sets} {own} queue′ links′ front′ G l e ne =
+    sym (search-found (bound - front′ .head) sets own (search-of front′ queue′ links′) ne) ∙ searching-expand queue′ links′ front′ G l e .1
+
+-- the queue is empty
+pub searching-none : {sets : List ℕ} {own : ℕ → ℕ} {result : Search} {queue links : List ℕ} {front : Front}
+    → Searching sets own result queue links front → front .tail ≤ front .head → search-of front queue links ≡ result
+searching-none {sets} {own} {result} {queue} {links} {front} G l =
+    sym (search-empty (bound - front .head) sets own (search-of front queue links) (rw (length-queue front queue links (G .sound)) l)) ∙ G .same
+
+-- the start
+pub searching-begin : (sets : List ℕ) (own : ℕ → ℕ) (queue : List ℕ) (clause : ℕ) → length queue ≡ 96 → clause < 96
+    → Searching sets own (search-from bound sets own (begin clause)) (set queue 0 clause) no-links (record { seen = 0; head = 0; tail = 1; free = 64 })
+unfolding begin
+searching-begin sets own queue clause l h = record {
+  sound = record {
+    counted = omega arith;
+    word = omega arith;
+    low = λ i k. let z : i ≡ 0 = omega arith in rw (z, getD-set-same queue 0 clause 0 (omega arith)) h;
+    long = length-set queue 0 clause ∙ l;
+  };
+  none = refl;
+  same = rw (take-suc-set queue 0 clause (omega arith));
+}

@@ -14,7 +14,7 @@ use Rattle.masks.specs.Mask.{bit, size}
 use Rattle.masks.proofs.BitLaws.{mask-ext, bit-below}
 use Rattle.masks.proofs.MembersLaws.{Found}
 use Rattle.matching.specs.Matched.{Matches, Matched, Words, union, chosen}
-use Rattle.matching.specs.Search.{owner, Search, begin, search, rematch, bound, Outcome, success, failure, match-rest, outcome, marks}
+use Rattle.matching.specs.Search.{owner, Search, begin, search-from, rematch, bound, Outcome, success, failure, match-rest, outcome, marks}
 use Rattle.matching.specs.Inner.{at, Distinct, Partial, next-search}
 use Rattle.matching.proofs.Counting.{look, clash, zero-or-pos, count-all, pigeon}
 use Rattle.matching.proofs.Augmenting.{Path, rematch-partial}

@@ -14,7 +14,7 @@ use Rattle.masks.proofs.BitLaws.{bit-none, bit-with-same, bit-with-other, bit-b
 use Rattle.masks.proofs.MembersLaws.{Found, members-find, members-are, members-le}
 use Rattle.masks.proofs.SizeLaws.{with-count, size-none}
 use Rattle.matching.specs.Matched.{Words}
-use Rattle.matching.specs.Search.{owner, Search, no-links, begin, see, scan, take-front, front, expand, search, bound}
+use Rattle.matching.specs.Search.{owner, Search, no-links, begin, see, scan, take-front, front, expand, search-from, bound}
 use Rattle.matching.specs.Inner.{at, Free, Distinct, Partial}
 use Rattle.matching.proofs.Counting.{look, clash, and-l, and-r, and-i, below-cases, zero-or-pos, lt-or-le, pigeon, count-all}
 use Rattle.matching.proofs.OwnerLaws.{zero-or-suc, owner-free, owner-some}
@@ -31,6 +31,10 @@ pub see-matched : (own : ℕ → ℕ) (c v k : ℕ) (s : Search) → own v ≡ s
     → see own c v s ≡ record { queue = s .queue ++ (k ∷ []); taken = s .taken; seen = with (s .seen) v; links = set (s .links) v c; free = 64 }
 unfolding see
 see-matched own c v k s e = let z : suc k - 1 ≡ k = omega arith in rw (e, ne-eqb (suc k) 0 (omega arith), z)
+
+pub see-seen : (own : ℕ → ℕ) (c v : ℕ) (s : Search) → see own c v s .seen ≡ with (s .seen) v
+unfolding see
+see-seen own c v s = refl
 
 pub scan-none : (own : ℕ → ℕ) (c : ℕ) (s : Search) → scan own c [] s ≡ s
 unfolding scan
@@ -52,23 +56,44 @@ scan-stop own c [] s ne = refl
 scan-stop own c (v ∷ vs) s ne = rw (ne-eqb (s .free) 64 ne)
 
 pub search-on : (k : ℕ) (sets : List ℕ) (own : ℕ → ℕ) (s : Search) → s .free ≡ 64 → s .taken < length (s .queue)
-    → search (suc k) sets own s ≡ search k sets own (expand sets own s)
-unfolding search
+    → search-from (suc k) sets own s ≡ search-from k sets own (expand sets own s)
+unfolding search-from
 search-on k sets own s f l = rw (eq-eqb (s .free) 64 f, lt-ltb (s .taken) (length (s .queue)) l)
 
-pub search-found : (k : ℕ) (sets : List ℕ) (own : ℕ → ℕ) (s : Search) → (s .free ≡ 64 → ⊥) → search k sets own s ≡ s
-unfolding search
+pub search-found : (k : ℕ) (sets : List ℕ) (own : ℕ → ℕ) (s : Search) → (s .free ≡ 64 → ⊥) → search-from k sets own s ≡ s
+unfolding search-from
 search-found zero sets own s ne = refl
 search-found (suc k) sets own s ne = rw (ne-eqb (s .free) 64 ne)
 
-pub search-empty : (k : ℕ) (sets : List ℕ) (own : ℕ → ℕ) (s : Search) → length (s .queue) ≤ s .taken → search k sets own s ≡ s
-unfolding search
+pub search-empty : (k : ℕ) (sets : List ℕ) (own : ℕ → ℕ) (s : Search) → length (s .queue) ≤ s .taken → search-from k sets own s ≡ s
+unfolding search-from
 search-empty zero sets own s l = refl
 search-empty (suc k) sets own s l = rw (le-ltb (s .taken) (length (s .queue)) l) (both (eqb (s .free) 64))
   where
-    both : (b : Bool) → cond (b && false) (search k sets own (expand sets own s)) s ≡ s
+    both : (b : Bool) → cond (b && false) (search-from k sets own (expand sets own s)) s ≡ s
     both true = refl
     both false = refl
+
+see-taken : (own : ℕ → ℕ) (c v : ℕ) (s : Search) → see own c v s .taken ≡ s .taken
+unfolding see
+see-taken own c v s = refl
+
+pub scan-taken : (own : ℕ → ℕ) (c : ℕ) (vs : List ℕ) (s : Search) → scan own c vs s .taken ≡ s .taken
+scan-taken own c [] s = rw scan-none
+scan-taken own c (v ∷ vs) s =
+    ⊎-elim
+    (λ (f : eqb (s .free) 64 ≡ true).
+    let e = eqb-true (s .free) 64 f in
+    ⊎-elim
+    (λ (b : bit (s .seen) v ≡ true). rw (scan-old own c v vs s e b) (scan-taken own c vs s))
+    (λ (b : bit (s .seen) v ≡ false). rw (scan-new own c v vs s e b) (scan-taken own c vs (see own c v s) ∙ see-taken own c v s))
+    (look (bit (s .seen) v)))
+    (λ (f : eqb (s .free) 64 ≡ false). rw (scan-stop own c (v ∷ vs) s (eqb-false (s .free) 64 f)))
+    (look (eqb (s .free) 64))
+
+pub expand-taken : (sets : List ℕ) (own : ℕ → ℕ) (s : Search) → expand sets own s .taken ≡ suc (s .taken)
+unfolding expand take-front
+expand-taken sets own s = scan-taken own (front s) (members (at sets (front s)) 64) (take-front s)
 
 -- ── The invariant ─────────────────────────────────────────────────────────────────────────────────────────────────────
 
@@ -359,27 +384,6 @@ module _ (sets m : List ℕ) (M : Partial sets m) where
   abbrev pub Ended : Search → Type 0
   Ended s = (Stuck s ⊎ Reached s) × (s .taken ≤ suc (length m))
 
-  see-taken : (own : ℕ → ℕ) (c v : ℕ) (s : Search) → see own c v s .taken ≡ s .taken
-  unfolding see
-  see-taken own c v s = refl
-
-  pub scan-taken : (own : ℕ → ℕ) (c : ℕ) (vs : List ℕ) (s : Search) → scan own c vs s .taken ≡ s .taken
-  scan-taken own c [] s = rw scan-none
-  scan-taken own c (v ∷ vs) s =
-      ⊎-elim
-      (λ (f : eqb (s .free) 64 ≡ true).
-      let e = eqb-true (s .free) 64 f in
-      ⊎-elim
-      (λ (b : bit (s .seen) v ≡ true). rw (scan-old own c v vs s e b) (scan-taken own c vs s))
-      (λ (b : bit (s .seen) v ≡ false). rw (scan-new own c v vs s e b) (scan-taken own c vs (see own c v s) ∙ see-taken own c v s))
-      (look (bit (s .seen) v)))
-      (λ (f : eqb (s .free) 64 ≡ false). rw (scan-stop own c (v ∷ vs) s (eqb-false (s .free) 64 f)))
-      (look (eqb (s .free) 64))
-
-  pub expand-taken : (own : ℕ → ℕ) (s : Search) → expand sets own s .taken ≡ suc (s .taken)
-  unfolding expand take-front
-  expand-taken own s = scan-taken own (front s) (members (at sets (front s)) 64) (take-front s)
-
   scanning-begin : Words sets → (s : Search) → Inv sets m (s .taken) s → s .free ≡ 64 → s .taken < length (s .queue)
       → Scanning (s .taken) (front s) (members (at sets (front s)) 64) (take-front s)
   unfolding take-front
@@ -398,8 +402,8 @@ module _ (sets m : List ℕ) (M : Partial sets m) where
   expand-ok W s I f l = scan-ok (s .taken) (front s) (members (at sets (front s)) 64) (take-front s) (scanning-begin W s I f l)
 
   pub search-ok : Words sets → (k : ℕ) (s : Search) → k + s .taken ≡ bound → Inv sets m (s .taken) s → s .free ≡ 64 → s .taken ≤ length (s .queue)
-      → Ended (search k sets (owner m) s)
-  unfolding search
+      → Ended (search-from k sets (owner m) s)
+  unfolding search-from
   search-ok W zero s e I f l =
       let a = members-le (s .seen) 64 in
       (inl (record { inv = I; all-taken = omega (arith, I .sized); none = f }), omega (arith, tail-le (s .taken) s I))
@@ -408,7 +412,7 @@ module _ (sets m : List ℕ) (M : Partial sets m) where
       (λ (lt : s .taken < length (s .queue)).
       let c = front s in
       let r = expand sets (owner m) s in
-      let t = expand-taken (owner m) s in
+      let t = expand-taken sets (owner m) s in
       rw (search-on k sets (owner m) s f lt)
       (⊎-elim
       (λ (S : Scanning (s .taken) c [] r).
@@ -422,6 +426,6 @@ module _ (sets m : List ℕ) (M : Partial sets m) where
       (lt-or-le (s .taken) (length (s .queue)))
 
   -- the search for the next clause
-  pub search-next : Words sets → Ended (search bound sets (owner m) (begin (length m)))
+  pub search-next : Words sets → Ended (search-from bound sets (owner m) (begin (length m)))
   unfolding begin
   search-next W = search-ok W bound (begin (length m)) refl (inv-begin sets m) refl (omega arith)

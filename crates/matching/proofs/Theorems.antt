@@ -7,7 +7,7 @@ use native.Mathlib.Omega.{arith}
 use lib.ListN.{length, getD, take}
 use Rattle.masks.specs.Mask.{bit, size}
 use Rattle.matching.specs.Matched.{Matches, Matched, Words, union, chosen}
-use Rattle.matching.specs.Search.{owner, begin, search, bound, success, failure, outcome, marks}
+use Rattle.matching.specs.Search.{owner, begin, search-from, bound, success, failure, outcome, marks}
 use Rattle.matching.proofs.MatchedLaws as laws
 use Rattle.matching.proofs.SearchLaws as searches
 use Rattle.matching.proofs.OutcomeLaws as outcomes
@@ -42,7 +42,7 @@ failure-few sets taken e W q = outcomes.violator-few sets taken (outcomes.failur
 
 -- The i-th clause costs at most i expansions, where the clauses before it are matched in any way; i is one more than their number.
 pub clause-cost : (sets variables : List ℕ) → Words sets → length variables < length sets → Matches (take (length variables) sets) variables
-    → search bound sets (owner variables) (begin (length variables)) .taken ≤ length variables + 1
+    → search-from bound sets (owner variables) (begin (length variables)) .taken ≤ length variables + 1
 clause-cost sets variables W l M = outcomes.next-cost sets variables W l M
 
 -- All m clauses cost at most m (m + 1) / 2 expansions, also in a failure.

@@ -8,7 +8,7 @@ use lib.Dec.{eqb, ltb}
 use Rattle.lists.specs.Padded.{padded}
 use Rattle.masks.specs.Mask.{bit, size}
 use Rattle.matching.specs.Matched.{Words}
-use Rattle.matching.specs.Search.{owner, Search, begin, search, rematch, bound, Outcome, success, failure, marks}
+use Rattle.matching.specs.Search.{owner, Search, begin, search-from, rematch, bound, Outcome, success, failure, marks}
 use Rattle.matching.specs.declared.Front.{Front}
 use Rattle.matching.specs.declared.Matching.{Matching}
 
@@ -93,7 +93,7 @@ pub record Augments (n : ℕ) (table owners links : List ℕ) (v : ℕ) : Type 0
 
 -- the search for the clause after those of the matching
 abbrev pub next-search : List ℕ → List ℕ → Search
-next-search sets matching = search bound sets (owner matching) (begin (length matching))
+next-search sets matching = search-from bound sets (owner matching) (begin (length matching))
 
 -- the matching after that search
 unfoldable pub augmented : List ℕ → List ℕ → List ℕ

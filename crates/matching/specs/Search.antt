@@ -56,10 +56,10 @@ unfoldable pub expand : List ℕ → (ℕ → ℕ) → Search → Search
 expand sets own s = scan own (front s) (members (getD sets (front s) 0) 64) (take-front s)
 
 -- until an augmenting path is found or the queue is empty; k bounds the expansions
-unfoldable pub search : ℕ → List ℕ → (ℕ → ℕ) → Search → Search
-search zero sets own s = s
-search (suc k) sets own s =
-    cond (eqb (s .free) 64 && ltb (s .taken) (length (s .queue))) (search k sets own (expand sets own s)) s
+unfoldable pub search-from : ℕ → List ℕ → (ℕ → ℕ) → Search → Search
+search-from zero sets own s = s
+search-from (suc k) sets own s =
+    cond (eqb (s .free) 64 && ltb (s .taken) (length (s .queue))) (search-from k sets own (expand sets own s)) s
 
 -- 'The chain is then re-paired link by link back to the new rule': the clause that v remembers gets v, and what it had is next.
 -- The new clause is the one after those matched so far; k bounds the links.
@@ -85,7 +85,7 @@ pub data Outcome : Type 0 where
 unfoldable pub match-rest : ℕ → List ℕ → List ℕ → ℕ → Outcome
 match-rest zero sets matching e = success matching e
 match-rest (suc k) sets matching e =
-    let s = search bound sets (owner matching) (begin (length matching)) in
+    let s = search-from bound sets (owner matching) (begin (length matching)) in
     cond (eqb (s .free) 64)
     (failure (take (s .taken) (s .queue)) (e + s .taken))
     (match-rest k sets (rematch bound (s .links) matching (s .free)) (e + s .taken))

@@ -6,7 +6,7 @@ ghost use mathlib.Core.List.{List};
 ghost use Prim.Native.Nat.{ℕ, _<_, _≤_};
 ghost use lib.ListN.{length, take};
 ghost use Rattle.masks.specs.Mask.{bit, members};
-ghost use Rattle.matching.specs.Search.{see, scan};
+ghost use Rattle.matching.specs.Search.{see, scan, expand, search-from, begin, bound, no-links};
 ghost use Rattle.matching.specs.Inner.{at, search-of, Sound, Owned, Apart};
 
 // If complete, the first bytes of `table` are the variables of the clauses and `marked` is 0; otherwise they are 1 for a marked
@@ -61,4 +61,41 @@ fn scan(front: Front, owners: &[u8; 64], clause: u8, unseen: u64, queue: &mut [u
         }
     }
     state
+}
+
+// A byte as an index.
+fn wide(x: u8) -> usize
+    ensures { λ r. ⌜ r ≡ x ⌝ }
+{
+    x as usize
+}
+
+// The front clause is taken off the queue and goes through its variables: one expansion.
+fn expand(front: Front, sets: &[u64; 96], owners: &[u8; 64], queue: &mut [u8; 96], links: &mut [u8; 64]) -> Front
+    requires { ⌜ Sound front (now queue) × Owned (now owners) × (front .free ≡ 64) × (front .head < front .tail) ⌝ }
+    ensures { λ r. ⌜ search-of r (now (queue .exit)) (now (links .exit)) ≡ expand (now (sets .entry)) (at (now (owners .entry))) (search-of front (now (queue .entry)) (now (links .entry))) ⌝ }
+    ensures { λ r. ⌜ Sound r (now (queue .exit)) ⌝ }
+{
+    let head = front.head;
+    let clause = queue[head];
+    let set = sets[wide(clause)];
+    let taken = Front { seen: front.seen, head: head + 1, tail: front.tail, free: front.free };
+    scan(taken, owners, clause, masks::minus(set, front.seen), queue, links)
+}
+
+// The search for one clause: until an augmenting path is found or the queue is empty.
+fn find_path(sets: &[u64; 96], owners: &[u8; 64], clause: u8, queue: &mut [u8; 96], links: &mut [u8; 64]) -> Front
+    requires { ⌜ (length (now queue) ≡ 96) × Owned (now owners) × (clause < 96) × (now links ≡ no-links) ⌝ }
+    ensures { λ r. ⌜ search-of r (now (queue .exit)) (now (links .exit)) ≡ search-from bound (now (sets .entry)) (at (now (owners .entry))) (begin clause) ⌝ }
+    ensures { λ r. ⌜ Sound r (now (queue .exit)) ⌝ }
+{
+    queue[0] = clause;
+    let mut front = Front { seen: 0, head: 0, tail: 1, free: 64 };
+    while front.head < front.tail {
+        front = expand(front, sets, owners, queue, links);
+        if front.free != 64 {
+            return front;
+        }
+    }
+    front
 }
