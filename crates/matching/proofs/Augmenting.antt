@@ -30,23 +30,27 @@ set-cases l c x i h =
     (λ (f : eqb i c ≡ false). inr (eqb-false i c f, getD-set-other l c i x 0 (eqb-false i c f)))
     (look (eqb i c))
 
--- the next clause takes a free variable that it names
+-- the next clause takes a free variable
+pub grow-distinct : (m : List ℕ) (x : ℕ) → Distinct m → Free m x → Distinct (m ++ (x ∷ []))
+grow-distinct m x d free i j h k e =
+    ⊎-elim
+    (λ v. ⊎-elim
+    (λ w. v .0 ∙ sym (w .0))
+    (λ w. absurd (free j (w .0) (sym (w .1) ∙ sym e ∙ v .1)))
+    (snoc-cases m x j k))
+    (λ v. ⊎-elim
+    (λ w. absurd (free i (v .0) (sym (v .1) ∙ e ∙ w .1)))
+    (λ w. d i j (v .0) (w .0) (sym (v .1) ∙ e ∙ w .1))
+    (snoc-cases m x j k))
+    (snoc-cases m x i h)
+
 pub grow : (sets m : List ℕ) (x : ℕ) → Partial sets m → bit (at sets (length m)) x ≡ true → Free m x → Partial sets (m ++ (x ∷ []))
 grow sets m x M nm free = record {
   named = λ i h. ⊎-elim
       (λ (w : (i ≡ length m) × (at (m ++ (x ∷ [])) i ≡ x)). rw (w .1, w .0) nm)
       (λ (w : (i < length m) × (at (m ++ (x ∷ [])) i ≡ at m i)). rw (w .1) (M .named i (w .0)))
       (snoc-cases m x i h);
-  distinct = λ i j h k e. ⊎-elim
-      (λ (v : (i ≡ length m) × (at (m ++ (x ∷ [])) i ≡ x)). ⊎-elim
-      (λ (w : (j ≡ length m) × (at (m ++ (x ∷ [])) j ≡ x)). v .0 ∙ sym (w .0))
-      (λ (w : (j < length m) × (at (m ++ (x ∷ [])) j ≡ at m j)). absurd (free j (w .0) (sym (w .1) ∙ sym e ∙ v .1)))
-      (snoc-cases m x j k))
-      (λ (v : (i < length m) × (at (m ++ (x ∷ [])) i ≡ at m i)). ⊎-elim
-      (λ (w : (j ≡ length m) × (at (m ++ (x ∷ [])) j ≡ x)). absurd (free i (v .0) (sym (v .1) ∙ e ∙ w .1)))
-      (λ (w : (j < length m) × (at (m ++ (x ∷ [])) j ≡ at m j)). M .distinct i j (v .0) (w .0) (sym (v .1) ∙ e ∙ w .1))
-      (snoc-cases m x j k))
-      (snoc-cases m x i h);
+  distinct = grow-distinct m x (M .distinct) free;
 }
 
 -- a matched clause takes a free variable: its old one comes free

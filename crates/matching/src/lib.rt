@@ -5,9 +5,10 @@ ghost use mathlib.Core.Bool.{false};
 ghost use mathlib.Core.List.{List};
 ghost use Prim.Native.Nat.{ℕ, _<_, _≤_};
 ghost use lib.ListN.{length, take};
+ghost use Rattle.lists.specs.Padded.{padded};
 ghost use Rattle.masks.specs.Mask.{bit, members};
-ghost use Rattle.matching.specs.Search.{see, scan, expand, search-from, begin, bound, no-links};
-ghost use Rattle.matching.specs.Inner.{at, search-of, Sound, Owned, Apart};
+ghost use Rattle.matching.specs.Search.{see, scan, expand, search-from, begin, rematch, bound, no-links};
+ghost use Rattle.matching.specs.Inner.{at, search-of, Sound, Owned, Apart, owners-of, Augments};
 
 // If complete, the first bytes of `table` are the variables of the clauses and `marked` is 0; otherwise they are 1 for a marked
 // clause and 0 for another, and `marked` clauses are marked. The bytes after those of the clauses are 0.
@@ -98,4 +99,19 @@ fn find_path(sets: &[u64; 96], owners: &[u8; 64], clause: u8, queue: &mut [u8; 9
         }
     }
     front
+}
+
+// Re-matches along the path from v back to the clause, so that the first clauses and this one are matched. Calls itself once a link.
+fn rematch(table: &mut [u8; 96], owners: &mut [u8; 64], links: &[u8; 64], clause: usize, v: usize)
+    requires { ⌜ Augments clause (now table) (now owners) (now links) v ⌝ }
+    ensures { λ _. ⌜ now (table .exit) ≡ padded 96 0 (rematch bound (now (links .entry)) (take clause (now (table .entry))) v) ⌝ }
+    ensures { λ _. ⌜ now (owners .exit) ≡ owners-of (rematch bound (now (links .entry)) (take clause (now (table .entry))) v) ⌝ }
+{
+    let c = wide(links[v]);
+    let old = wide(table[c]);
+    table[c] = v as u8;
+    owners[v] = (c + 1) as u8;
+    if c != clause {
+        rematch(table, owners, links, clause, old);
+    }
 }
