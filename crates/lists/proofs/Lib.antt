@@ -1,4 +1,5 @@
 pub mod EveryLaws
 pub mod PaddedLaws
 pub mod StoreLaws
+pub mod SublistLaws
 pub mod TestLaws

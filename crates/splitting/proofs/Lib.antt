@@ -1,0 +1,4 @@
+pub mod ClauseLaws
+pub mod CountLaws
+pub mod SearchLaws
+pub mod StrippingLaws
