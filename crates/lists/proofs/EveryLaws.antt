@@ -1,6 +1,8 @@
 -- Laws of what holds of every element of a list.
 use Prim.Native.Nat.{ℕ, zero, suc}
-use mathlib.Core.List.{List, [], _∷_, _++_}
+use mathlib.Core.List.{List, [], _∷_, _++_, List·Memᴰ, List·Memᴰ·cases-cons, List·Memᴰ·not-nil}
+use mathlib.Core.Logic.{⊎-elim}
+use mathlib.Core.Path.{_≡_, sym, subst}
 use lib.ListN.{replicate}
 use Rattle.lists.specs.Every.{Every}
 
@@ -14,3 +16,8 @@ module _ {A : Type 0} (P : A → Type 0) where
   pub every-replicate : (n : ℕ) (x : A) → P x → Every P (replicate n x)
   every-replicate zero x h = tt
   every-replicate (suc n) x h = (h, every-replicate n x h)
+
+  -- what holds of every element holds of an element
+  pub every-element : (xs : List A) (x : A) → Every P xs → List·Memᴰ x xs → P x
+  every-element [] x h m = absurd (List·Memᴰ·not-nil m)
+  every-element (y ∷ xs) x h m = ⊎-elim (λ (e : x ≡ y). subst P (sym e) (h .0)) (λ more. every-element xs x (h .1) more) (List·Memᴰ·cases-cons m)
