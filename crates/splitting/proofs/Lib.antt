@@ -5,3 +5,5 @@ pub mod StrippingLaws
 pub mod NodeLaws
 pub mod CoreLaws
 pub mod MatchedLaws
+pub mod ModelLaws
+pub mod SoundLaws

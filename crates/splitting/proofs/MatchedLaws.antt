@@ -44,7 +44,7 @@ sub-matched s M = sub-sets-matched (sub-map variables s) M
 
 -- ── Matchings by position ─────────────────────────────────────────────────────────────────────────────────────────────
 
-abbrev at : List (List Literal) → ℕ → List Literal
+abbrev pub at : List (List Literal) → ℕ → List Literal
 at cs i = getD cs i []
 
 variables-at : (cs : List (List Literal)) (i : ℕ) → getD (map variables cs) i 0 ≡ variables (at cs i)
@@ -52,11 +52,11 @@ unfolding variables
 variables-at cs i = List·getD-map variables cs i []
 
 -- each clause names its variable
-matches-names : (cs : List (List Literal)) (vs : List ℕ) → Matches (map variables cs) vs → (i : ℕ) → i < length cs → names (at cs i) (getD vs i 0) ≡ true
+pub matches-names : (cs : List (List Literal)) (vs : List ℕ) → Matches (map variables cs) vs → (i : ℕ) → i < length cs → names (at cs i) (getD vs i 0) ≡ true
 matches-names cs vs M i l =
     sym (bit-variables (at cs i) (getD vs i 0)) ∙ (let h = length-map cs variables in rw (variables-at cs i) at (M .named i (omega arith)))
 
-matches-apart : (cs : List (List Literal)) (vs : List ℕ) → Matches (map variables cs) vs
+pub matches-apart : (cs : List (List Literal)) (vs : List ℕ) → Matches (map variables cs) vs
     → (i j : ℕ) → i < length cs → j < length cs → getD vs i 0 ≡ getD vs j 0 → i ≡ j
 matches-apart cs vs M i j l k = let h = length-map cs variables in M .distinct i j (omega arith) (omega arith)
 
