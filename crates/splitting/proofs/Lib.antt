@@ -7,3 +7,4 @@ pub mod CoreLaws
 pub mod MatchedLaws
 pub mod ModelLaws
 pub mod SoundLaws
+pub mod TrialLaws

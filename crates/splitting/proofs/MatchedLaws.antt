@@ -47,7 +47,7 @@ sub-matched s M = sub-sets-matched (sub-map variables s) M
 abbrev pub at : List (List Literal) → ℕ → List Literal
 at cs i = getD cs i []
 
-variables-at : (cs : List (List Literal)) (i : ℕ) → getD (map variables cs) i 0 ≡ variables (at cs i)
+pub variables-at : (cs : List (List Literal)) (i : ℕ) → getD (map variables cs) i 0 ≡ variables (at cs i)
 unfolding variables
 variables-at cs i = List·getD-map variables cs i []
 
