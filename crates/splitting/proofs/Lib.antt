@@ -8,3 +8,4 @@ pub mod MatchedLaws
 pub mod ModelLaws
 pub mod SoundLaws
 pub mod TrialLaws
+pub mod ChoiceLaws
