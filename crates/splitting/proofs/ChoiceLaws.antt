@@ -16,18 +16,13 @@ use Rattle.splitting.specs.declared.Choice.{Choice}
 use Rattle.splitting.specs.Nodes.{assign, named, lowest-with}
 use Rattle.splitting.specs.Stripping.{stripped}
 use Rattle.splitting.specs.Choosing.{variables, trial, first-passing, candidates, among, listed, last, emptied, last-listed, by-left, by-remaining}
+use Rattle.splitting.proofs.Terms.{Below, NonePure, Sound, Satisfies, opened}
 use Rattle.splitting.proofs.ClauseLaws.{named-by, named-within}
 use Rattle.splitting.proofs.SearchLaws.{lowest-found}
-use Rattle.splitting.proofs.StrippingLaws.{Below, NonePure, left-sub, left-none-pure}
+use Rattle.splitting.proofs.StrippingLaws.{left-sub, left-none-pure}
 use Rattle.splitting.proofs.MatchedLaws.{splits}
-use Rattle.splitting.proofs.ModelLaws.{Satisfies}
-use Rattle.splitting.proofs.SoundLaws.{Sound, none-sound, left-sound, noted-some, last-of, last-named, last-none, emptied-unsatisfied}
+use Rattle.splitting.proofs.SoundLaws.{none-sound, left-sound, noted-some, last-of, last-named, last-none, emptied-unsatisfied}
 use Rattle.splitting.proofs.TrialLaws.{passes-matched, matched-passes, candidates-named, named-candidates, candidates-length, first-passes, first-open, first-cost}
-
--- the value b is open
-abbrev pub opened : Choice → Bool → Bool
-opened c false = c .false_open
-opened c true = c .true_open
 
 -- ── Something is left ─────────────────────────────────────────────────────────────────────────────────────────────────
 
@@ -40,7 +35,7 @@ left-chosen n left e fits low np M some =
     first-passes left (candidates n left) e (w .0) (named-candidates n left low (w .0) (w .1)) (matched-passes n left (w .0) fits low (w .2))
 
 module _ (n : ℕ) (ds : List (List Literal)) (fits : n ≤ 64) (low : Below n ds) where
-  left-below : Below n (stripped n ds .left)
+  pub left-below : Below n (stripped n ds .left)
   left-below v t = low v (named-within (stripped n ds .left) ds v (sub-within (left-sub n ds)) t)
 
   -- what is left of a sound list, not nothing, as left-chosen wants it

@@ -34,3 +34,9 @@ count-full f (suc n) h i l =
     (λ (t : f n ≡ true). ⊎-elim (λ (e : i ≡ n). rw e t) (λ (k : i < n). count-full f n (let z = (rw t at h) in omega arith) i k) (below-cases l))
     (λ (e : f n ≡ false). let q = count-le f n in let z = (rw e at h) in absurd (omega arith))
     (look (f n))
+
+-- nothing counts nothing
+pub count-none : (f : ℕ → Bool) (n : ℕ) → ((i : ℕ) → f i ≡ false) → count f n ≡ 0
+unfolding count
+count-none f zero none = refl
+count-none f (suc n) none = let e = count-none f n none in rw (none n) (omega arith)

@@ -1,3 +1,4 @@
+pub mod Terms
 pub mod ClauseLaws
 pub mod CountLaws
 pub mod SearchLaws
@@ -9,3 +10,6 @@ pub mod ModelLaws
 pub mod SoundLaws
 pub mod TrialLaws
 pub mod ChoiceLaws
+pub mod TrailLaws
+pub mod OpenLaws
+pub mod Theorems

@@ -22,8 +22,8 @@ use Rattle.formula.specs.Format.{Literal, names, names-as}
 use Rattle.splitting.specs.Nodes.{less, assign, occurs, named}
 use Rattle.splitting.specs.Stripping.{pure}
 use Rattle.splitting.specs.Choosing.{variables}
+use Rattle.splitting.proofs.Terms.{NonePure}
 use Rattle.splitting.proofs.ClauseLaws.{names-of, names-some, less-other, bit-variables, occurs-some, occurs-in, named-in, other-way}
-use Rattle.splitting.proofs.StrippingLaws.{NonePure}
 use Rattle.splitting.proofs.CoreLaws.{Core, core, Back, turn}
 
 -- ── Sub-lists ─────────────────────────────────────────────────────────────────────────────────────────────────────────

@@ -21,18 +21,11 @@ use Rattle.formula.specs.Models.{Model}
 use Rattle.splitting.specs.Nodes.{less, assign, remaining, occurs, named}
 use Rattle.splitting.specs.Stripping.{pure, not-naming, stripped}
 use Rattle.splitting.specs.Choosing.{variables}
+use Rattle.splitting.proofs.Terms.{Below, Satisfies, Agrees}
 use Rattle.splitting.proofs.ClauseLaws.{literal-names, names-literal, names-of, names-some, less-of, less-other, occurs-in, named-in, pure-ways}
-use Rattle.splitting.proofs.StrippingLaws.{Below, not-naming-in, strip-ind}
+use Rattle.splitting.proofs.StrippingLaws.{not-naming-in, strip-ind}
 use Rattle.splitting.proofs.NodeLaws.{assign-in, assign-of, named-assign, named-remaining}
 use Rattle.splitting.proofs.MatchedLaws.{matches-names, matches-apart}
-
--- every clause has a variable standing the way that the clause names it
-abbrev pub Satisfies : (ℕ → Bool) → List (List Literal) → Type 0
-Satisfies a cs = (c : List Literal) → List·Memᴰ c cs → (v : ℕ) × (names-as c v (a v) ≡ true)
-
--- every literal of the trail stands
-abbrev pub Agrees : (ℕ → Bool) → List Literal → Type 0
-Agrees a t = (l : Literal) → List·Memᴰ l t → a (l .variable) ≡ l .positive
 
 -- ── Assigning ─────────────────────────────────────────────────────────────────────────────────────────────────────────
 

@@ -14,8 +14,8 @@ use Rattle.matching.proofs.Counting.{look, clash, or-e}
 use Rattle.formula.specs.Format.{Literal, names, names-as, ClauseOver}
 use Rattle.splitting.specs.Nodes.{less, assign, remaining, occurs, named}
 use Rattle.splitting.specs.Choosing.{emptied}
+use Rattle.splitting.proofs.Terms.{Below}
 use Rattle.splitting.proofs.ClauseLaws.{names-of, names-some, names-none, literal-names, names-literal, less-of, occurs-some, occurs-in, named-some, named-in}
-use Rattle.splitting.proofs.StrippingLaws.{Below}
 
 -- ── One assignment ────────────────────────────────────────────────────────────────────────────────────────────────────
 

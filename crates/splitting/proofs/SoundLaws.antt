@@ -14,16 +14,13 @@ use Rattle.formula.specs.Format.{Literal, names, names-as}
 use Rattle.splitting.specs.Nodes.{less, assign, occurs, named, upward}
 use Rattle.splitting.specs.Stripping.{pure, stripped}
 use Rattle.splitting.specs.Choosing.{variables, among, listed, last, emptied}
+use Rattle.splitting.proofs.Terms.{Below, NonePure, Sound, Satisfies}
 use Rattle.splitting.proofs.ClauseLaws.{names-of, names-some, less-of, occurs-some, occurs-in, occurs-append, occurs-less, named-some, named-in, named-by, not-pure, pure-not, other-way}
 use Rattle.splitting.proofs.SearchLaws.{among-here, among-more, among-cases, among-none, among-append, among-left, among-right, last-among, last-append, upward-of, upward-in}
-use Rattle.splitting.proofs.StrippingLaws.{Below, NonePure, left-sub, left-none-pure, none-noted, left-keeps, noted-named, unnoted-left, none-noted-but}
+use Rattle.splitting.proofs.StrippingLaws.{left-sub, left-none-pure, none-noted, left-keeps, noted-named, unnoted-left, none-noted-but}
 use Rattle.splitting.proofs.NodeLaws.{Origin, assign-origin, assign-sub, assign-of, below-assign, emptied-some, emptied-none}
 use Rattle.splitting.proofs.MatchedLaws.{sub-matched}
-use Rattle.splitting.proofs.ModelLaws.{Satisfies, satisfies-assign, left-satisfies, matched-satisfies}
-
--- the source's 'pure literal matched', definition 5.2
-abbrev pub Sound : ℕ → List (List Literal) → Type 0
-Sound n cs = Matched (map variables (stripped n cs .left))
+use Rattle.splitting.proofs.ModelLaws.{satisfies-assign, left-satisfies, matched-satisfies}
 
 -- a matched list is sound
 pub matched-sound : (n : ℕ) (cs : List (List Literal)) → Matched (map variables cs) → Sound n cs

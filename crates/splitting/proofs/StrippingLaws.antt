@@ -13,17 +13,10 @@ use Rattle.formula.specs.Format.{Literal, names, names-as}
 use Rattle.splitting.specs.Nodes.{less, occurs, named, lowest-with}
 use Rattle.splitting.specs.Stripping.{pure, not-naming, Stripped, note, strip, stripped}
 use Rattle.splitting.specs.Choosing.{among, last}
+use Rattle.splitting.proofs.Terms.{Below, NonePure}
 use Rattle.splitting.proofs.ClauseLaws.{names-of, names-some, names-none, occurs-some, occurs-in, occurs-within, occurs-less, named-some, named-in, named-by, named-within, not-pure, pure-not, pure-ways, pure-named, other-way, outside}
 use Rattle.splitting.proofs.CountLaws.{count-drop}
 use Rattle.splitting.proofs.SearchLaws.{lowest-some, lowest-none, among-here, among-more, among-cases, among-none, last-among}
-
--- every named variable is below n
-abbrev pub Below : ℕ → List (List Literal) → Type 0
-Below n cs = (v : ℕ) → named cs v ≡ true → v < n
-
--- no variable is named one way only
-abbrev pub NonePure : List (List Literal) → Type 0
-NonePure cs = (v : ℕ) → pure cs v ≡ false
 
 -- ── The clauses that do not name a variable ───────────────────────────────────────────────────────────────────────────
 

@@ -16,9 +16,9 @@ use Rattle.formula.specs.Format.{Literal, names}
 use Rattle.splitting.specs.declared.Choice.{Choice}
 use Rattle.splitting.specs.Nodes.{assign, named}
 use Rattle.splitting.specs.Choosing.{variables, matched, succeeds, expansions-of, Trial, trial, both-open, first-passing, candidates, among}
+use Rattle.splitting.proofs.Terms.{Below}
 use Rattle.splitting.proofs.ClauseLaws.{variables-lt, named-by}
 use Rattle.splitting.proofs.SearchLaws.{among-here, among-more, among-cases, among-none, upward-of, upward-in, upward-length}
-use Rattle.splitting.proofs.StrippingLaws.{Below}
 use Rattle.splitting.proofs.NodeLaws.{below-assign, length-assign}
 use Rattle.splitting.proofs.MatchedLaws.{variables-at}
 

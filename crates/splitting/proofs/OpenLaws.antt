@@ -1,0 +1,72 @@
+-- What open values mean: models that agree with the trail.
+use Prim.Native.Nat.{ℕ, _≤_, _<_}
+use mathlib.Core.Path.{_≡_, refl, sym, _∙_, ap}
+use mathlib.Core.Bool.{Bool, true, false, not, _&&_}
+use mathlib.Core.List.{List, List·Memᴰ}
+use mathlib.Core.Logic.{⊎-elim}
+use native.Mathlib.Omega.{arith}
+use lib.ListN.{length}
+use lib.Dec.{ltb}
+use borrow.Author.Tests.{ltb-true, lt-ltb, not-true}
+use Rattle.lists.proofs.EveryLaws.{every-element}
+use Rattle.masks.specs.Mask.{bit, full}
+use Rattle.masks.proofs.BitLaws.{bit-full}
+use Rattle.matching.proofs.Counting.{look, and-i, and-r}
+use Rattle.formula.specs.Format.{Literal, names}
+use Rattle.formula.specs.Models.{Model}
+use Rattle.splitting.specs.Nodes.{assign, remaining}
+use Rattle.splitting.specs.Choosing.{by-remaining, unassigned-of, choice}
+use Rattle.splitting.proofs.Terms.{Below, Sound, Trail, Agrees, opened}
+use Rattle.splitting.proofs.NodeLaws.{named-remaining, below-remaining}
+use Rattle.splitting.proofs.ModelLaws.{satisfies-remaining, under, under-other, under-agrees, under-satisfies, given, given-same, given-satisfies, mask, mask-below, mask-model, model-satisfies}
+use Rattle.splitting.proofs.SoundLaws.{sound-satisfies}
+use Rattle.splitting.proofs.ChoiceLaws.{chosen-free, chosen-open, chosen-closed}
+use Rattle.splitting.proofs.TrailLaws.{trail-free}
+
+-- a sound node has a model that agrees with the trail and with one more value, if its own clauses are sound with it
+sound-agrees : (n : ℕ) (cs : List (List Literal)) (t : List Literal) (v : ℕ) (b : Bool) → Below n cs → Trail n t → v < n → names t v ≡ false
+    → Sound n (assign v b (remaining t cs)) → (a : ℕ) × Model n cs a × Agrees (bit a) t × (bit a v ≡ b)
+sound-agrees n cs t v b low T l new S =
+    let w = sound-satisfies n (assign v b (remaining t cs)) S in
+    let here : ℕ → Bool = under (given v b) (w .0) in
+    let all : ℕ → Bool = under t here in
+    (
+      mask n all,
+      mask-model n all cs low (under-satisfies here t cs (T .once) (given-satisfies (w .0) v b (remaining t cs) (w .1))),
+      λ k m.
+          mask-below n all (k .variable) (every-element (λ (k : Literal). k .variable < n) t k (T .below) m)
+          ∙ under-agrees t here (T .once) k m,
+      mask-below n all v l ∙ under-other t here v new ∙ given-same v b (w .0),
+    )
+
+module _ (n : ℕ) (cs : List (List Literal)) (t : List Literal) (fits : n ≤ 64) (low : Below n cs) (T : Trail n t) (S : Sound n (remaining t cs)) where
+  -- the chosen variable is one of the n and not yet assigned
+  pub choice-new : length t < n → (choice n (full n) cs t .variable < n) × (names t (choice n (full n) cs t .variable) ≡ false)
+  unfolding choice
+  choice-new short =
+      let w = chosen-free n (unassigned-of (full n) t) (remaining t cs) fits (below-remaining n t cs low) S
+      (λ v h. let r = named-remaining t cs v h in unassigned v (low v (r .0)) (r .1))
+      (let f = trail-free n t T short in (f .0, f .1, unassigned (f .0) (f .1) (f .2))) in
+      let v = by-remaining n (unassigned-of (full n) t) (remaining t cs) .variable in
+      (w .0, not-true (names t v) (and-r (bit (full n) v) (not (names t v)) (w .1)))
+    where
+      unassigned : (v : ℕ) → v < n → names t v ≡ false → unassigned-of (full n) t v ≡ true
+      unassigned v l f = and-i (bit (full n) v) (not (names t v)) (bit-full n v ∙ lt-ltb v n l) (rw f)
+
+  -- an open value has a model
+  pub open-model : length t < n → (b : Bool) → opened (choice n (full n) cs t) b ≡ true
+      → (a : ℕ) × Model n cs a × Agrees (bit a) t × (bit a (choice n (full n) cs t .variable) ≡ b)
+  unfolding choice
+  open-model short b o =
+      let w = choice-new short in
+      sound-agrees n cs t (choice n (full n) cs t .variable) b low T (w .0) (w .1)
+      (chosen-open n (unassigned-of (full n) t) (remaining t cs) fits (below-remaining n t cs low) S b o)
+
+  -- a value that a model has is open
+  pub model-open : (b : Bool) (a : ℕ) → Model n cs a → Agrees (bit a) t → bit a (choice n (full n) cs t .variable) ≡ b → opened (choice n (full n) cs t) b ≡ true
+  unfolding choice
+  model-open b a M g e =
+      ⊎-elim
+      (λ o. o)
+      (λ c. absurd (chosen-closed n (unassigned-of (full n) t) (remaining t cs) b c (bit a) (satisfies-remaining (bit a) t cs (model-satisfies n cs a M) g) e))
+      (look (opened (choice n (full n) cs t) b))
