@@ -1,0 +1,106 @@
+// The vectors of check: each answer compared with the expected one.
+ghost use Prim.Native.Nat.{_+_, _≤_};
+ghost use mathlib.Core.Path.{_≡_};
+ghost use lib.ListN.{length};
+ghost use Rattle.formula.specs.Check.{values};
+ghost use Rattle.cases.specs.Answers.{written, expected, same, agrees, run-of};
+use crate::corpus::eight_bytes;
+use crate::corpus::frame;
+use crate::corpus::two_bytes;
+use crate::corpus::wide;
+use crate::corpus::Framed;
+use crate::corpus::Vector;
+use crate::report;
+use crate::tally;
+use crate::tally::Tally;
+use formula::Verdict;
+
+// An answer of check as the corpus writes it: 0 no, 1 yes, 2 neither; then the refusal's number and place, else zeros.
+pub struct Answer {
+    pub says: u64,
+    pub number: u64,
+    pub place: u64,
+}
+
+// Where a run over a file stopped: at the file's end, or at a vector that runs past it.
+pub struct Run {
+    pub at: usize,
+    pub tally: Tally,
+}
+
+fn answer_of(v: Verdict) -> Answer
+    ensures { λ r. ⌜ r ≡ written (values v) ⌝ }
+{
+    match v {
+        Verdict::NotModel => Answer {
+            says: 0,
+            number: 0,
+            place: 0,
+        },
+        Verdict::Model => Answer {
+            says: 1,
+            number: 0,
+            place: 0,
+        },
+        Verdict::Refused(refusal) => Answer {
+            says: 2,
+            number: formula::number_of(refusal),
+            place: formula::place_of(refusal) as u64,
+        },
+    }
+}
+
+// The expected answer in the fields at an offset.
+fn expected_at(data: &[u8], at: usize) -> Answer
+    requires { ⌜ at + 12 ≤ length (now data) ⌝ }
+    ensures { λ r. ⌜ r ≡ expected (now (data .entry)) at ⌝ }
+{
+    Answer {
+        says: wide(data[at + 8]),
+        number: wide(data[at + 9]),
+        place: two_bytes(data, at + 10),
+    }
+}
+
+fn equal(a: Answer, b: Answer) -> bool
+    ensures { λ r. ⌜ r ≡ same a b ⌝ }
+{
+    a.says == b.says && a.number == b.number && a.place == b.place
+}
+
+// Whether check gives the expected answer; a difference is printed.
+fn check_vector(data: &[u8], v: Vector) -> bool
+    requires { ⌜ (v .start ≤ v .end) × (v .end + 12 ≤ length (now data)) ⌝ }
+    ensures { λ r. ⌜ r ≡ agrees (now (data .entry)) v ⌝ }
+{
+    let start = v.start;
+    let end = v.end;
+    let wanted = expected_at(data, end);
+    let got = answer_of(formula::check(&data[start..end], eight_bytes(data, end)));
+    if equal(wanted, got) {
+        return true;
+    }
+    report::difference(v.number, wanted, got);
+    false
+}
+
+// All vectors of a file, up to one that runs past its end.
+pub fn check_all(data: &[u8]) -> Run
+    ensures { λ r. ⌜ r ≡ run-of (now (data .entry)) ⌝ }
+    ensures { λ r. ⌜ (r .tally .vectors ≤ length (now (data .entry))) × (r .tally .differences ≤ length (now (data .entry))) ⌝ }
+{
+    let mut at: usize = 0;
+    let mut counts = tally::none();
+    while at < data.len() {
+        match frame(data, at, 12) {
+            Framed::Broken => {
+                return Run { at, tally: counts };
+            }
+            Framed::Whole(v) => {
+                counts = tally::count(counts, check_vector(data, v));
+                at = v.end + 12;
+            }
+        }
+    }
+    Run { at, tally: counts }
+}
