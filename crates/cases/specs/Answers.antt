@@ -24,10 +24,10 @@ abbrev pub written : Values → Answer
 written a = record { says = code (a .said); number = a .number; place = a .place }
 
 -- the expected answer, which follows the 8 bytes of the assignment
-unfoldable pub expected : List ℕ → ℕ → Answer
+abbrev pub expected : List ℕ → ℕ → Answer
 expected s at = record { says = getD s (at + 8) 0; number = getD s (at + 9) 0; place = two-bytes s (at + 10) }
 
-unfoldable pub same : Answer → Answer → Bool
+abbrev pub same : Answer → Answer → Bool
 same a b = eqb (a .says) (b .says) && eqb (a .number) (b .number) && eqb (a .place) (b .place)
 
 -- check of the vector's input and assignment has the expected answer

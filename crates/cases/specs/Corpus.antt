@@ -9,13 +9,13 @@ use Rattle.cases.specs.declared.corpus.Framed.{Framed}
 use Rattle.cases.specs.declared.corpus.Framed.the-variants.{Whole, Broken}
 
 -- little-endian numbers
-unfoldable pub two-bytes : List ℕ → ℕ → ℕ
+abbrev pub two-bytes : List ℕ → ℕ → ℕ
 two-bytes s at = getD s at 0 + 256 * getD s (at + 1) 0
 
-unfoldable pub four-bytes : List ℕ → ℕ → ℕ
+abbrev pub four-bytes : List ℕ → ℕ → ℕ
 four-bytes s at = two-bytes s at + 65536 * two-bytes s (at + 2)
 
-unfoldable pub eight-bytes : List ℕ → ℕ → ℕ
+abbrev pub eight-bytes : List ℕ → ℕ → ℕ
 eight-bytes s at = four-bytes s at + 4294967296 * four-bytes s (at + 4)
 
 -- the vector at an offset: its number, the length of its input, its input, its fields

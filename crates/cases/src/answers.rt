@@ -51,32 +51,38 @@ fn answer_of(v: Verdict) -> Answer
 }
 
 // The expected answer in the fields at an offset.
-fn expected_at(data: &[u8], at: usize) -> Answer
-    requires { ⌜ at + 12 ≤ length (now data) ⌝ }
-    ensures { λ r. ⌜ r ≡ expected (now (data .entry)) at ⌝ }
+fn expected_at(bytes: &[u8], at: usize) -> Answer
+    requires { ⌜ at + 12 ≤ length (now bytes) ⌝ }
+    ensures { λ r. ⌜ r ≡ expected (now (bytes .entry)) at ⌝ }
 {
     Answer {
-        says: wide(data[at + 8]),
-        number: wide(data[at + 9]),
-        place: two_bytes(data, at + 10),
+        says: wide(bytes[at + 8]),
+        number: wide(bytes[at + 9]),
+        place: two_bytes(bytes, at + 10),
     }
 }
 
 fn equal(a: Answer, b: Answer) -> bool
     ensures { λ r. ⌜ r ≡ same a b ⌝ }
 {
-    a.says == b.says && a.number == b.number && a.place == b.place
+    if a.says != b.says {
+        return false;
+    }
+    if a.number != b.number {
+        return false;
+    }
+    a.place == b.place
 }
 
 // Whether check gives the expected answer; a difference is printed.
-fn check_vector(data: &[u8], v: Vector) -> bool
-    requires { ⌜ (v .start ≤ v .end) × (v .end + 12 ≤ length (now data)) ⌝ }
-    ensures { λ r. ⌜ r ≡ agrees (now (data .entry)) v ⌝ }
+fn check_vector(bytes: &[u8], v: Vector) -> bool
+    requires { ⌜ (v .start ≤ v .end) × (v .end + 12 ≤ length (now bytes)) ⌝ }
+    ensures { λ r. ⌜ r ≡ agrees (now (bytes .entry)) v ⌝ }
 {
     let start = v.start;
     let end = v.end;
-    let wanted = expected_at(data, end);
-    let got = answer_of(formula::check(&data[start..end], eight_bytes(data, end)));
+    let wanted = expected_at(bytes, end);
+    let got = answer_of(formula::check(&bytes[start..end], eight_bytes(bytes, end)));
     if equal(wanted, got) {
         return true;
     }
@@ -85,19 +91,19 @@ fn check_vector(data: &[u8], v: Vector) -> bool
 }
 
 // All vectors of a file, up to one that runs past its end.
-pub fn check_all(data: &[u8]) -> Run
-    ensures { λ r. ⌜ r ≡ run-of (now (data .entry)) ⌝ }
-    ensures { λ r. ⌜ (r .tally .vectors ≤ length (now (data .entry))) × (r .tally .differences ≤ length (now (data .entry))) ⌝ }
+pub fn check_all(bytes: &[u8]) -> Run
+    ensures { λ r. ⌜ r ≡ run-of (now (bytes .entry)) ⌝ }
+    ensures { λ r. ⌜ (r .tally .vectors ≤ length (now (bytes .entry))) × (r .tally .differences ≤ length (now (bytes .entry))) ⌝ }
 {
     let mut at: usize = 0;
     let mut counts = tally::none();
-    while at < data.len() {
-        match frame(data, at, 12) {
+    while at < bytes.len() {
+        match frame(bytes, at, 12) {
             Framed::Broken => {
                 return Run { at, tally: counts };
             }
             Framed::Whole(v) => {
-                counts = tally::count(counts, check_vector(data, v));
+                counts = tally::count(counts, check_vector(bytes, v));
                 at = v.end + 12;
             }
         }

@@ -23,42 +23,42 @@ pub fn wide(x: u8) -> u64
     x as u64
 }
 
-pub fn two_bytes(data: &[u8], at: usize) -> u64
-    requires { ⌜ at + 2 ≤ length (now data) ⌝ }
-    ensures { λ r. ⌜ (r ≡ two-bytes (now (data .entry)) at) × (r < 65536) ⌝ }
+pub fn two_bytes(bytes: &[u8], at: usize) -> u64
+    requires { ⌜ at + 2 ≤ length (now bytes) ⌝ }
+    ensures { λ r. ⌜ (r ≡ two-bytes (now (bytes .entry)) at) × (r < 65536) ⌝ }
 {
-    wide(data[at]) + 256 * wide(data[at + 1])
+    wide(bytes[at]) + 256 * wide(bytes[at + 1])
 }
 
-pub fn four_bytes(data: &[u8], at: usize) -> u64
-    requires { ⌜ at + 4 ≤ length (now data) ⌝ }
-    ensures { λ r. ⌜ (r ≡ four-bytes (now (data .entry)) at) × (r < 4294967296) ⌝ }
+pub fn four_bytes(bytes: &[u8], at: usize) -> u64
+    requires { ⌜ at + 4 ≤ length (now bytes) ⌝ }
+    ensures { λ r. ⌜ (r ≡ four-bytes (now (bytes .entry)) at) × (r < 4294967296) ⌝ }
 {
-    two_bytes(data, at) + 65536 * two_bytes(data, at + 2)
+    two_bytes(bytes, at) + 65536 * two_bytes(bytes, at + 2)
 }
 
-pub fn eight_bytes(data: &[u8], at: usize) -> u64
-    requires { ⌜ at + 8 ≤ length (now data) ⌝ }
-    ensures { λ r. ⌜ r ≡ eight-bytes (now (data .entry)) at ⌝ }
+pub fn eight_bytes(bytes: &[u8], at: usize) -> u64
+    requires { ⌜ at + 8 ≤ length (now bytes) ⌝ }
+    ensures { λ r. ⌜ r ≡ eight-bytes (now (bytes .entry)) at ⌝ }
 {
-    four_bytes(data, at) + 4294967296 * four_bytes(data, at + 4)
+    four_bytes(bytes, at) + 4294967296 * four_bytes(bytes, at + 4)
 }
 
 // The vector at an offset, whose act has fields of a given size.
-pub fn frame(data: &[u8], at: usize, fields: usize) -> Framed
-    requires { ⌜ (at ≤ length (now data)) × (fields ≤ 65536) ⌝ }
-    ensures { λ r. ⌜ r ≡ framed (now (data .entry)) at fields ⌝ }
+pub fn frame(bytes: &[u8], at: usize, fields: usize) -> Framed
+    requires { ⌜ (at ≤ length (now bytes)) × (fields ≤ 65536) ⌝ }
+    ensures { λ r. ⌜ r ≡ framed (now (bytes .entry)) at fields ⌝ }
 {
-    let left = data.len() - at;
+    let left = bytes.len() - at;
     if left < 4 {
         return Framed::Broken;
     }
-    let size = two_bytes(data, at + 2) as usize;
+    let size = two_bytes(bytes, at + 2) as usize;
     if left < 4 + size + fields {
         return Framed::Broken;
     }
     Framed::Whole(Vector {
-        number: two_bytes(data, at),
+        number: two_bytes(bytes, at),
         start: at + 4,
         end: at + 4 + size,
     })
