@@ -1,3 +1,11 @@
+pub mod CheckLaws
+pub mod DecodeLaws
+pub mod ExtendsLaws
+pub mod FormatLaws
 pub mod KindLaws
+pub mod LengthLaws
 pub mod OneTo
+pub mod OutcomeLaws
 pub mod ReaderLaws
+pub mod Reading
+pub mod RefusalLaws

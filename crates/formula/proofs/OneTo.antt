@@ -1,10 +1,19 @@
 -- Laws of the test `one-to m`, for a number n that the code holds equal to the byte b.
 use Prim.Native.Nat.{ℕ, _≤_, _<_}
-use mathlib.Core.Bool.{true, false}
-use mathlib.Core.Path.{_≡_, sym}
+use mathlib.Core.Bool.{Bool, true, false, _&&_}
+use mathlib.Core.Path.{_≡_, refl}
 use native.Mathlib.Omega.{arith}
-use borrow.Author.Tests.{le-ltb, lt-ltb, le-leb, lt-leb}
+use borrow.Author.Tests.{le-ltb, lt-ltb, le-leb, lt-leb, ltb-true, leb-true}
+use lib.Dec.{ltb, leb}
 use Rattle.formula.specs.Decode.{one-to}
+
+and-left : (x y : Bool) → x && y ≡ true → x ≡ true
+and-left true y e = refl
+and-left false y e = e
+
+and-right : (x y : Bool) → x && y ≡ true → y ≡ true
+and-right true y e = e
+and-right false y e = cc
 
 -- 0 is not 1 to m
 pub one-to-zero : (m n b : ℕ) → n ≡ b → n ≡ 0 → one-to m b ≡ false
@@ -23,3 +32,11 @@ one-to-within m n b e z h =
     let l : 0 < b = omega arith in
     let g : b ≤ m = omega arith in
     rw (lt-ltb 0 b l, le-leb b m g)
+
+-- what is 1 to m is at least 1
+pub one-to-least : (m b : ℕ) → one-to m b ≡ true → 1 ≤ b
+one-to-least m b e = ltb-true 0 b (and-left (ltb 0 b) (leb b m) e)
+
+-- and at most m
+pub one-to-most : (m b : ℕ) → one-to m b ≡ true → b ≤ m
+one-to-most m b e = leb-true b m (and-right (ltb 0 b) (leb b m) e)

@@ -1,9 +1,9 @@
 -- 01: set-ups and permitted set-ups. An assignment (01: set-up) is a 64-bit mask: variable v is true if bit v is set.
-use Prim.Native.Nat.{ℕ, _^_, _≤_}
-use mathlib.Core.Bool.{Bool, true, false, _&&_, _||_, Bool·beq}
+use Prim.Native.Nat.{ℕ, _/_, _^_, _≤_}
+use mathlib.Core.Bool.{Bool, true, false, not, _&&_, _||_, Bool·beq}
 use mathlib.Core.List.{List, [], _∷_, List·Memᴰ}
 use mathlib.Core.Path.{_≡_}
-use lib.Dec.{leb}
+use lib.Dec.{eqb}
 use Rattle.masks.specs.Mask.{bit}
 use Rattle.formula.specs.Format.{Literal}
 
@@ -29,4 +29,4 @@ satisfied a (c ∷ cs) = holds a c && satisfied a cs
 
 -- some variable from n on is true
 abbrev pub stray : ℕ → ℕ → Bool
-stray n a = leb (2 ^ n) a
+stray n a = not (eqb (a / 2 ^ n) 0)

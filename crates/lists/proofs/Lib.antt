@@ -1,1 +1,2 @@
+pub mod EveryLaws
 pub mod PaddedLaws

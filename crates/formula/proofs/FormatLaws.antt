@@ -1,0 +1,83 @@
+-- Laws of the grammar: one more literal, one more clause.
+use Prim.Native.Nat.{ℕ, _<_}
+use mathlib.Core.Bool.{Bool, true, false, not, _||_, or-assoc, and-eq-true-iff, true≢false}
+use mathlib.Core.List.{List, [], _∷_, _++_, append-assoc}
+use mathlib.Core.Path.{_≡_, refl, sym, _∙_}
+use native.Mathlib.Decide.{ℕ-discrete}
+use native.Mathlib.Omega.{arith}
+use borrow.Author.Tests.{ne-eqb, not-true}
+use lib.Dec.{eqb}
+use lib.ListN.{length, length-append}
+use Rattle.lists.proofs.EveryLaws.{every-append}
+use Rattle.formula.specs.Format.{Literal, literals-bytes, clauses-bytes, names, distinct, ClauseOver, Sized}
+
+-- the test of equality goes either way
+pub eqb-comm : (a b : ℕ) → eqb a b ≡ eqb b a
+eqb-comm a b = go (ℕ-discrete a b)
+  where
+    go : Dec (a ≡ b) → eqb a b ≡ eqb b a
+    go (yes e) = rw e
+    go (no n) = ne-eqb a b n ∙ sym (ne-eqb b a (λ e. n (sym e)))
+
+-- the literals of two lists are written one list after the other
+pub literals-append : (c d : List Literal) → literals-bytes (c ++ d) ≡ literals-bytes c ++ literals-bytes d
+unfolding literals-bytes
+literals-append [] d = refl
+literals-append (l ∷ c) d = rw (literals-append c d, append-assoc)
+
+-- and so are the clauses
+pub clauses-append : (cs ds : List (List Literal)) → clauses-bytes (cs ++ ds) ≡ clauses-bytes cs ++ clauses-bytes ds
+unfolding clauses-bytes
+clauses-append [] ds = refl
+clauses-append (c ∷ cs) ds = rw (clauses-append cs ds, append-assoc)
+
+-- a variable is named by a part or by the other
+pub names-append : (c d : List Literal) (v : ℕ) → names (c ++ d) v ≡ names c v || names d v
+unfolding names
+names-append [] d v = refl
+names-append (l ∷ c) d v = rw (names-append c d v, or-assoc)
+
+neither : (a b : Bool) → (a || b) ≡ false → (a ≡ false) × (b ≡ false)
+neither true b e = absurd (true≢false e)
+neither false b e = (refl, e)
+
+-- in a clause with no variable twice the first variable is not named again, and the rest has none twice
+pub distinct-rest : (l : Literal) (c : List Literal) → distinct (l ∷ c) ≡ true → (names c (l .variable) ≡ false) × (distinct c ≡ true)
+unfolding distinct
+distinct-rest l c h =
+    let a : (not (names c (l .variable)) ≡ true) × (distinct c ≡ true) = and-eq-true-iff (not (names c (l .variable))) (distinct c) .0 h in
+    (not-true (names c (l .variable)) (a .0), a .1)
+
+-- a clause with no variable twice, and one more variable, has none twice
+pub distinct-more : (c : List Literal) (l : Literal) → distinct c ≡ true → names c (l .variable) ≡ false → distinct (c ++ (l ∷ [])) ≡ true
+unfolding distinct names
+distinct-more [] l h k = refl
+distinct-more (x ∷ c) l h k =
+    let a = distinct-rest x c h in
+    let b = neither (eqb (x .variable) (l .variable)) (names c (l .variable)) k in
+    rw (distinct-more c l (a .1) (b .1), names-append c (l ∷ []) (x .variable), a .0, eqb-comm (l .variable) (x .variable), b .0)
+
+-- in a clause with no variable twice a variable is not named before its literal
+pub distinct-fresh : (c : List Literal) (l : Literal) (d : List Literal) → distinct (c ++ (l ∷ d)) ≡ true → names c (l .variable) ≡ false
+unfolding names
+distinct-fresh [] l d h = refl
+distinct-fresh (x ∷ c) l d h =
+    let a = distinct-rest x (c ++ (l ∷ d)) h in
+    let b = neither (names c (x .variable)) (eqb (l .variable) (x .variable) || names d (x .variable)) (sym (names-append c (l ∷ d) (x .variable)) ∙ a .0) in
+    let e = neither (eqb (l .variable) (x .variable)) (names d (x .variable)) (b .1) in
+    rw (eqb-comm (x .variable) (l .variable), e .0, distinct-fresh c l d (a .1))
+
+-- one more literal, of a variable below n that the clause has not named
+pub clause-more : {n : ℕ} {c : List Literal} (l : Literal) → ClauseOver n c → l .variable < n → names c (l .variable) ≡ false → ClauseOver n (c ++ (l ∷ []))
+clause-more {n} {c} l o h k =
+    record { below = every-append (λ m. m .variable < n) c (l ∷ []) (o .below) (h, tt); once = distinct-more c l (o .once) k }
+
+-- one more clause, where there are fewer than 96
+pub sized-more : {n : ℕ} {cs : List (List Literal)} {c : List Literal} → Sized n cs → ClauseOver n c → length cs < 96 → Sized n (cs ++ (c ∷ []))
+sized-more {n} {cs} {c} z o h =
+    record {
+      some = z .some;
+      most = z .most;
+      few = simp length-append (omega arith);
+      clauses = every-append (ClauseOver n) cs (c ∷ []) (z .clauses) (o, tt);
+    }

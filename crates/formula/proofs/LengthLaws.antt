@@ -1,0 +1,130 @@
+-- The length of an encoded formula, and the longest one.
+use Prim.Native.Nat.{ℕ, zero, suc, _+_, _*_, _≤_, _<_}
+use mathlib.Core.Bool.{true, false, or-comm}
+use mathlib.Core.List.{List, [], _∷_}
+use mathlib.Core.Path.{_≡_, refl, ap, _∙_}
+use native.Mathlib.Omega.{arith}
+use borrow.Author.Tests.{ne-eqb}
+use lib.Dec.{eqb}
+use lib.ListN.{length, length-append, replicate, length-replicate}
+use Rattle.lists.specs.Every.{Every}
+use Rattle.lists.proofs.EveryLaws.{every-replicate}
+use Rattle.masks.specs.Mask.{bit, with, members}
+use Rattle.masks.proofs.BitLaws.{bit-none, bit-with}
+use Rattle.masks.proofs.MembersLaws.{members-le}
+use Rattle.masks.proofs.SizeLaws.{with-count, size-none}
+use Rattle.formula.specs.Format.{Literal, literal-bytes, literals-bytes, clause-bytes, clauses-bytes, formula-bytes, names, distinct, ClauseOver, Encodes}
+use Rattle.formula.proofs.FormatLaws.{eqb-comm, distinct-rest}
+
+-- the variables of a clause as a mask
+variables-of : List Literal → ℕ
+variables-of [] = 0
+variables-of (l ∷ c) = with (variables-of c) (l .variable)
+
+-- its members are the variables that the clause names
+variables-bit : (c : List Literal) (v : ℕ) → bit (variables-of c) v ≡ names c v
+unfolding variables-of names
+variables-bit [] v = bit-none v
+variables-bit (l ∷ c) v = bit-with (variables-of c) (l .variable) v ∙ rw (variables-bit c v, eqb-comm v (l .variable)) (or-comm (names c v) (eqb (l .variable) v))
+
+-- a clause over n variables with none twice has a literal for each member
+variables-count : (n : ℕ) (c : List Literal) → Every (λ l. l .variable < n) c → distinct c ≡ true → length (members (variables-of c) n) ≡ length c
+unfolding variables-of
+variables-count n [] h o = size-none n
+variables-count n (l ∷ c) h o =
+    let a = distinct-rest l c o in
+    with-count (variables-of c) (l .variable) n (variables-bit c (l .variable) ∙ a .0) (h .0) ∙ ap suc (variables-count n c (h .1) (a .1))
+
+-- so it has n literals at most
+pub clause-le : {n : ℕ} {c : List Literal} → ClauseOver n c → length c ≤ n
+clause-le {n} {c} o = omega (arith, variables-count n c (o .below) (o .once), members-le (variables-of c) n)
+
+-- a literal has two bytes
+pub literals-length : (c : List Literal) → length (literals-bytes c) ≡ 2 * length c
+unfolding literals-bytes literal-bytes
+literals-length [] = refl
+literals-length (l ∷ c) = omega (arith, literals-length c)
+
+-- a clause has one byte more
+pub clause-length : (c : List Literal) → length (clause-bytes c) ≡ 2 * length c + 1
+unfolding clause-bytes
+clause-length c = length-append (literals-bytes c) (4 ∷ []) ∙ ap (λ (k : ℕ). k + 1) (literals-length c)
+
+-- a formula has three bytes more than its clauses
+pub formula-length : (n : ℕ) (cs : List (List Literal)) → length (formula-bytes n cs) ≡ length (clauses-bytes cs) + 3
+unfolding formula-bytes
+formula-length n cs = omega (arith, length-append (clauses-bytes cs) (5 ∷ []))
+
+-- a clause over 48 variables or fewer has 97 bytes at most
+pub clauses-le : (n : ℕ) (cs : List (List Literal)) → n ≤ 48 → Every (ClauseOver n) cs → length (clauses-bytes cs) ≤ 97 * length cs
+unfolding clauses-bytes
+clauses-le n [] h k = omega arith
+clauses-le n (c ∷ cs) h k =
+    omega (arith, length-append (clause-bytes c) (clauses-bytes cs), clause-length c, clause-le (k .0), clauses-le n cs h (k .1))
+
+-- an encoded formula has 9315 bytes at most
+pub formula-le : {s : List ℕ} {n : ℕ} {cs : List (List Literal)} → Encodes s n cs → length s ≤ 9315
+formula-le {s} {n} {cs} e =
+    omega (arith, ap length (e .bytes), formula-length n cs, clauses-le n cs (e .sized .most) (e .sized .clauses), e .sized .few)
+
+-- the clause that names each variable below n as true
+all-true : ℕ → List Literal
+all-true zero = []
+all-true (suc n) = record { variable = n; positive = true } ∷ all-true n
+
+all-true-length : (n : ℕ) → length (all-true n) ≡ n
+unfolding all-true
+all-true-length zero = refl
+all-true-length (suc n) = ap suc (all-true-length n)
+
+all-true-below : (n m : ℕ) → n ≤ m → Every (λ l. l .variable < m) (all-true n)
+unfolding all-true
+all-true-below zero m h = tt
+all-true-below (suc n) m h = (h, all-true-below n m (omega arith))
+
+all-true-names : (n v : ℕ) → n ≤ v → names (all-true n) v ≡ false
+unfolding all-true names
+all-true-names zero v h = refl
+all-true-names (suc n) v h = rw (ne-eqb n v (omega arith), all-true-names n v (omega arith))
+
+all-true-once : (n : ℕ) → distinct (all-true n) ≡ true
+unfolding all-true distinct
+all-true-once zero = refl
+all-true-once (suc n) = rw (all-true-names n n (omega arith), all-true-once n)
+
+-- 96 clauses that each name the 48 variables
+pub fullest : List (List Literal)
+fullest = replicate 96 (all-true 48)
+
+-- each has 97 bytes
+all-true-clauses : (k : ℕ) → length (clauses-bytes (replicate k (all-true 48))) ≡ 97 * k
+unfolding clauses-bytes
+all-true-clauses zero = refl
+all-true-clauses (suc k) =
+    omega (
+      arith,
+      length-append (clause-bytes (all-true 48)) (clauses-bytes (replicate k (all-true 48))),
+      clause-length (all-true 48),
+      all-true-length 48,
+      all-true-clauses k,
+    )
+
+-- they have 9315 bytes
+pub fullest-length : length (formula-bytes 48 fullest) ≡ 9315
+unfolding fullest
+fullest-length = omega (arith, formula-length 48 fullest, all-true-clauses 96)
+
+-- and are a formula
+pub fullest-encoded : Encodes (formula-bytes 48 fullest) 48 fullest
+unfolding fullest
+fullest-encoded =
+    record {
+      bytes = refl;
+      sized =
+          record {
+            some = omega arith;
+            most = omega arith;
+            few = omega (arith, length-replicate 96 (all-true 48));
+            clauses = every-replicate (ClauseOver 48) 96 (all-true 48) (record { below = all-true-below 48 48 (omega arith); once = all-true-once 48 });
+          };
+    }

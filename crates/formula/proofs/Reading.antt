@@ -1,0 +1,45 @@
+-- The theorems of reading: the reader accepts the encoded formulas, and gives each refusal where the table says so.
+use Prim.Native.Nat.{ℕ, _≤_}
+use mathlib.Core.List.{List}
+use mathlib.Core.Path.{_≡_, sym, _∙_}
+use lib.ListN.{length}
+use Rattle.formula.specs.declared.Refusal.{Refusal}
+use Rattle.formula.specs.Format.{Literal, formula-bytes, Encodes}
+use Rattle.formula.specs.Decode.{readable, refused, decode}
+use Rattle.formula.specs.Refusals.{listing}
+use Rattle.formula.specs.Table.{Refuses}
+use Rattle.formula.proofs.LengthLaws.{formula-le, fullest, fullest-length, fullest-encoded}
+use Rattle.formula.proofs.OutcomeLaws.{decode-gives, decode-means}
+use Rattle.formula.proofs.RefusalLaws.{given-number}
+
+-- 'The sheet': what is accepted is an encoded formula, of that many variables and of those clauses
+pub accepted-only : (s : List ℕ) (n : ℕ) (cs : List (List Literal)) → decode s ≡ readable n cs → Encodes s n cs
+accepted-only s n cs e = rw e at (decode-means s)
+
+-- 'The sheet': every encoded formula is accepted, as the formula that it encodes
+pub accepted-all : (s : List ℕ) (n : ℕ) (cs : List (List Literal)) → Encodes s n cs → decode s ≡ readable n cs
+accepted-all s n cs = decode-gives s (readable n cs)
+
+-- 'The refusal table': a refusal is given only where its column 'given if' says so, and no check before it in the order fails
+pub refused-only : (s : List ℕ) (r : Refusal) → decode s ≡ refused r → Refuses s r
+refused-only s r e = rw e at (decode-means s)
+
+-- 'The refusal table': and wherever it says so
+pub refused-all : (s : List ℕ) (r : Refusal) → Refuses s r → decode s ≡ refused r
+refused-all s r = decode-gives s (refused r)
+
+-- 'the longest readable sheet has 9,315 bytes': none is longer
+pub longest : (s : List ℕ) (n : ℕ) (cs : List (List Literal)) → decode s ≡ readable n cs → length s ≤ 9315
+longest s n cs e = formula-le (accepted-only s n cs e)
+
+-- 'the longest readable sheet has 9,315 bytes': one has so many
+pub longest-exists : (s : List ℕ) × (cs : List (List Literal)) × (length s ≡ 9315) × (decode s ≡ readable 48 cs)
+longest-exists = (formula-bytes 48 fullest, fullest, fullest-length, accepted-all (formula-bytes 48 fullest) 48 fullest fullest-encoded)
+
+-- 'The sheet': bytes encode one formula at most
+pub unique : (s : List ℕ) (n n′ : ℕ) (cs cs′ : List (List Literal)) → Encodes s n cs → Encodes s n′ cs′ → (n ≡ n′) × (cs ≡ cs′)
+unique s n n′ cs cs′ e e′ = let q : readable n cs ≡ readable n′ cs′ = sym (accepted-all s n cs e) ∙ accepted-all s n′ cs′ e′ in (cc, cc)
+
+-- 'The refusal table', order: reading gives the refusals 2 to 9 only
+pub numbers : (s : List ℕ) (r : Refusal) → decode s ≡ refused r → (2 ≤ listing r .number) × (listing r .number ≤ 9)
+numbers s r e = given-number (refused-only s r e .given)
