@@ -1,3 +1,10 @@
+use Prim.Native.Nat.{_-_, _≤_}
+use mathlib.Core.Path.{sym, _∙_}
+use native.Mathlib.Omega.{arith}
+use lib.ListN.{length}
+use Rattle.cases.proofs.FrameLaws.{within}
+use Rattle.cases.proofs.RunLaws.{Stands, stands-first, stands-next, stands-broken, stands-done}
+use Rattle.cases.proofs.TallyLaws.{counted-bound}
 use borrow.Author.Needs.{needs}
 use Rattle.cases.proofs.answers.check_all.Statement.{statement}
 use Rattle.cases.proofs.answers.check_all.Tie as tie
@@ -9,10 +16,11 @@ use Rattle.cases.proofs.tally.count.Reads as count-reads
 use Rattle.cases.proofs.tally.none.Reads as none-reads
 
 abbrev Inv-loop : tie.InvT-loop
-Inv-loop bytes at₀ counts₀ at counts = ?
+Inv-loop bytes at₀ counts₀ at counts = 
+    (at ≤ length bytes) × (counts .vectors ≤ at) × (counts .differences ≤ at) × Stands bytes at counts
 
 abbrev μ-loop : tie.MeasureT-loop
-μ-loop bytes at₀ counts₀ at counts = ?
+μ-loop bytes at₀ counts₀ at counts = length bytes - at
 
 -- src/answers.rt:99:9
 none-requires : tie.Need-none-requires Inv-loop μ-loop
@@ -20,7 +28,7 @@ none-requires c κs = search needs
 
 -- src/answers.rt:100:5
 loop-holds : tie.Need-loop-holds Inv-loop μ-loop
-loop-holds c = search needs
+loop-holds c = rw (c .none .ensures) (omega arith, omega arith, omega arith, stands-first _)
 
 -- src/answers.rt:101:15
 frame-requires : tie.Need-frame-requires Inv-loop μ-loop
@@ -32,7 +40,13 @@ enum-told c = search needs
 
 -- src/answers.rt:103:17
 returns : tie.Need-returns Inv-loop μ-loop
-returns c = ?
+returns c = 
+    let l = c .before .before .before .before .loop in
+    (
+      stands-broken _ _ _ (l .inv .3) (c .before .before .before .loop-test .taken)
+      (sym (c .before .before .frame .ensures) ∙ c .enum-told .given .1),
+      (omega arith, omega arith),
+    )
 
 -- src/answers.rt:105:27
 enum-known-v : tie.Need-enum-known-v Inv-loop μ-loop
@@ -40,7 +54,9 @@ enum-known-v c = search needs
 
 -- src/answers.rt:106:47
 check-vector-requires : tie.Need-check-vector-requires Inv-loop μ-loop
-check-vector-requires c κs = search needs
+check-vector-requires c κs = 
+    let w = within _ _ _ _ (sym (c .before .before .before .frame .ensures) ∙ c .before .v .given .1) in
+    (w .ordered, w .whole)
 
 -- src/answers.rt:106:17
 count-requires : tie.Need-count-requires Inv-loop μ-loop
@@ -48,19 +64,34 @@ count-requires c κs = search needs
 
 -- src/answers.rt:107:22
 add-at : tie.Need-add-at Inv-loop μ-loop
-add-at c = search needs
+add-at c = 
+    let w = within _ _ _ _ (sym (c .before .before .before .before .before .before .frame .ensures) ∙ c .before .before .before .before .v .given .1) in
+    omega arith
 
 -- src/answers.rt:100:5
 loop-less : tie.Need-loop-less Inv-loop μ-loop
-loop-less c = search needs
+loop-less c = 
+    let w = within _ _ _ _ (sym (c .before .before .before .before .before .before .frame .ensures) ∙ c .before .before .before .before .v .given .1) in
+    omega arith
 
 -- src/answers.rt:100:5
 loop-again : tie.Need-loop-again Inv-loop μ-loop
-loop-again c = ?
+loop-again c = 
+    let e = sym (c .before .before .before .before .before .before .frame .ensures) ∙ c .before .before .before .before .v .given .1 in
+    let w = within _ _ _ _ e in
+    let l = c .before .before .before .before .before .before .before .before .loop in
+    let b = counted-bound (l .counts) (c .before .before .check-vector .result) in
+    rw (c .before .count .ensures) (
+      omega arith,
+      omega arith,
+      omega arith,
+      rw (c .before .before .check-vector .ensures)
+      (stands-next _ _ _ (l .inv .3) _ (c .before .before .before .before .before .before .before .loop-test .taken) e),
+    )
 
 -- src/answers.rt:94:1
 returns-2 : tie.Need-returns-2 Inv-loop μ-loop
-returns-2 c = ?
+returns-2 c = (stands-done _ _ _ (c .before .loop .inv .3) (c .loop-test .left), (omega arith, omega arith))
 
 pub check-all-spec : {M : Type 1} → statement M
 check-all-spec =

@@ -1,3 +1,5 @@
+use mathlib.Core.Path.{sym, _∙_}
+use Rattle.cases.proofs.AgreeLaws.{compared}
 use borrow.Author.Needs.{needs}
 use Rattle.cases.proofs.answers.check_vector.Statement.{statement}
 use Rattle.cases.proofs.answers.check_vector.Tie as tie
@@ -44,7 +46,13 @@ equal-requires c κs = search needs
 
 -- src/answers.rt:87:9
 returns : tie.Need-returns
-returns c = ?
+returns c = 
+    sym (c .if1 .taken) ∙ c .before .equal .ensures
+    ∙ compared _ _ _ _ _ _
+      (c .before .before .before .before .before .before .expected-at .ensures)
+      (c .before .before .answer-of .ensures)
+      (c .before .before .before .check .ensures)
+      (c .before .before .before .before .eight-bytes .ensures)
 
 -- src/answers.rt:89:5
 difference-requires : tie.Need-difference-requires
@@ -52,7 +60,13 @@ difference-requires c κs = search needs
 
 -- src/answers.rt:78:1
 returns-2 : tie.Need-returns-2
-returns-2 c = ?
+returns-2 c = 
+    sym (c .before .if1 .left) ∙ c .before .before .equal .ensures
+    ∙ compared _ _ _ _ _ _
+      (c .before .before .before .before .before .before .before .expected-at .ensures)
+      (c .before .before .before .answer-of .ensures)
+      (c .before .before .before .before .check .ensures)
+      (c .before .before .before .before .before .eight-bytes .ensures)
 
 pub check-vector-spec : {M : Type 1} → statement M
 check-vector-spec =
