@@ -1,7 +1,8 @@
 -- The vectors of check: the answer that the document fixes, compared with the one that the corpus has.
-use Prim.Native.Nat.{ℕ, zero, suc, _+_, _-_}
+use Prim.Native.Nat.{ℕ, zero, suc, _+_, _-_, _≤_}
 use mathlib.Core.Bool.{Bool, cond, _&&_}
 use mathlib.Core.List.{List}
+use mathlib.Core.Path.{_≡_}
 use lib.Dec.{eqb, ltb}
 use lib.ListN.{length, getD, take, drop}
 use Rattle.formula.specs.Check.{Said, said-yes, said-no, said-neither, checked}
@@ -49,3 +50,10 @@ run-from (suc k) s at t =
 
 unfoldable pub run-of : List ℕ → Run
 run-of s = run-from (length s) s 0 nothing
+
+-- the tally of a file: of some bytes, since no contract can say which a file has, and at most 65,536
+pub record OfFile (t : Tally) : Type 0 where
+  pub bytes : List ℕ
+  pub tally : t ≡ run-of bytes .tally
+  pub vectors : t .vectors ≤ 65536
+  pub differences : t .differences ≤ 65536

@@ -9,13 +9,13 @@ mod answers;
 mod corpus;
 mod report;
 mod tally;
-ghost use Prim.Native.Nat.{_≤_};
+ghost use Rattle.cases.specs.Answers.{OfFile};
 use answers::check_all;
 use tally::Tally;
 
-// The vectors of one file. What the file holds is not known here: only that it has at most 65,536 bytes.
+// The vectors of one file of check.
 fn run_check(name: &[u8]) -> Tally
-    ensures { λ r. ⌜ (r .vectors ≤ 65536) × (r .differences ≤ 65536) ⌝ }
+    ensures { λ r. ⌜ OfFile r ⌝ }
 {
     let file = os::open_read(name);
     if file < 0 {

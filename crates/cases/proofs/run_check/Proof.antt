@@ -1,3 +1,8 @@
+use native.Mathlib.Omega.{arith}
+use mathlib.Core.List.{[]}
+use mathlib.Core.Path.{refl, ap}
+use Rattle.cases.specs.declared.answers.Run.{Run}
+use Rattle.cases.specs.Answers.{run-from, run-of}
 use borrow.Author.Needs.{needs}
 use Rattle.cases.proofs.run_check.Statement.{statement}
 use Rattle.cases.proofs.run_check.Tie as tie
@@ -26,7 +31,8 @@ none-requires c κs = search needs
 
 -- src/main.rt:23:9
 returns : tie.Need-returns
-returns c = ?
+unfolding run-from run-of
+returns c = rw (c .none .ensures) (record { bytes = []; tally = refl; vectors = omega arith; differences = omega arith })
 
 -- src/main.rt:25:22
 large-buffer-requires : tie.Need-large-buffer-requires
@@ -62,7 +68,9 @@ broken-requires c κs = search needs
 
 -- src/main.rt:17:1
 returns-2 : tie.Need-returns-2
-returns-2 c = search needs
+returns-2 c =
+    let r = c .before .before .before .check-all in
+    record { bytes = _; tally = ap (λ (x : Run). x .tally) (r .ensures .0); vectors = omega arith; differences = omega arith }
 
 pub run-check-spec : {M : Type 1} → statement M
 run-check-spec =
