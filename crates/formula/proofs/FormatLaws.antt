@@ -9,15 +9,8 @@ use borrow.Author.Tests.{ne-eqb, not-true}
 use lib.Dec.{eqb}
 use lib.ListN.{length, length-append}
 use Rattle.lists.proofs.EveryLaws.{every-append}
+use Rattle.lists.proofs.TestLaws.{eqb-comm}
 use Rattle.formula.specs.Format.{Literal, literals-bytes, clauses-bytes, names, distinct, ClauseOver, Sized}
-
--- the test of equality goes either way
-pub eqb-comm : (a b : ℕ) → eqb a b ≡ eqb b a
-eqb-comm a b = go (ℕ-discrete a b)
-  where
-    go : Dec (a ≡ b) → eqb a b ≡ eqb b a
-    go (yes e) = rw e
-    go (no n) = ne-eqb a b n ∙ sym (ne-eqb b a (λ e. n (sym e)))
 
 -- the literals of two lists are written one list after the other
 pub literals-append : (c d : List Literal) → literals-bytes (c ++ d) ≡ literals-bytes c ++ literals-bytes d

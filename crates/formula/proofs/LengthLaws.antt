@@ -9,12 +9,13 @@ use lib.Dec.{eqb}
 use lib.ListN.{length, length-append, replicate, length-replicate}
 use Rattle.lists.specs.Every.{Every}
 use Rattle.lists.proofs.EveryLaws.{every-replicate}
+use Rattle.lists.proofs.TestLaws.{eqb-comm}
 use Rattle.masks.specs.Mask.{bit, with, members}
 use Rattle.masks.proofs.BitLaws.{bit-none, bit-with}
 use Rattle.masks.proofs.MembersLaws.{members-le}
 use Rattle.masks.proofs.SizeLaws.{with-count, size-none}
 use Rattle.formula.specs.Format.{Literal, literal-bytes, literals-bytes, clause-bytes, clauses-bytes, formula-bytes, names, distinct, ClauseOver, Encodes}
-use Rattle.formula.proofs.FormatLaws.{eqb-comm, distinct-rest}
+use Rattle.formula.proofs.FormatLaws.{distinct-rest}
 
 -- the variables of a clause as a mask
 variables-of : List Literal → ℕ

@@ -4,6 +4,7 @@ pub mod ExtendsLaws
 pub mod FormatLaws
 pub mod KindLaws
 pub mod LengthLaws
+pub mod MaskedLaws
 pub mod OneTo
 pub mod OutcomeLaws
 pub mod ReaderLaws

@@ -1,19 +1,12 @@
 -- Laws of the test `one-to m`, for a number n that the code holds equal to the byte b.
 use Prim.Native.Nat.{ℕ, _≤_, _<_}
-use mathlib.Core.Bool.{Bool, true, false, _&&_}
-use mathlib.Core.Path.{_≡_, refl}
+use mathlib.Core.Bool.{true, false}
+use mathlib.Core.Path.{_≡_}
 use native.Mathlib.Omega.{arith}
 use borrow.Author.Tests.{le-ltb, lt-ltb, le-leb, lt-leb, ltb-true, leb-true}
 use lib.Dec.{ltb, leb}
+use Rattle.lists.proofs.TestLaws.{and-left, and-right}
 use Rattle.formula.specs.Decode.{one-to}
-
-and-left : (x y : Bool) → x && y ≡ true → x ≡ true
-and-left true y e = refl
-and-left false y e = e
-
-and-right : (x y : Bool) → x && y ≡ true → y ≡ true
-and-right true y e = e
-and-right false y e = cc
 
 -- 0 is not 1 to m
 pub one-to-zero : (m n b : ℕ) → n ≡ b → n ≡ 0 → one-to m b ≡ false

@@ -28,6 +28,7 @@ use Rattle.formula.specs.Masked.{no-clause, with-literal, with-literals,
 use Rattle.formula.specs.declared.Outcome.the-variants.{Accepted}
 use Rattle.lists.specs.Padded.{padded}
 use Rattle.lists.proofs.PaddedLaws.{padded-set}
+use Rattle.lists.proofs.TestLaws.{or-swap, eqb-comm}
 
 -- ---- the masks of a clause
 
@@ -38,26 +39,12 @@ unfolding with-literals
 with-literals-last c [] l = refl
 with-literals-last c (k ∷ ls) l = with-literals-last (with-literal c (k .variable) (k .positive)) ls l
 
-or-middle : (a b c : Bool) → (a || c) || b ≡ (a || b) || c
-or-middle true b c = refl
-or-middle false true true = refl
-or-middle false true false = refl
-or-middle false false true = refl
-or-middle false false false = refl
-
 -- a literal more names its variable and what was named
 pub with-literal-names : (c : Clause) (v : ℕ) (sign : Bool) (i : ℕ) → bit (named (with-literal c v sign)) i ≡ bit (named c) i || eqb i v
 with-literal-names c v true i =
-    simp (bit-or, bit-pow) (or-middle (bit (c .positive) i) (bit (c .negative) i) (eqb i v))
+    simp (bit-or, bit-pow) (or-swap (bit (c .positive) i) (bit (c .negative) i) (eqb i v))
 with-literal-names c v false i =
     simp (bit-or, bit-pow) (sym (or-assoc (bit (c .positive) i) (bit (c .negative) i) (eqb i v)))
-
-eqb-sym : (a b : ℕ) → eqb a b ≡ eqb b a
-eqb-sym a b = go (eqb a b) refl
-  where
-    go : (t : Bool) → eqb a b ≡ t → t ≡ eqb b a
-    go true e = sym (eq-eqb b a (sym (eqb-true a b e)))
-    go false e = sym (ne-eqb b a (λ q. eqb-false a b e (sym q)))
 
 -- the masks name v if they named it before, or a literal does
 with-literals-names : (c : Clause) (ls : List Literal) (v : ℕ) → bit (named (with-literals c ls)) v ≡ bit (named c) v || names ls v
@@ -66,7 +53,7 @@ with-literals-names c [] v = sym (or-false (bit (named c) v))
 with-literals-names c (l ∷ ls) v =
     with-literals-names (with-literal c (l .variable) (l .positive)) ls v
     ∙ ap (λ (b : Bool). b || names ls v)
-    (with-literal-names c (l .variable) (l .positive) v ∙ ap (λ (b : Bool). bit (named c) v || b) (eqb-sym v (l .variable)))
+    (with-literal-names c (l .variable) (l .positive) v ∙ ap (λ (b : Bool). bit (named c) v || b) (eqb-comm v (l .variable)))
     ∙ or-assoc (bit (named c) v) (eqb (l .variable) v) (names ls v)
 
 -- the masks of a clause name what its literals name

@@ -1,7 +1,7 @@
 -- 01, 'The sheet': an encoded formula as a grammar. A formula is a number of variables and a list of clauses; a clause
 -- is the list of its literals in written order. Variables count from 0: variable v is 01's switch v + 1.
 use Prim.Native.Nat.{ℕ, _+_, _<_, _≤_}
-use mathlib.Core.Bool.{Bool, true, false, not, _&&_, _||_}
+use mathlib.Core.Bool.{Bool, true, false, not, _&&_, _||_, Bool·beq}
 use mathlib.Core.List.{List, [], _∷_, _++_}
 use mathlib.Core.Path.{_≡_}
 use lib.Dec.{eqb}
@@ -42,6 +42,11 @@ formula-bytes n cs = 1 ∷ n ∷ (clauses-bytes cs ++ (5 ∷ []))
 unfoldable pub names : List Literal → ℕ → Bool
 names [] v = false
 names (l ∷ c) v = eqb (l .variable) v || names c v
+
+-- the clause names v this way
+unfoldable pub names-as : List Literal → ℕ → Bool → Bool
+names-as [] v sign = false
+names-as (l ∷ c) v sign = eqb (l .variable) v && Bool·beq (l .positive) sign || names-as c v sign
 
 -- the clause names no variable twice
 unfoldable pub distinct : List Literal → Bool

@@ -1,10 +1,11 @@
 -- A formula as the code holds it: a clause is two masks, the clauses an array of 96 (01: set-ups and rules as 64-bit masks).
-use Prim.Native.Nat.{ℕ}
+use Prim.Native.Nat.{ℕ, _^_, _<_, _≤_}
 use mathlib.Core.Bool.{Bool, true, false}
 use mathlib.Core.List.{List, [], _∷_, map}
-use lib.ListN.{length}
+use mathlib.Core.Path.{_≡_}
+use lib.ListN.{length, getD}
 use Rattle.lists.specs.Padded.{padded}
-use Rattle.masks.specs.Mask.{with}
+use Rattle.masks.specs.Mask.{with, meets}
 use Rattle.formula.specs.declared.Clause.{Clause}
 use Rattle.formula.specs.declared.Decoded.{Decoded}
 use Rattle.formula.specs.declared.Formula.{Formula}
@@ -27,6 +28,11 @@ unfoldable pub with-literals : Clause → List Literal → Clause
 with-literals c [] = c
 with-literals c (l ∷ ls) = with-literals (with-literal c (l .variable) (l .positive)) ls
 
+-- the variables that the clause names as true, or as false
+abbrev pub side : Clause → Bool → ℕ
+side c true = c .positive
+side c false = c .negative
+
 -- the masks of a clause
 abbrev pub clause-of : List Literal → Clause
 clause-of c = with-literals no-clause c
@@ -41,3 +47,15 @@ held (refused r) = record { outcome = Refused r; formula = formula-of 0 [] }
 
 unfoldable pub decoded : List ℕ → Decoded
 decoded s = held (decode s)
+
+-- a clause over the variables below n, none of them named both ways
+pub record ClauseFits (n : ℕ) (c : Clause) : Type 0 where
+  pub below : (sign : Bool) → side c sign < 2 ^ n
+  pub apart : meets (c .positive) (c .negative) ≡ false
+
+-- a formula of 1 to 48 variables and at most 96 clauses over them
+pub record FormulaFits (f : Formula) : Type 0 where
+  pub some : 1 ≤ f .variables
+  pub most : f .variables ≤ 48
+  pub few : f .count ≤ 96
+  pub clauses : (i : ℕ) → i < f .count → ClauseFits (f .variables) (getD (f .clauses) i no-clause)

@@ -1,2 +1,3 @@
 pub mod EveryLaws
 pub mod PaddedLaws
+pub mod TestLaws

@@ -1,3 +1,12 @@
+-- `formula::all_hold` meets its contract. The loop's invariant: the clauses below i hold.
+use Prim.Native.Nat.{_≤_, _-_}
+use native.Mathlib.Omega.{arith}
+use mathlib.Core.Bool.{true}
+use mathlib.Core.Path.{_≡_, refl, sym, _∙_}
+use borrow.Author.Tests.{not-true, not-false}
+use Rattle.formula.specs.InnerCheck.{clauses-hold}
+use Rattle.formula.proofs.CheckLaws.{clauses-hold-more, clauses-hold-fails}
+use borrow.Author.Needs.{needs}
 use Rattle.formula.proofs.all_hold.Statement.{statement}
 use Rattle.formula.proofs.all_hold.Tie as tie
 use Rattle.formula.proofs.all_hold.Reads as reads
@@ -5,46 +14,47 @@ use Rattle.formula.proofs.all_hold.Lts as lts
 use Rattle.formula.proofs.holds.Reads as holds-reads
 
 abbrev Inv-loop : tie.InvT-loop
-Inv-loop assignment f i₀ i = ?
+Inv-loop assignment f i₀ i = (i ≤ f .count) × (clauses-hold assignment (f .clauses) i ≡ true)
 
 abbrev μ-loop : tie.MeasureT-loop
-μ-loop assignment f i₀ i = ?
+μ-loop assignment f i₀ i = f .count - i
 
 -- src/lib.rt:354:5
 loop-holds : tie.Need-loop-holds Inv-loop μ-loop
-loop-holds c = ?
+unfolding clauses-hold
+loop-holds c = (search needs, refl)
 
 -- src/lib.rt:355:19
 mul-holds : tie.Need-mul-holds Inv-loop μ-loop
-mul-holds c = ?
+mul-holds c = search needs
 
 -- src/lib.rt:355:19
 element-copy-out-holds : tie.Need-element-copy-out-holds Inv-loop μ-loop
-element-copy-out-holds c = ?
+element-copy-out-holds c = search needs
 
 -- src/lib.rt:355:13
 holds-requires : tie.Need-holds-requires Inv-loop μ-loop
-holds-requires c κs = ?
+holds-requires c κs = search needs
 
 -- src/lib.rt:356:13
 returns : tie.Need-returns Inv-loop μ-loop
-returns c = ?
+returns c = sym (clauses-hold-fails _ _ (c .before .before .before .before .loop .i) _ (c .before .before .before .loop-test .taken) (sym (c .before .holds .ensures) ∙ not-true _ (c .if1 .taken)))
 
 -- src/lib.rt:358:9
 add-i : tie.Need-add-i Inv-loop μ-loop
-add-i c = ?
+add-i c = search needs
 
 -- src/lib.rt:354:5
 loop-less : tie.Need-loop-less Inv-loop μ-loop
-loop-less c = ?
+loop-less c = search needs
 
 -- src/lib.rt:354:5
 loop-again : tie.Need-loop-again Inv-loop μ-loop
-loop-again c = ?
+loop-again c = (search needs, clauses-hold-more _ _ (c .before .before .before .before .loop .i) (c .before .before .before .before .loop .inv .1) (sym (c .before .holds .ensures) ∙ not-false _ (c .if1 .left)))
 
 -- src/lib.rt:349:1
 returns-2 : tie.Need-returns-2 Inv-loop μ-loop
-returns-2 c = ?
+returns-2 c = let e : c .before .loop .i ≡ c .before .before .args .t1 .count = omega arith in sym (rw e at (c .before .loop .inv .1))
 
 pub all-hold-spec : {M : Type 1} → statement M
 all-hold-spec =

@@ -1,3 +1,5 @@
+-- `formula::holds` meets its contract: by the first test, or else the second.
+use mathlib.Core.Path.{sym, _∙_}
 use borrow.Author.Needs.{needs}
 use Rattle.formula.proofs.holds.Statement.{statement}
 use Rattle.formula.proofs.holds.Tie as tie
@@ -16,11 +18,11 @@ minus-requires c κs = search needs
 
 -- src/lib.rt:342:1
 returns : tie.Need-returns
-returns c = ?
+returns c = c .if1 .taken ∙ rw (sym (c .before .meets .ensures) ∙ c .if1 .taken)
 
 -- src/lib.rt:342:1
 returns-2 : tie.Need-returns-2
-returns-2 c = ?
+returns-2 c = rw (sym (c .before .before .meets .ensures) ∙ c .before .if1 .left, c .minus .ensures)
 
 pub holds-spec : {M : Type 1} → statement M
 holds-spec = tie.close (tie.spec meets-requires minus-requires returns returns-2)

@@ -1,0 +1,42 @@
+-- Laws of tests: what a conjunction or a disjunction that holds says of its parts, and equality of numbers.
+use Prim.Native.Nat.{ℕ}
+use mathlib.Core.Bool.{Bool, true, false, _&&_, _||_}
+use mathlib.Core.Logic.{_⊎_, inl, inr}
+use mathlib.Core.Path.{_≡_, refl, sym, _∙_}
+use native.Mathlib.Decide.{ℕ-discrete}
+use lib.Dec.{eqb}
+use borrow.Author.Tests.{ne-eqb}
+
+-- both parts of a conjunction hold
+pub and-left : (x y : Bool) → x && y ≡ true → x ≡ true
+and-left true y e = refl
+and-left false y e = e
+
+pub and-right : (x y : Bool) → x && y ≡ true → y ≡ true
+and-right true y e = e
+and-right false y e = cc
+
+-- a conjunction of tests that hold holds
+pub and-both : (x y : Bool) → x ≡ true → y ≡ true → x && y ≡ true
+and-both x y p q = rw (p, q)
+
+-- a part of a disjunction holds
+pub or-cases : (x y : Bool) → x || y ≡ true → (x ≡ true) ⊎ (y ≡ true)
+or-cases true y e = inl refl
+or-cases false y e = inr e
+
+-- the last two of three may be swapped
+pub or-swap : (x y z : Bool) → (x || z) || y ≡ (x || y) || z
+or-swap true y z = refl
+or-swap false true true = refl
+or-swap false true false = refl
+or-swap false false true = refl
+or-swap false false false = refl
+
+-- the test of equality goes either way
+pub eqb-comm : (a b : ℕ) → eqb a b ≡ eqb b a
+eqb-comm a b = go (ℕ-discrete a b)
+  where
+    go : Dec (a ≡ b) → eqb a b ≡ eqb b a
+    go (yes e) = rw e
+    go (no n) = ne-eqb a b n ∙ sym (ne-eqb b a (λ e. n (sym e)))
