@@ -11,10 +11,10 @@ use Rattle.cases.specs.Answers.{written, expected, same, agrees}
 use Rattle.cases.specs.Corpus.{eight-bytes}
 
 pub compared :
-  (s : List ℕ) (v : Vector) (wanted got : Answer) (values : Values) (assignment : ℕ) →
-  wanted ≡ expected s (v .end) →
-  got ≡ written values →
-  values ≡ checked (take (v .end - v .start) (drop (v .start) s)) assignment →
-  assignment ≡ eight-bytes s (v .end) → same wanted got ≡ agrees s v
+    (s : List ℕ) (v : Vector) (wanted got : Answer) (values : Values) (assignment : ℕ) →
+    wanted ≡ expected s (v .end) →
+    got ≡ written values →
+    values ≡ checked (take (v .end - v .start) (drop (v .start) s)) assignment →
+    assignment ≡ eight-bytes s (v .end) → same wanted got ≡ agrees s v
 unfolding agrees
 compared s v wanted got values assignment w g e a = rw (w, g, e, a)

@@ -25,15 +25,15 @@ module _ (s : List ℕ) (at fields : ℕ) where
   framed-no-head h = rw (lt-ltb _ _ h)
 
   pub framed-cut :
-    4 ≤ length s - at → length s - at < 4 + two-bytes s (at + 2) + fields → framed s at fields ≡ Broken
+      4 ≤ length s - at → length s - at < 4 + two-bytes s (at + 2) + fields → framed s at fields ≡ Broken
   unfolding framed
   framed-cut h k = rw (le-ltb _ _ h, lt-ltb _ _ k)
 
   pub framed-whole :
-    4 ≤ length s - at →
-    4 + two-bytes s (at + 2) + fields ≤ length s - at →
-    framed s at fields
-    ≡ Whole (record { number = two-bytes s at; start = at + 4; end = at + 4 + two-bytes s (at + 2) })
+      4 ≤ length s - at →
+      4 + two-bytes s (at + 2) + fields ≤ length s - at →
+      framed s at fields
+      ≡ Whole (record { number = two-bytes s at; start = at + 4; end = at + 4 + two-bytes s (at + 2) })
   unfolding framed
   framed-whole h k = rw (le-ltb _ _ h, le-ltb _ _ k)
 
@@ -45,10 +45,10 @@ module _ (s : List ℕ) (at fields : ℕ) where
       cases (ltb (length s - at) 4)
       (λ t. absurd (never e (framed-no-head (ltb-true _ _ t))))
       (λ f.
-        let h : 4 ≤ length s - at = ltb-false _ _ f in
-        cases (ltb (length s - at) (4 + two-bytes s (at + 2) + fields))
-        (λ t. absurd (never e (framed-cut h (ltb-true _ _ t))))
-        (λ g.
-          let k : 4 + two-bytes s (at + 2) + fields ≤ length s - at = ltb-false _ _ g in
-          let a : v ≡ record { number = two-bytes s at; start = at + 4; end = at + 4 + two-bytes s (at + 2) } = cc (framed-whole h k) in
-          rw a (record { after = omega arith; ordered = omega arith; whole = omega arith })))
+      let h : 4 ≤ length s - at = ltb-false _ _ f in
+      cases (ltb (length s - at) (4 + two-bytes s (at + 2) + fields))
+      (λ t. absurd (never e (framed-cut h (ltb-true _ _ t))))
+      (λ g.
+      let k : 4 + two-bytes s (at + 2) + fields ≤ length s - at = ltb-false _ _ g in
+      let a : v ≡ record { number = two-bytes s at; start = at + 4; end = at + 4 + two-bytes s (at + 2) } = cc (framed-whole h k) in
+      rw a (record { after = omega arith; ordered = omega arith; whole = omega arith })))

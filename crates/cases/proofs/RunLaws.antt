@@ -21,16 +21,16 @@ run-done zero s at t h = refl
 run-done (suc k) s at t h = rw (le-ltb _ _ h)
 
 run-broken :
-  (k : ℕ) (s : List ℕ) (at : ℕ) (t : Tally) →
-  at < length s → framed s at 12 ≡ Broken → run-from k s at t ≡ record { at = at; tally = t }
+    (k : ℕ) (s : List ℕ) (at : ℕ) (t : Tally) →
+    at < length s → framed s at 12 ≡ Broken → run-from k s at t ≡ record { at = at; tally = t }
 unfolding run-from
 run-broken zero s at t h e = refl
 run-broken (suc k) s at t h e = rw (lt-ltb _ _ h, e)
 
 run-whole :
-  (k : ℕ) (s : List ℕ) (at : ℕ) (t : Tally) (v : Vector) →
-  at < length s →
-  framed s at 12 ≡ Whole v → run-from (suc k) s at t ≡ run-from k s (v .end + 12) (counted t (agrees s v))
+    (k : ℕ) (s : List ℕ) (at : ℕ) (t : Tally) (v : Vector) →
+    at < length s →
+    framed s at 12 ≡ Whole v → run-from (suc k) s at t ≡ run-from k s (v .end + 12) (counted t (agrees s v))
 unfolding run-from
 run-whole k s at t v h e = rw (lt-ltb _ _ h, e)
 

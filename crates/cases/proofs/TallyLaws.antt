@@ -6,7 +6,7 @@ use Rattle.cases.specs.declared.tally.Tally.{Tally}
 use Rattle.cases.specs.Tally.{counted}
 
 pub counted-bound :
-  (t : Tally) (b : Bool) →
-  (counted t b .vectors ≤ t .vectors + 1) × (counted t b .differences ≤ t .differences + 1)
+    (t : Tally) (b : Bool) →
+    (counted t b .vectors ≤ t .vectors + 1) × (counted t b .differences ≤ t .differences + 1)
 counted-bound t true = (omega arith, omega arith)
 counted-bound t false = (omega arith, omega arith)

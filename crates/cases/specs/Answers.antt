@@ -43,8 +43,8 @@ run-from zero s at t = record { at = at; tally = t }
 run-from (suc k) s at t =
     cond (ltb at (length s))
     (elim (framed s at 12) [
-      Whole v ↦ run-from k s (v .end + 12) (counted t (agrees s v))
-    | Broken ↦ record { at = at; tally = t }
+      | Whole v ↦ run-from k s (v .end + 12) (counted t (agrees s v))
+      | Broken ↦ record { at = at; tally = t }
     ])
     (record { at = at; tally = t })
 

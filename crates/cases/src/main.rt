@@ -9,6 +9,7 @@ mod answers;
 mod corpus;
 mod report;
 mod tally;
+
 ghost use Rattle.cases.specs.Answers.{OfFile};
 use answers::check_all;
 use tally::Tally;

@@ -1,3 +1,5 @@
+-- `check_all`: the invariant is that the run from the offset on, with the tally so far, gives what the whole run gives, and that no
+-- count is above the offset. The measure is the number of bytes that are left.
 use Prim.Native.Nat.{_-_, _≤_}
 use mathlib.Core.Path.{sym, _∙_}
 use native.Mathlib.Omega.{arith}
@@ -8,75 +10,57 @@ use Rattle.cases.proofs.TallyLaws.{counted-bound}
 use borrow.Author.Needs.{needs}
 use Rattle.cases.proofs.answers.check_all.Statement.{statement}
 use Rattle.cases.proofs.answers.check_all.Tie as tie
-use Rattle.cases.proofs.answers.check_all.Reads as reads
-use Rattle.cases.proofs.answers.check_all.Lts as lts
-use Rattle.cases.proofs.answers.check_vector.Reads as check-vector-reads
-use Rattle.cases.proofs.corpus.frame.Reads as frame-reads
-use Rattle.cases.proofs.tally.count.Reads as count-reads
-use Rattle.cases.proofs.tally.none.Reads as none-reads
 
 abbrev Inv-loop : tie.InvT-loop
-Inv-loop bytes at₀ counts₀ at counts = 
+Inv-loop bytes at₀ counts₀ at counts =
     (at ≤ length bytes) × (counts .vectors ≤ at) × (counts .differences ≤ at) × Stands bytes at counts
 
 abbrev μ-loop : tie.MeasureT-loop
 μ-loop bytes at₀ counts₀ at counts = length bytes - at
 
--- src/answers.rt:99:9
 none-requires : tie.Need-none-requires Inv-loop μ-loop
 none-requires c κs = search needs
 
--- src/answers.rt:100:5
 loop-holds : tie.Need-loop-holds Inv-loop μ-loop
 loop-holds c = rw (c .none .ensures) (omega arith, omega arith, omega arith, stands-first _)
 
--- src/answers.rt:101:15
 frame-requires : tie.Need-frame-requires Inv-loop μ-loop
 frame-requires c κs = search needs
 
--- src/answers.rt:103:17
 enum-told : tie.Need-enum-told Inv-loop μ-loop
 enum-told c = search needs
 
--- src/answers.rt:103:17
 returns : tie.Need-returns Inv-loop μ-loop
-returns c = 
-    let l = c .before .before .before .before .loop in
-    (
+returns c =
+    let l = c .before .before .before .before .loop in (
       stands-broken _ _ _ (l .inv .3) (c .before .before .before .loop-test .taken)
-      (sym (c .before .before .frame .ensures) ∙ c .enum-told .given .1),
+          (sym (c .before .before .frame .ensures) ∙ c .enum-told .given .1),
       (omega arith, omega arith),
     )
 
--- src/answers.rt:105:27
 enum-known-v : tie.Need-enum-known-v Inv-loop μ-loop
 enum-known-v c = search needs
 
--- src/answers.rt:106:47
 check-vector-requires : tie.Need-check-vector-requires Inv-loop μ-loop
-check-vector-requires c κs = 
+check-vector-requires c κs =
     let w = within _ _ _ _ (sym (c .before .before .before .frame .ensures) ∙ c .before .v .given .1) in
     (w .ordered, w .whole)
 
--- src/answers.rt:106:17
 count-requires : tie.Need-count-requires Inv-loop μ-loop
 count-requires c κs = search needs
 
--- src/answers.rt:107:22
 add-at : tie.Need-add-at Inv-loop μ-loop
-add-at c = 
+add-at c =
     let w = within _ _ _ _ (sym (c .before .before .before .before .before .before .frame .ensures) ∙ c .before .before .before .before .v .given .1) in
     omega arith
 
--- src/answers.rt:100:5
 loop-less : tie.Need-loop-less Inv-loop μ-loop
-loop-less c = 
+loop-less c =
     let w = within _ _ _ _ (sym (c .before .before .before .before .before .before .frame .ensures) ∙ c .before .before .before .before .v .given .1) in
     omega arith
 
--- src/answers.rt:100:5
 loop-again : tie.Need-loop-again Inv-loop μ-loop
-loop-again c = 
+loop-again c =
     let e = sym (c .before .before .before .before .before .before .frame .ensures) ∙ c .before .before .before .before .v .given .1 in
     let w = within _ _ _ _ e in
     let l = c .before .before .before .before .before .before .before .before .loop in
@@ -86,10 +70,9 @@ loop-again c =
       omega arith,
       omega arith,
       rw (c .before .before .check-vector .ensures)
-      (stands-next _ _ _ (l .inv .3) _ (c .before .before .before .before .before .before .before .loop-test .taken) e),
+          (stands-next _ _ _ (l .inv .3) _ (c .before .before .before .before .before .before .before .loop-test .taken) e),
     )
 
--- src/answers.rt:94:1
 returns-2 : tie.Need-returns-2 Inv-loop μ-loop
 returns-2 c = (stands-done _ _ _ (c .before .loop .inv .3) (c .loop-test .left), (omega arith, omega arith))
 

@@ -1,72 +1,54 @@
+-- `check_vector`: the comparison is that of `agrees`, since each side is what its function ensures.
 use mathlib.Core.Path.{sym, _∙_}
 use Rattle.cases.proofs.AgreeLaws.{compared}
 use borrow.Author.Needs.{needs}
 use Rattle.cases.proofs.answers.check_vector.Statement.{statement}
 use Rattle.cases.proofs.answers.check_vector.Tie as tie
-use Rattle.cases.proofs.answers.check_vector.Reads as reads
-use Rattle.cases.proofs.answers.check_vector.Lts as lts
-use Rattle.cases.proofs.answers.answer_of.Reads as answer-of-reads
-use Rattle.cases.proofs.answers.equal.Reads as equal-reads
-use Rattle.cases.proofs.answers.expected_at.Reads as expected-at-reads
-use Rattle.cases.proofs.corpus.eight_bytes.Reads as eight-bytes-reads
-use Rattle.cases.proofs.report.difference.Reads as difference-reads
-use Rattle.formula.proofs.check.Reads as check-reads
 
--- src/answers.rt:84:9
 expected-at-requires : tie.Need-expected-at-requires
 expected-at-requires c κs = search needs
 
--- src/answers.rt:85:40
 sub-check : tie.Need-sub-check
 sub-check c = search needs
 
--- src/answers.rt:85:40
 part-check-start : tie.Need-part-check-start
 part-check-start c = search needs
 
--- src/answers.rt:85:40
 part-check-end : tie.Need-part-check-end
 part-check-end c = search needs
 
--- src/answers.rt:85:60
 eight-bytes-requires : tie.Need-eight-bytes-requires
 eight-bytes-requires c κs = search needs
 
--- src/answers.rt:85:25
 check-requires : tie.Need-check-requires
 check-requires c κs = search needs
 
--- src/answers.rt:85:9
 answer-of-requires : tie.Need-answer-of-requires
 answer-of-requires c κs = search needs
 
--- src/answers.rt:86:8
 equal-requires : tie.Need-equal-requires
 equal-requires c κs = search needs
 
--- src/answers.rt:87:9
 returns : tie.Need-returns
-returns c = 
+returns c =
     sym (c .if1 .taken) ∙ c .before .equal .ensures
     ∙ compared _ _ _ _ _ _
-      (c .before .before .before .before .before .before .expected-at .ensures)
-      (c .before .before .answer-of .ensures)
-      (c .before .before .before .check .ensures)
-      (c .before .before .before .before .eight-bytes .ensures)
+    (c .before .before .before .before .before .before .expected-at .ensures)
+    (c .before .before .answer-of .ensures)
+    (c .before .before .before .check .ensures)
+    (c .before .before .before .before .eight-bytes .ensures)
 
--- src/answers.rt:89:5
 difference-requires : tie.Need-difference-requires
 difference-requires c κs = search needs
 
--- src/answers.rt:78:1
 returns-2 : tie.Need-returns-2
-returns-2 c = 
+returns-2 c =
     sym (c .before .if1 .left) ∙ c .before .before .equal .ensures
     ∙ compared _ _ _ _ _ _
-      (c .before .before .before .before .before .before .before .expected-at .ensures)
-      (c .before .before .before .answer-of .ensures)
-      (c .before .before .before .before .check .ensures)
-      (c .before .before .before .before .before .eight-bytes .ensures)
+    (c .before .before .before .before .before .before .before .expected-at .ensures)
+    (c .before .before .before .answer-of .ensures)
+    (c .before .before .before .before .check .ensures)
+    (c .before .before .before .before .before .eight-bytes .ensures)
 
 pub check-vector-spec : {M : Type 1} → statement M
 check-vector-spec =

@@ -1,18 +1,14 @@
+-- `equal`: each return by the tests that led to it.
 use borrow.Author.Tests.{eq-eqb, ne-eqb}
 use Rattle.cases.proofs.answers.equal.Statement.{statement}
 use Rattle.cases.proofs.answers.equal.Tie as tie
-use Rattle.cases.proofs.answers.equal.Reads as reads
-use Rattle.cases.proofs.answers.equal.Lts as lts
 
--- src/answers.rt:69:9
 returns : tie.Need-returns
 returns c = simp (ne-eqb _ _ (c .if1 .taken))
 
--- src/answers.rt:72:9
 returns-2 : tie.Need-returns-2
 returns-2 c = simp (eq-eqb _ _ (c .before .before .before .if1 .left), ne-eqb _ _ (c .if2 .taken))
 
--- src/answers.rt:65:1
 returns-3 : tie.Need-returns-3
 returns-3 c = rw (eq-eqb _ _ (c .before .before .before .before .before .if1 .left), eq-eqb _ _ (c .before .before .if2 .left))
 

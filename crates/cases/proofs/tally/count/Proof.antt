@@ -1,26 +1,20 @@
+-- `count`: by whether the answer agrees.
 use borrow.Author.Needs.{needs}
 use Rattle.cases.proofs.tally.count.Statement.{statement}
 use Rattle.cases.proofs.tally.count.Tie as tie
-use Rattle.cases.proofs.tally.count.Reads as reads
-use Rattle.cases.proofs.tally.count.Lts as lts
 
--- src/tally.rt:27:22
 add-t5 : tie.Need-add-t5
 add-t5 c = search needs
 
--- src/tally.rt:32:22
 add-t6 : tie.Need-add-t6
 add-t6 c = search needs
 
--- src/tally.rt:33:26
 add-t7 : tie.Need-add-t7
 add-t7 c = search needs
 
--- src/tally.rt:21:1
 returns : tie.Need-returns
 returns c = rw (c .before .if1 .taken)
 
--- src/tally.rt:21:1
 returns-2 : tie.Need-returns-2
 returns-2 c = rw (c .before .before .if1 .left)
 
