@@ -1,4 +1,4 @@
 pub mod AgreeLaws
 pub mod FrameLaws
 pub mod RunLaws
-pub mod TallyLaws
+pub mod TotalsLaws

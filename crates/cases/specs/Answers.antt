@@ -11,9 +11,9 @@ use Rattle.cases.specs.declared.answers.Answer.{Answer}
 use Rattle.cases.specs.declared.answers.Run.{Run}
 use Rattle.cases.specs.declared.corpus.Vector.{Vector}
 use Rattle.cases.specs.declared.corpus.Framed.the-variants.{Whole, Broken}
-use Rattle.cases.specs.declared.tally.Tally.{Tally}
+use Rattle.cases.specs.declared.totals.Totals.{Totals}
 use Rattle.cases.specs.Corpus.{two-bytes, eight-bytes, framed}
-use Rattle.cases.specs.Tally.{nothing, counted}
+use Rattle.cases.specs.Totals.{nothing, counted}
 
 -- how the corpus writes what an answer says
 abbrev pub code : Said → ℕ
@@ -38,22 +38,22 @@ agrees s v =
 
 -- the vectors from an offset on, up to the end or to one that runs past it. The first number is at least the count of the
 -- bytes that are left.
-unfoldable pub run-from : ℕ → List ℕ → ℕ → Tally → Run
-run-from zero s at t = record { at = at; tally = t }
+unfoldable pub run-from : ℕ → List ℕ → ℕ → Totals → Run
+run-from zero s at t = record { at = at; totals = t }
 run-from (suc k) s at t =
     cond (ltb at (length s))
     (elim (framed s at 12) [
       | Whole v ↦ run-from k s (v .end + 12) (counted t (agrees s v))
-      | Broken ↦ record { at = at; tally = t }
+      | Broken ↦ record { at = at; totals = t }
     ])
-    (record { at = at; tally = t })
+    (record { at = at; totals = t })
 
 unfoldable pub run-of : List ℕ → Run
 run-of s = run-from (length s) s 0 nothing
 
--- the tally of a file: of some bytes, since no contract can say which a file has, and at most 65,536
-pub record OfFile (t : Tally) : Type 0 where
+-- the totals of a file: those of some bytes, since no contract can say which a file has; each count is at most 65,536
+pub record OfFile (t : Totals) : Type 0 where
   pub bytes : List ℕ
-  pub tally : t ≡ run-of bytes .tally
+  pub totals : t ≡ run-of bytes .totals
   pub vectors : t .vectors ≤ 65536
   pub differences : t .differences ≤ 65536

@@ -1,3 +1,3 @@
 pub mod Answers
 pub mod Corpus
-pub mod Tally
+pub mod Totals

@@ -11,8 +11,8 @@ use crate::corpus::frame;
 use crate::corpus::two_bytes;
 use crate::corpus::wide;
 use crate::report;
-use crate::tally;
-use crate::tally::Tally;
+use crate::totals;
+use crate::totals::Totals;
 use formula::Verdict;
 
 // An answer of check as the corpus writes it: 0 no, 1 yes, 2 neither; then the refusal's number and place, else zeros.
@@ -25,7 +25,7 @@ pub struct Answer {
 // Where a run over a file stopped: at the file's end, or at a vector that runs past it.
 pub struct Run {
     pub at: usize,
-    pub tally: Tally,
+    pub totals: Totals,
 }
 
 fn answer_of(v: Verdict) -> Answer
@@ -93,20 +93,20 @@ fn check_vector(bytes: &[u8], v: Vector) -> bool
 // All vectors of a file, up to one that runs past its end.
 pub fn check_all(bytes: &[u8]) -> Run
     ensures { λ r. ⌜ r ≡ run-of (now (bytes .entry)) ⌝ }
-    ensures { λ r. ⌜ (r .tally .vectors ≤ length (now (bytes .entry))) × (r .tally .differences ≤ length (now (bytes .entry))) ⌝ }
+    ensures { λ r. ⌜ (r .totals .vectors ≤ length (now (bytes .entry))) × (r .totals .differences ≤ length (now (bytes .entry))) ⌝ }
 {
     let mut at: usize = 0;
-    let mut counts = tally::none();
+    let mut counts = totals::none();
     while at < bytes.len() {
         match frame(bytes, at, 12) {
             Framed::Broken => {
-                return Run { at, tally: counts };
+                return Run { at, totals: counts };
             }
             Framed::Whole(v) => {
-                counts = tally::count(counts, check_vector(bytes, v));
+                counts = totals::count(counts, check_vector(bytes, v));
                 at = v.end + 12;
             }
         }
     }
-    Run { at, tally: counts }
+    Run { at, totals: counts }
 }

@@ -8,20 +8,20 @@
 mod answers;
 mod corpus;
 mod report;
-mod tally;
+mod totals;
 
 ghost use Rattle.cases.specs.Answers.{OfFile};
 use answers::check_all;
-use tally::Tally;
+use totals::Totals;
 
 // The vectors of one file of check.
-fn run_check(name: &[u8]) -> Tally
+fn run_check(name: &[u8]) -> Totals
     ensures { λ r. ⌜ OfFile r ⌝ }
 {
     let file = os::open_read(name);
     if file < 0 {
         report::unopened(name);
-        return tally::none();
+        return totals::none();
     }
     let mut buffer = io::large_buffer();
     let n = io::read_full(file, &mut buffer);
@@ -30,12 +30,12 @@ fn run_check(name: &[u8]) -> Tally
     if run.at < n {
         report::broken(name, run.at);
     }
-    run.tally
+    run.totals
 }
 
 fn main() {
     let first = run_check(b"check0");
     let second = run_check(b"check1");
-    report::summary(b"check", tally::sum(first, second));
+    report::summary(b"check", totals::sum(first, second));
     report::summary(b"edges", run_check(b"edges"));
 }

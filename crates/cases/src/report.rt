@@ -1,6 +1,6 @@
 // The lines that the program prints.
 use crate::answers::Answer;
-use crate::tally::Tally;
+use crate::totals::Totals;
 use libc::STDOUT_FILENO;
 
 fn text(t: &[u8]) {
@@ -53,7 +53,7 @@ pub fn broken(name: &[u8], at: usize) {
     text(b"\n");
 }
 
-pub fn summary(name: &[u8], t: Tally) {
+pub fn summary(name: &[u8], t: Totals) {
     text(name);
     text(b": ");
     number(t.vectors);

@@ -1,4 +1,4 @@
--- `run_check`: the tally of no bytes where the file is not opened, else of those that were read.
+-- `run_check`: the totals of no bytes where the file is not opened, else of those that were read.
 use native.Mathlib.Omega.{arith}
 use mathlib.Core.List.{[]}
 use mathlib.Core.Path.{refl, ap}
@@ -19,7 +19,7 @@ none-requires c κs = search needs
 
 returns : tie.Need-returns
 unfolding run-from run-of
-returns c = rw (c .none .ensures) (record { bytes = []; tally = refl; vectors = omega arith; differences = omega arith })
+returns c = rw (c .none .ensures) (record { bytes = []; totals = refl; vectors = omega arith; differences = omega arith })
 
 large-buffer-requires : tie.Need-large-buffer-requires
 large-buffer-requires c κs = search needs
@@ -48,7 +48,7 @@ broken-requires c κs = search needs
 returns-2 : tie.Need-returns-2
 returns-2 c =
     let r = c .before .before .before .check-all in
-    record { bytes = _; tally = ap (λ (x : Run). x .tally) (r .ensures .0); vectors = omega arith; differences = omega arith }
+    record { bytes = _; totals = ap (λ (x : Run). x .totals) (r .ensures .0); vectors = omega arith; differences = omega arith }
 
 pub run-check-spec : {M : Type 1} → statement M
 run-check-spec =

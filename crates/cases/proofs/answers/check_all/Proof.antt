@@ -1,12 +1,12 @@
--- `check_all`: the invariant is that the run from the offset on, with the tally so far, gives what the whole run gives, and that no
--- count is above the offset. The measure is the number of bytes that are left.
+-- `check_all`: the invariant is that the run from the offset on, with the totals so far, gives what the whole run gives,
+-- and that no count is above the offset. The measure is the number of bytes that are left.
 use Prim.Native.Nat.{_-_, _≤_}
 use mathlib.Core.Path.{sym, _∙_}
 use native.Mathlib.Omega.{arith}
 use lib.ListN.{length}
 use Rattle.cases.proofs.FrameLaws.{within}
 use Rattle.cases.proofs.RunLaws.{Stands, stands-first, stands-next, stands-broken, stands-done}
-use Rattle.cases.proofs.TallyLaws.{counted-bound}
+use Rattle.cases.proofs.TotalsLaws.{counted-bound}
 use borrow.Author.Needs.{needs}
 use Rattle.cases.proofs.answers.check_all.Statement.{statement}
 use Rattle.cases.proofs.answers.check_all.Tie as tie
@@ -51,26 +51,29 @@ count-requires c κs = search needs
 
 add-at : tie.Need-add-at Inv-loop μ-loop
 add-at c =
-    let w = within _ _ _ _ (sym (c .before .before .before .before .before .before .frame .ensures) ∙ c .before .before .before .before .v .given .1) in
+    let v = c .before .before .before .before in
+    let w = within _ _ _ _ (sym (v .before .before .frame .ensures) ∙ v .v .given .1) in
     omega arith
 
 loop-less : tie.Need-loop-less Inv-loop μ-loop
 loop-less c =
-    let w = within _ _ _ _ (sym (c .before .before .before .before .before .before .frame .ensures) ∙ c .before .before .before .before .v .given .1) in
+    let v = c .before .before .before .before in
+    let w = within _ _ _ _ (sym (v .before .before .frame .ensures) ∙ v .v .given .1) in
     omega arith
 
 loop-again : tie.Need-loop-again Inv-loop μ-loop
 loop-again c =
-    let e = sym (c .before .before .before .before .before .before .frame .ensures) ∙ c .before .before .before .before .v .given .1 in
+    let v = c .before .before .before .before in
+    let e = sym (v .before .before .frame .ensures) ∙ v .v .given .1 in
     let w = within _ _ _ _ e in
-    let l = c .before .before .before .before .before .before .before .before .loop in
+    let l = v .before .before .before .before .loop in
     let b = counted-bound (l .counts) (c .before .before .check-vector .result) in
     rw (c .before .count .ensures) (
       omega arith,
       omega arith,
       omega arith,
       rw (c .before .before .check-vector .ensures)
-          (stands-next _ _ _ (l .inv .3) _ (c .before .before .before .before .before .before .before .loop-test .taken) e),
+          (stands-next _ _ _ (l .inv .3) _ (v .before .before .before .loop-test .taken) e),
     )
 
 returns-2 : tie.Need-returns-2 Inv-loop μ-loop

@@ -1,7 +1,7 @@
 -- `count`: by whether the answer agrees.
 use borrow.Author.Needs.{needs}
-use Rattle.cases.proofs.tally.count.Statement.{statement}
-use Rattle.cases.proofs.tally.count.Tie as tie
+use Rattle.cases.proofs.totals.count.Statement.{statement}
+use Rattle.cases.proofs.totals.count.Tie as tie
 
 add-t5 : tie.Need-add-t5
 add-t5 c = search needs
