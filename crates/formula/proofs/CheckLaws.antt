@@ -11,14 +11,13 @@ use lib.Bits.{bitAnd}
 use lib.Dec.{eqb}
 use lib.ListN.{length, length-map, getD}
 use borrow.Author.Tests.{eqb-true, eqb-false, eq-eqb, ne-eqb, not-true}
-use lib.Count.{trailingZeros}
 use Rattle.lists.specs.Padded.{padded}
 use Rattle.lists.proofs.PaddedLaws.{getD-padded}
 use Rattle.lists.proofs.TestLaws.{and-left, and-right, and-both, or-cases, or-swap}
 use Rattle.masks.specs.Mask.{bit, with, minus}
-use Rattle.masks.proofs.BitLaws.{bit-and, bit-minus, bit-with, bit-with-same, bit-none}
+use Rattle.masks.proofs.BitLaws.{bit-and, bit-minus, bit-with, bit-with-same}
 use Rattle.masks.proofs.MeetLaws.{both-are}
-use Rattle.masks.proofs.MembersLaws.{lowest-is}
+use Rattle.masks.proofs.MembersLaws.{some-member, member-some}
 use Rattle.formula.specs.declared.Clause.{Clause}
 use Rattle.formula.specs.declared.Formula.{Formula}
 use Rattle.formula.specs.declared.Refusal.{Refusal}
@@ -31,21 +30,13 @@ use Rattle.formula.specs.Masked.{no-clause, with-literal, with-literals,
 use Rattle.formula.specs.Models.{stands, holds, satisfied, stray}
 use Rattle.formula.proofs.MaskedLaws.{Accepts}
 
--- ---- a mask that is not empty
+-- ---- masks that are not empty
 
-self-lt : (m : ℕ) → m < 2 ^ m
-self-lt zero = omega arith
-self-lt (suc m) = omega (arith, self-lt m)
+some : (m : ℕ) → not (eqb m 0) ≡ true → (i : ℕ) × (bit m i ≡ true)
+some m e = some-member m (eqb-false m 0 (not-true (eqb m 0) e))
 
--- it has a member
-some-member : (m : ℕ) → not (eqb m 0) ≡ true → (i : ℕ) × (bit m i ≡ true)
-some-member m e =
-    let p : 0 < m = omega (arith, eqb-false m 0 (not-true (eqb m 0) e)) in
-    let l = lowest-is m m (self-lt m) p in
-    (trailingZeros m m, l .set)
-
-member-some : (m i : ℕ) → bit m i ≡ true → not (eqb m 0) ≡ true
-member-some m i e = ap not (ne-eqb m 0 (λ z. true≢false (sym e ∙ ap (λ (n : ℕ). bit n i) z ∙ bit-none i)))
+nonempty : (m i : ℕ) → bit m i ≡ true → not (eqb m 0) ≡ true
+nonempty m i e = ap not (ne-eqb m 0 (member-some m i e))
 
 -- m has the members of m′, and one more if b holds
 nonempty-or : (m m′ : ℕ) (b : Bool) → ((i : ℕ) → bit m i ≡ true → (bit m′ i ≡ true) ⊎ (b ≡ true)) → ((i : ℕ) → bit m′ i ≡ true → bit m i ≡ true)
@@ -53,15 +44,15 @@ nonempty-or : (m m′ : ℕ) (b : Bool) → ((i : ℕ) → bit m i ≡ true → 
 nonempty-or m m′ b down up new = go (not (eqb m′ 0)) b refl refl
   where
     go : (x y : Bool) → not (eqb m′ 0) ≡ x → b ≡ y → not (eqb m 0) ≡ x || y
-    go true y p q = let w = some-member m′ p in member-some m (w .0) (up (w .0) (w .1))
-    go false true p q = let w = new q in member-some m (w .0) (w .1)
+    go true y p q = let w = some m′ p in nonempty m (w .0) (up (w .0) (w .1))
+    go false true p q = let w = new q in nonempty m (w .0) (w .1)
     go false false p q = none (not (eqb m 0)) refl
       where
         none : (t : Bool) → not (eqb m 0) ≡ t → not (eqb m 0) ≡ false
         none false e = e
         none true e =
-            let w = some-member m e in
-            ⊎-elim (λ h. absurd (true≢false (sym (member-some m′ (w .0) h) ∙ p))) (λ h. absurd (true≢false (sym h ∙ q))) (down (w .0) (w .1))
+            let w = some m e in
+            ⊎-elim (λ h. absurd (true≢false (sym (nonempty m′ (w .0) h) ∙ p))) (λ h. absurd (true≢false (sym h ∙ q))) (down (w .0) (w .1))
 
 -- ---- a clause of masks, a literal more
 

@@ -1,12 +1,14 @@
 pub mod CheckLaws
 pub mod DecodeLaws
+pub mod Demands
 pub mod ExtendsLaws
 pub mod FormatLaws
 pub mod KindLaws
 pub mod LengthLaws
 pub mod MaskedLaws
+pub mod ModelLaws
 pub mod OneTo
 pub mod OutcomeLaws
 pub mod ReaderLaws
-pub mod Reading
 pub mod RefusalLaws
+pub mod VerdictLaws

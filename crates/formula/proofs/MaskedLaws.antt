@@ -27,7 +27,7 @@ use Rattle.formula.specs.Decode.{Decoding, readable, refused, decode}
 use Rattle.formula.specs.Format.{Literal, names, names-as, distinct, ClauseOver, Sized, Encodes}
 use Rattle.formula.specs.Masked.{no-clause, with-literal, with-literals, clause-of, side, formula-of, held, decoded, ClauseFits, FormulaFits}
 use Rattle.formula.proofs.FormatLaws.{distinct-rest}
-use Rattle.formula.proofs.Reading.{accepted-only}
+use Rattle.formula.proofs.OutcomeLaws.{decode-means}
 
 -- ---- members
 
@@ -145,12 +145,12 @@ pub record Accepts (s : List ℕ) (f : Formula) : Type 0 where
   pub fits : FormulaFits f
 
 accepts : (s : List ℕ) (x : Decoding) → decode s ≡ x → (held x) .outcome ≡ Accepted → Accepts s ((held x) .formula)
-accepts s (readable n cs) e o = record {
+accepts s (readable n cs) e o = let encoded : Encodes s n cs = rw e at (decode-means s) in record {
   variables = n;
   clauses = cs;
   reads = e;
   formula = refl;
-  fits = formula-fits (accepted-only s n cs e .sized);
+  fits = formula-fits (encoded .sized);
 }
 accepts s (refused r) e o = let z : _≡_ {A = ℕ} 0 1 = cc in absurd (omega arith)
 

@@ -5,6 +5,7 @@ use mathlib.Core.List.{List, [], _∷_, List·Memᴰ}
 use mathlib.Core.Path.{_≡_}
 use lib.Dec.{eqb}
 use Rattle.masks.specs.Mask.{bit}
+use Rattle.formula.specs.Decode.{readable, decode}
 use Rattle.formula.specs.Format.{Literal}
 
 -- a model (01: permitted set-up): every clause has a variable standing the way that the clause names it, and no variable
@@ -12,6 +13,30 @@ use Rattle.formula.specs.Format.{Literal}
 pub record Model (n : ℕ) (cs : List (List Literal)) (a : ℕ) : Type 0 where
   pub satisfies : (c : List Literal) → List·Memᴰ c cs → (l : Literal) × List·Memᴰ l c × (bit a (l .variable) ≡ l .positive)
   pub none-above : (v : ℕ) → n ≤ v → bit a v ≡ false
+
+-- a model of an input: the input is readable, and the assignment is a model of its formula
+pub record ModelOf (s : List ℕ) (a : ℕ) : Type 0 where
+  pub variables : ℕ
+  pub clauses : List (List Literal)
+  pub reads : decode s ≡ readable variables clauses
+  pub model : Model variables clauses a
+
+-- no model of an input: readable, no variable from n on true, and not a model
+pub record NoModelOf (s : List ℕ) (a : ℕ) : Type 0 where
+  pub variables : ℕ
+  pub clauses : List (List Literal)
+  pub reads : decode s ≡ readable variables clauses
+  pub none-above : (v : ℕ) → variables ≤ v → bit a v ≡ false
+  pub fails : Model variables clauses a → ⊥
+
+-- a stray variable (01: a switch above n that is on): the input is readable, and a variable from n on is true
+pub record StrayOf (s : List ℕ) (a : ℕ) : Type 0 where
+  pub variables : ℕ
+  pub clauses : List (List Literal)
+  pub reads : decode s ≡ readable variables clauses
+  pub variable : ℕ
+  pub above : variables ≤ variable
+  pub is-true : bit a variable ≡ true
 
 -- the same as tests: the variable stands the way that the literal names it
 abbrev pub stands : ℕ → Literal → Bool

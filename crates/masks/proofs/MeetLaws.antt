@@ -7,17 +7,15 @@ use borrow.Author.Tests.{eqb-true, eqb-false, not-true, not-false}
 use lib.Dec.{eqb}
 use lib.Count.{trailingZeros}
 use lib.Bits.{bitAnd, and-le-l, and-le-r, xor-self, xor-add-and}
+use Rattle.lists.proofs.TestLaws.{and-left, and-right}
 use Rattle.masks.specs.Mask.{bit, minus, meets}
 use Rattle.masks.proofs.BitLaws.{bit-and, bit-none, mask-ext, both-lt}
 use Rattle.masks.proofs.MembersLaws.{lowest-is}
 
 -- a member of what both have is a member of each
 pub both-are : (a b i : ℕ) → bit (bitAnd a b) i ≡ true → (bit a i ≡ true) × (bit b i ≡ true)
-both-are a b i e = go (bit a i) (bit b i) (sym (bit-and a b i) ∙ e)
-  where
-    go : (x y : Bool) → x && y ≡ true → (x ≡ true) × (y ≡ true)
-    go true y e = (refl, e)
-    go false y e = (e, cc)
+both-are a b i e =
+    let h : bit a i && bit b i ≡ true = sym (bit-and a b i) ∙ e in (and-left (bit a i) (bit b i) h, and-right (bit a i) (bit b i) h)
 
 -- masks that do not meet have no member in common
 pub apart-at : (a b i : ℕ) → meets a b ≡ false → bit a i ≡ true → bit b i ≡ false

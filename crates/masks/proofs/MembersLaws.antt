@@ -1,7 +1,7 @@
 -- Laws of the least member and of the list of members.
 use Prim.Native.Nat.{ℕ, zero, suc, _+_, _/_, _%_, _^_, _≤_, _<_, zero-le, suc-le-suc}
-use mathlib.Core.Path.{_≡_, refl, sym, _∙_}
-use mathlib.Core.Bool.{Bool, true, false}
+use mathlib.Core.Path.{_≡_, refl, sym, ap, _∙_}
+use mathlib.Core.Bool.{Bool, true, false, true≢false}
 use mathlib.Core.List.{List, [], _∷_, _++_, append-nil}
 use native.Mathlib.Nat.{mod-lt, zero-lt-suc, le-of-suc-le-suc, not-suc-le-zero}
 use native.Mathlib.Omega.{arith}
@@ -12,7 +12,7 @@ use lib.Count.{trailingZeros, under}
 use lib.ListN.{length, getD, length-append, List·getD-append}
 use lib.Seq.{getD-append-seam}
 use Rattle.masks.specs.Mask.{bit, without, only-if, members}
-use Rattle.masks.proofs.BitLaws.{bit-first, bit-suc, bit-above, bit-below, bit-without-same, bit-without-other}
+use Rattle.masks.proofs.BitLaws.{bit-first, bit-none, bit-suc, bit-above, bit-below, bit-without-same, bit-without-other}
 
 -- t is the least member of m, and below k
 pub record Lowest (m t k : ℕ) : Type 0 where
@@ -37,6 +37,18 @@ pub lowest-is : (k m : ℕ) → m < 2 ^ k → 0 < m → Lowest m (trailingZeros 
 unfolding trailingZeros
 lowest-is zero m h p = absurd (omega (arith, lt-one h))
 lowest-is (suc k) m h p = lowest-step k m (m % 2) (trailingZeros k (m / 2)) refl (λ e. lowest-is k (m / 2) (omega arith) (omega arith))
+
+self-lt : (m : ℕ) → m < 2 ^ m
+self-lt zero = omega arith
+self-lt (suc m) = omega (arith, self-lt m)
+
+-- so it has a member
+pub some-member : (m : ℕ) → (m ≡ 0 → ⊥) → (i : ℕ) × (bit m i ≡ true)
+some-member m e = (trailingZeros m m, lowest-is m m (self-lt m) (omega arith) .set)
+
+-- and only such a mask has one
+pub member-some : (m i : ℕ) → bit m i ≡ true → m ≡ 0 → ⊥
+member-some m i e z = true≢false (sym e ∙ ap (λ (n : ℕ). bit n i) z ∙ bit-none i)
 
 -- one more place, a member: it comes last
 pub members-yes : (m i : ℕ) → bit m i ≡ true → members m (i + 1) ≡ members m i ++ (i ∷ [])

@@ -1,16 +1,26 @@
--- The theorems of reading: the reader accepts the encoded formulas, and gives each refusal where the table says so.
+-- What reading and check owe to the demands. Demand 1: a formula is read to its end or refused by the number that the order
+-- of checks reaches first. Demand 2: an assignment is a model if every clause has a variable standing the way that it names
+-- it; check says so.
 use Prim.Native.Nat.{ℕ, _≤_}
 use mathlib.Core.List.{List}
-use mathlib.Core.Path.{_≡_, sym, _∙_}
+use mathlib.Core.Logic.{_↔_}
+use mathlib.Core.Path.{_≡_, sym, ap, _∙_}
 use lib.ListN.{length}
 use Rattle.formula.specs.declared.Refusal.{Refusal}
 use Rattle.formula.specs.Format.{Literal, formula-bytes, Encodes}
 use Rattle.formula.specs.Decode.{readable, refused, decode}
 use Rattle.formula.specs.Refusals.{listing}
 use Rattle.formula.specs.Table.{Refuses}
+use Rattle.formula.specs.declared.Refusal.the-variants.{StrayVariable}
+use Rattle.formula.specs.Check.{Answer, said-yes, said-no, refusal, checked}
+use Rattle.formula.specs.Masked.{formula-of, FormulaFits}
+use Rattle.formula.specs.Models.{ModelOf, NoModelOf, StrayOf}
+use Rattle.formula.proofs.CheckLaws.{checked-refused}
 use Rattle.formula.proofs.LengthLaws.{formula-le, fullest, fullest-length, fullest-encoded}
+use Rattle.formula.proofs.MaskedLaws.{formula-fits}
 use Rattle.formula.proofs.OutcomeLaws.{decode-gives, decode-means}
 use Rattle.formula.proofs.RefusalLaws.{given-number}
+use Rattle.formula.proofs.VerdictLaws.{says, says-yes, says-no, says-stray, checked-model, checked-no-model, checked-stray}
 
 -- 'The sheet': what is accepted is an encoded formula, of that many variables and of those clauses
 pub accepted-only : (s : List ℕ) (n : ℕ) (cs : List (List Literal)) → decode s ≡ readable n cs → Encodes s n cs
@@ -43,3 +53,23 @@ unique s n n′ cs cs′ e e′ = let q : readable n cs ≡ readable n′ cs′ 
 -- 'The refusal table', order: reading gives the refusals 2 to 9 only
 pub numbers : (s : List ℕ) (r : Refusal) → decode s ≡ refused r → (2 ≤ listing r .number) × (listing r .number ≤ 9)
 numbers s r e = given-number (refused-only s r e .given)
+
+-- 'n, 1 to 48', 'At most 96 rules': an accepted formula fits, its masks are below 2 ^ n and no variable is in both masks of a clause
+pub accepted-fits : (s : List ℕ) (n : ℕ) (cs : List (List Literal)) → decode s ≡ readable n cs → FormulaFits (formula-of n cs)
+accepted-fits s n cs e = formula-fits (accepted-only s n cs e .sized)
+
+-- 'Check answers yes if the set-up is permitted', whether or not the clauses can be matched
+pub check-yes : (s : List ℕ) (a : ℕ) → (checked s a .said ≡ said-yes) ↔ ModelOf s a
+check-yes s a = (says-yes (says s a), λ m. ap (λ (x : Answer). x .said) (checked-model s a m))
+
+-- 'and no if it isn't'
+pub check-no : (s : List ℕ) (a : ℕ) → (checked s a .said ≡ said-no) ↔ NoModelOf s a
+check-no s a = (says-no (says s a), λ m. ap (λ (x : Answer). x .said) (checked-no-model s a m))
+
+-- 12: 'a checked set-up has a switch above n on', place 0
+pub check-stray : (s : List ℕ) (a : ℕ) → (checked s a ≡ refusal (StrayVariable 0)) ↔ StrayOf s a
+check-stray s a = (says-stray (says s a), checked-stray s a)
+
+-- 'Check uses 2 to 9 and 12 only': an unreadable input gets its own refusal
+pub check-refused : (s : List ℕ) (r : Refusal) (a : ℕ) → decode s ≡ refused r → checked s a ≡ refusal r
+check-refused = checked-refused
