@@ -38,9 +38,9 @@ unfolding decode records read-record names
 named-twice = refl
 
 -- 01 01 02 01 05: 4 at 4
-pub rule-not-ended : refusal-of (decode (1 ∷ 1 ∷ 2 ∷ 1 ∷ 5 ∷ [])) ≡ number-at 4 4
+pub clause-not-ended : refusal-of (decode (1 ∷ 1 ∷ 2 ∷ 1 ∷ 5 ∷ [])) ≡ number-at 4 4
 unfolding decode records read-record names
-rule-not-ended = refl
+clause-not-ended = refl
 
 -- 01 01 05 00: 9 at 3
 pub tail-byte : refusal-of (decode (1 ∷ 1 ∷ 5 ∷ 0 ∷ [])) ≡ number-at 9 3
