@@ -339,7 +339,7 @@ pub fn place_of(refusal: Refusal) -> usize
 }
 
 // Some variable stands the way that the clause names it.
-pub fn holds(c: Clause, assignment: u64) -> bool
+fn holds(c: Clause, assignment: u64) -> bool
     ensures { λ r. ⌜ r ≡ clause-holds assignment c ⌝ }
 {
     masks::meets(c.positive, assignment) || masks::minus(c.negative, assignment) != 0
