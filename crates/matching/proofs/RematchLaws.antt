@@ -247,7 +247,7 @@ owners-grow m owners v d free lv e =
 
 -- ── The arrays ────────────────────────────────────────────────────────────────────────────────────────────────────────
 
-augments-of : (n : ℕ) (table owners links : List ℕ) (v : ℕ) (m : List ℕ) → take n table ≡ m → n < 96 → table ≡ padded 96 0 m
+pub augments-of : (n : ℕ) (table owners links : List ℕ) (v : ℕ) (m : List ℕ) → take n table ≡ m → n < 96 → table ≡ padded 96 0 m
     → ((i : ℕ) → i < length m → at m i < 64) → set owners v 0 ≡ owners-of m → Distinct m → Free m v → v < 64 → distance bound links m v ≤ bound
     → Augments n table owners links v
 augments-of n table owners links v m e room held low owned distinct free variable path = record {

@@ -39,12 +39,12 @@ listing f (suc n) = listing f n ++ (f n ∷ [])
 abbrev pub owners-of : List ℕ → List ℕ
 owners-of matching = listing (owner matching) 64
 
--- the arrays that hold a matching of the first n clauses, and its owners
-pub record Tables (n : ℕ) (table owners : List ℕ) : Type 0 where
+-- the arrays hold a matching of the first n clauses, and its owners
+pub record Tables (sets : List ℕ) (n : ℕ) (table owners : List ℕ) : Type 0 where
   pub room : n ≤ 96
   pub held : table ≡ padded 96 0 (take n table)
-  pub low : (i : ℕ) → i < length (take n table) → at (take n table) i < 64
   pub owned : owners ≡ owners-of (take n table)
+  pub partial : Partial sets (take n table)
 
 -- ── The search ────────────────────────────────────────────────────────────────────────────────────────────────────────
 
@@ -101,13 +101,20 @@ augmented sets matching =
     let s = next-search sets matching in
     cond (eqb (s .free) 64) matching (rematch bound (s .links) matching (s .free))
 
--- the numbers, the queue and the tables after the next clause's search
+-- the numbers and the arrays after the next clause's search; the queue matters only after a failure
 pub record Augmented (sets matching : List ℕ) (front : Front) (queue table owners : List ℕ) : Type 0 where
   pub head : front .head ≡ next-search sets matching .taken
   pub free : front .free ≡ next-search sets matching .free
-  pub taken : take (front .head) queue ≡ take (next-search sets matching .taken) (next-search sets matching .queue)
+  pub taken : front .free ≡ 64 → take (front .head) queue ≡ take (next-search sets matching .taken) (next-search sets matching .queue)
+  pub long : length queue ≡ 96
   pub table-is : table ≡ padded 96 0 (augmented sets matching)
   pub owners-are : owners ≡ owners-of (augmented sets matching)
+
+-- what is asked of the clauses: at most 96, whose variables are below 64
+pub record Clauses (sets : List ℕ) (count : ℕ) : Type 0 where
+  pub few : count ≤ 96
+  pub present : count ≤ length sets
+  pub words : Words sets
 
 -- an outcome for n clauses as the result of match_sets
 unfoldable pub packed : ℕ → Outcome → Matching
