@@ -123,3 +123,84 @@ match-take n sets (suc k) m e l =
 pub outcome-take : (n : ℕ) (sets : List ℕ) → n ≤ length sets → outcome (take n sets) ≡ match-rest n sets [] 0
 unfolding outcome
 outcome-take n sets l = rw (length-take-le n sets l) (match-take n sets n [] 0 (omega arith))
+
+-- ── One clause ────────────────────────────────────────────────────────────────────────────────────────────────────────
+
+module _ (sets : List ℕ) (n : ℕ) (table owners : List ℕ) (T : Tables sets n table owners) (W : Words sets) where
+  pub table-long : (length table ≡ 96) × (length (take n table) ≡ n)
+  table-long = held-length 96 0 table n (T .room) (T .held)
+
+  variables-low : (i : ℕ) → i < length (take n table) → at (take n table) i < 64
+  variables-low i h = bit-below 64 (at (take n table) i) (at sets i) (word-all sets W i) (T .partial .named i h)
+
+  owners-at : at owners ≡ owner (take n table)
+  owners-at = ap at (T .owned) ∙ owners-fun (take n table) variables-low
+
+  pub owners-few : Owned owners
+  owners-few v = let e = ap (λ (f : ℕ → ℕ). f v) owners-at in let l = owner-le (take n table) v in omega (arith, table-long .1, T .room)
+
+  -- the search in arrays is the next clause's
+  pub search-is : search-from bound sets (at owners) (begin n) ≡ next-search sets (take n table)
+  search-is =
+      ap (λ (f : ℕ → ℕ). search-from bound sets f (begin n)) owners-at
+      ∙ ap (λ (k : ℕ). search-from bound sets (owner (take n table)) (begin k)) (sym (table-long .1))
+
+  pub next-ended : Ended sets (take n table) (T .partial) (next-search sets (take n table))
+  next-ended = search-next sets (take n table) (T .partial) W
+
+  module _ (front : Front) (queue links : List ℕ) (e : search-of front queue links ≡ next-search sets (take n table)) where
+    free-is : front .free ≡ next-search sets (take n table) .free
+    free-is = ap (λ (s : Search). s .free) e
+
+    links-are : links ≡ next-search sets (take n table) .links
+    links-are = ap (λ (s : Search). s .links) e
+
+    -- after a search that found a path
+    pub path-ready : n < 96 → (front .free ≡ 64 → ⊥) → Augments n table owners links (front .free)
+    path-ready l ne =
+        let s = next-search sets (take n table) in
+        let R : Reached sets (take n table) (T .partial) s = ⊎-elim (λ S. absurd (ne (free-is ∙ S .none))) (λ R. R) (next-ended .0) in
+        let owner-none : at owners (s .free) ≡ 0 = ap (λ (f : ℕ → ℕ). f (s .free)) owners-at ∙ free-owner (take n table) (s .free) (R .1 .0 .free) in
+        rw (free-is, links-are)
+        (augments-of n table owners (s .links) (s .free) (take n table) refl l (T .held) variables-low
+        (ap (set owners (s .free)) (sym owner-none) ∙ set-getD owners (s .free) 0 ∙ T .owned)
+        (T .partial .distinct) (R .1 .0 .free) (R .0)
+        (path-distance sets (s .links) (take n table) (s .free) (R .1 .0) bound (R .1 .1)))
+
+    pub augmented-path : (table′ owners′ : List ℕ) → (front .free ≡ 64 → ⊥) → length queue ≡ 96
+        → table′ ≡ padded 96 0 (rematch bound links (take n table) (front .free)) → owners′ ≡ owners-of (rematch bound links (take n table) (front .free))
+        → Augmented sets (take n table) front queue table′ owners′
+    unfolding augmented
+    augmented-path table′ owners′ ne l et eo =
+        let s = next-search sets (take n table) in
+        let f : eqb (s .free) 64 ≡ false = ne-eqb (s .free) 64 (λ q. ne (free-is ∙ q)) in
+        let r : rematch bound links (take n table) (front .free) ≡ rematch bound (s .links) (take n table) (s .free) =
+        rw (free-is, links-are) in
+        record {
+          head = ap (λ (s : Search). s .taken) e;
+          free = free-is;
+          taken = λ z. absurd (ne z);
+          long = l;
+          table-is = rw f (et ∙ ap (padded 96 0) r);
+          owners-are = rw f (eo ∙ ap owners-of r);
+        }
+
+    -- after a search that failed
+    pub augmented-none : front .free ≡ 64 → Sound front queue → Augmented sets (take n table) front queue table owners
+    unfolding augmented
+    augmented-none z S =
+        let s = next-search sets (take n table) in
+        let f : eqb (s .free) 64 ≡ true = eq-eqb (s .free) 64 (sym free-is ∙ z) in
+        let stuck : Stuck sets (take n table) (T .partial) s = ⊎-elim (λ S. S) (λ R. absurd (omega (arith, R .0, free-is))) (next-ended .0) in
+        let q : take (front .tail) queue ≡ s .queue = ap (λ (s : Search). s .queue) e in
+        let h : front .head ≡ s .taken = ap (λ (s : Search). s .taken) e in
+        let t : length (take (front .tail) queue) ≡ front .tail = length-take-le (front .tail) queue (omega (arith, S .long, sound-tail front queue S)) in
+        let b : front .head ≡ front .tail = h ∙ stuck .all-taken ∙ ap length (sym q) ∙ t in
+        record {
+          head = h;
+          free = free-is;
+          taken = λ _. ap (λ (k : ℕ). take k queue) b ∙ q ∙ sym (take-length (s .queue)) ∙ ap (λ (k : ℕ). take k (s .queue)) (sym (stuck .all-taken));
+          long = S .long;
+          table-is = rw f (T .held);
+          owners-are = rw f (T .owned);
+        }

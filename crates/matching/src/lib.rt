@@ -8,7 +8,8 @@ ghost use lib.ListN.{length, take};
 ghost use Rattle.lists.specs.Padded.{padded};
 ghost use Rattle.masks.specs.Mask.{bit, members};
 ghost use Rattle.matching.specs.Search.{see, scan, expand, search-from, begin, rematch, bound, no-links};
-ghost use Rattle.matching.specs.Inner.{at, search-of, Sound, Owned, Apart, owners-of, Augments};
+ghost use Rattle.matching.specs.Inner.{at, search-of, Sound, Owned, Apart, owners-of, Augments, Tables, Augmented};
+ghost use Rattle.matching.specs.Matched.{Words};
 
 // If complete, the first bytes of `table` are the variables of the clauses and `marked` is 0; otherwise they are 1 for a marked
 // clause and 0 for another, and `marked` clauses are marked. The bytes after those of the clauses are 0.
@@ -114,4 +115,18 @@ fn rematch(table: &mut [u8; 96], owners: &mut [u8; 64], links: &[u8; 64], clause
     if c != clause {
         rematch(table, owners, links, clause, old);
     }
+}
+
+// The next clause is matched too, unless its search fails.
+fn augment(sets: &[u64; 96], clause: usize, table: &mut [u8; 96], owners: &mut [u8; 64], queue: &mut [u8; 96]) -> Front
+    requires { ⌜ Tables (now sets) clause (now table) (now owners) × Words (now sets) × (clause < 96) × (length (now queue) ≡ 96) ⌝ }
+    ensures { λ r. ⌜ Augmented (now (sets .entry)) (take clause (now (table .entry))) r (now (queue .exit)) (now (table .exit)) (now (owners .exit)) ⌝ }
+{
+    let mut links = [0u8; 64];
+    let front = find_path(sets, owners, clause as u8, queue, &mut links);
+    let free = front.free;
+    if free != 64 {
+        rematch(table, owners, &links, clause, free);
+    }
+    front
 }
