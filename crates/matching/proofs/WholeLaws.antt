@@ -3,7 +3,7 @@ use mathlib.Core.Path.{_≡_, refl, sym, _∙_, ap, subst}
 use mathlib.Core.Bool.{Bool, true, false, cond}
 use mathlib.Core.Logic.{_⊎_, inl, inr, ⊎-elim}
 use mathlib.Core.List.{List, [], _∷_, _++_}
-use Prim.Native.Nat.{ℕ, zero, suc, _+_, _-_, _≤_, _<_}
+use Prim.Native.Nat.{ℕ, zero, suc, _+_, _-_, _*_, _≤_, _<_}
 use native.Mathlib.Numerals.{add-one}
 use native.Mathlib.Omega.{arith}
 use lib.ListN.{length, getD, set, take, replicate, length-set, length-append, length-take, length-replicate, replicate-append-replicate, getD-replicate}
@@ -20,13 +20,14 @@ use Rattle.matching.specs.Search.{owner, Search, begin, see, scan, take-
 use Rattle.matching.specs.Inner.{at, Free, Partial, owners-of, Tables, search-of, Sound, Owned, Augments, next-search, augmented, Augmented, Clauses, packed}
 use Rattle.matching.specs.declared.Front.{Front}
 use Rattle.matching.specs.declared.Matching.{Matching}
-use Rattle.matching.proofs.Counting.{look, lt-or-le}
+use Rattle.matching.proofs.Counting.{look, lt-or-le, zero-or-pos}
 use Rattle.matching.proofs.OwnerLaws.{zero-or-suc, owner-le, free-owner}
 use Rattle.matching.proofs.Augmenting.{snoc-cases, rematch-end, rematch-on, rematch-partial}
 use Rattle.matching.proofs.SearchLaws.{see-free, see-matched, scan-none, scan-old, scan-new, scan-stop, search-on, search-found, search-empty, Stuck, Reached, Ended, search-next, word-all}
 use Rattle.matching.proofs.OutcomeLaws.{match-none, match-fails, match-on}
 use Rattle.matching.proofs.FrontLaws.{sound-tail}
-use Rattle.matching.proofs.RematchLaws.{path-distance, listing-at, owners-fun, augments-of}
+use Rattle.matching.proofs.RematchLaws.{path-distance, listing-ext, owners-fun, augments-of}
+use Rattle.matching.proofs.MatchedLaws.{length-marks}
 
 -- ── Only the clauses of the list count ────────────────────────────────────────────────────────────────────────────────
 
@@ -204,3 +205,137 @@ module _ (sets : List ℕ) (n : ℕ) (table owners : List ℕ) (T : Tables sets 
           table-is = rw f (T .held);
           owners-are = rw f (T .owned);
         }
+
+-- ── Marks ─────────────────────────────────────────────────────────────────────────────────────────────────────────────
+
+marks-more : (n : ℕ) (l : List ℕ) (c : ℕ) → marks n (l ++ (c ∷ [])) ≡ set (marks n l) c 1
+unfolding marks
+marks-more n [] c = refl
+marks-more n (d ∷ l) c =
+    ap (λ (t : List ℕ). set t d 1) (marks-more n l c)
+    ∙ ⊎-elim
+    (λ (t : eqb c d ≡ true). rw (eqb-true c d t))
+    (λ (f : eqb c d ≡ false). set-comm (marks n l) c d 1 1 (eqb-false c d f))
+    (look (eqb c d))
+
+pub marks-none : (n : ℕ) (l : List ℕ) → replicate n 0 ≡ marks n (take 0 l)
+unfolding marks
+marks-none n l = refl
+
+-- one clause more of the queue is marked
+pub marks-next : (n : ℕ) (queue : List ℕ) (i : ℕ) → i < length queue → set (marks n (take i queue)) (at queue i) 1 ≡ marks n (take (i + 1) queue)
+marks-next n queue i h = rw (add-one i, take-suc queue i 0 h, marks-more n (take i queue) (at queue i))
+
+marks-padded : (n k : ℕ) (l : List ℕ) → k ≤ n → ((i : ℕ) → i < length l → at l i < k) → marks n l ≡ padded n 0 (marks k l)
+unfolding marks padded
+marks-padded n k [] h low =
+    let e : k + (n - k) ≡ n = omega arith in
+    rw (length-replicate, replicate-append-replicate, e)
+marks-padded n k (c ∷ l) h low =
+    ap (λ (t : List ℕ). set t c 1) (marks-padded n k l h (λ i a. low (suc i) (omega arith)))
+    ∙ padded-store n 0 (marks k l) c 1 (let e = length-marks k l in omega (arith, low 0 (omega arith)))
+
+-- ── All clauses ───────────────────────────────────────────────────────────────────────────────────────────────────────
+
+-- what is still to be done from here gives the outcome
+pub record Running (sets : List ℕ) (count i : ℕ) (table owners queue : List ℕ) (e : ℕ) : Type 0 where
+  pub order : i ≤ count
+  pub tables : Tables sets i table owners
+  pub long : length queue ≡ 96
+  pub small : e ≤ i * 96
+  pub same : match-rest (count - i) sets (take i table) e ≡ match-rest count sets [] 0
+
+pub running-begin : (sets : List ℕ) (count : ℕ) → Running sets count 0 (replicate 96 0) (replicate 64 0) (replicate 96 0) 0
+unfolding owner
+running-begin sets count = record {
+  order = omega arith;
+  tables = record {
+    room = omega arith;
+    held = sym (padded-none 96 0);
+    owned = listing-ext (owner []) 64 (replicate 64 0) (length-replicate {A = ℕ} 64 0) (λ i h. getD-replicate {A = ℕ} 64 i 0 0 h);
+    partial = record { named = λ i h. absurd (omega arith); distinct = λ i j h. absurd (omega arith) };
+  };
+  long = length-replicate {A = ℕ} 96 0;
+  small = omega arith;
+  same = let z : count - 0 ≡ count = omega arith in rw z;
+}
+
+module _ (sets : List ℕ) (count i : ℕ) (table owners queue : List ℕ) (e : ℕ) (R : Running sets count i table owners queue e) (K : Clauses sets count) (l : i < count) where
+  m-long : length (take i table) ≡ i
+  m-long = table-long sets i table owners (R .tables) (K .words) .1
+
+  module _ (front : Front) (queue′ table′ owners′ : List ℕ) (A : Augmented sets (take i table) front queue′ table′ owners′) where
+    -- the i-th clause costs at most i expansions
+    pub head-le : front .head ≤ i + 1
+    head-le = let E = next-ended sets i table owners (R .tables) (K .words) in omega (arith, A .head, E .1, m-long)
+
+    steps : count - i ≡ suc (count - (i + 1))
+    steps = omega arith
+
+    -- a path was found
+    pub running-on : (front .free ≡ 64 → ⊥) → Running sets count (i + 1) table′ owners′ queue′ (e + front .head)
+    unfolding augmented
+    running-on ne =
+        let T = R .tables in
+        let m = take i table in
+        let s = next-search sets m in
+        let E = next-ended sets i table owners T (K .words) in
+        let F : Reached sets m (T .partial) s = ⊎-elim (λ S. absurd (ne (A .free ∙ S .none))) (λ F. F) (E .0) in
+        let n = rematch bound (s .links) m (s .free) in
+        let P = rematch-partial sets (s .links) bound m (s .free) (T .partial) (F .1 .0) (F .1 .1) in
+        let f : eqb (s .free) 64 ≡ false = ne-eqb (s .free) 64 (λ q. ne (A .free ∙ q)) in
+        let t : table′ ≡ padded 96 0 n = A .table-is ∙ rw f in
+        let o : owners′ ≡ owners-of n = A .owners-are ∙ rw f in
+        let k : i + 1 ≡ length n = omega (arith, P .1, m-long) in
+        let h : take (i + 1) table′ ≡ n = rw (t, k) (take-padded 96 0 n) in
+        record {
+          order = omega arith;
+          tables = record { room = omega (arith, K .few); held = t ∙ ap (padded 96 0) (sym h); owned = o ∙ ap owners-of (sym h); partial = rw h (P .0) };
+          long = A .long;
+          small = omega (arith, R .small, head-le, K .few);
+          same = rw (h, A .head) (sym (match-on (count - (i + 1)) sets m e (λ q. ne (A .free ∙ q))) ∙ ap (λ (k : ℕ). match-rest k sets m e) (sym steps) ∙ R .same);
+        }
+
+    -- the search failed
+    module _ (z : front .free ≡ 64) where
+      stuck : Stuck sets (take i table) (R .tables .partial) (next-search sets (take i table))
+      stuck = ⊎-elim (λ S. S) (λ F. absurd (omega (arith, F .0, A .free))) (next-ended sets i table owners (R .tables) (K .words) .0)
+
+      taken-is : take (front .head) queue′ ≡ next-search sets (take i table) .queue
+      taken-is = let s = next-search sets (take i table) in A .taken z ∙ ap (λ (k : ℕ). take k (s .queue)) (stuck .all-taken) ∙ take-length (s .queue)
+
+      taken-length : length (take (front .head) queue′) ≡ front .head
+      taken-length = ap length taken-is ∙ sym (stuck .all-taken) ∙ sym (A .head)
+
+      taken-low : (k : ℕ) → k < length (take (front .head) queue′) → at (take (front .head) queue′) k < count
+      taken-low k h =
+          let I = stuck .inv in
+          let s = next-search sets (take i table) in
+          rw taken-is (⊎-elim
+          (λ (q : k ≡ 0). rw (q, I .root) (omega (arith, m-long)))
+          (λ p. omega (arith, I .each k p (subst (λ (l : List ℕ). k < length l) taken-is h) .0, m-long))
+          (zero-or-pos k))
+
+      pub queue-low : (k : ℕ) → k < front .head → at queue′ k < 96
+      queue-low k h =
+          let a = taken-low k (omega (arith, taken-length)) in
+          let b : at (take (front .head) queue′) k < 96 = omega (arith, K .few) in
+          rw (getD-take (front .head) queue′ k 0 h) at b
+
+      pub failed : (record { complete = false; expansions = e + front .head; marked = front .head; table = marks 96 (take (front .head) queue′) }) ≡ packed count (outcome (take count sets))
+      unfolding packed
+      failed =
+          let s = next-search sets (take i table) in
+          let q : match-rest count sets [] 0 ≡ failure (take (front .head) queue′) (e + front .head) =
+          sym (R .same) ∙ ap (λ (k : ℕ). match-rest k sets (take i table) e) steps ∙ match-fails (count - (i + 1)) sets (take i table) e (sym (A .free) ∙ z)
+          ∙ rw (A .taken z, A .head) in
+          rw (outcome-take count sets (K .present), q, taken-length, marks-padded 96 count (take (front .head) queue′) (K .few) taken-low)
+
+-- all clauses are matched
+pub finished : (sets : List ℕ) (count i : ℕ) (table owners queue : List ℕ) (e : ℕ) → Running sets count i table owners queue e → Clauses sets count → count ≤ i
+    → (record { complete = true; expansions = e; marked = 0; table = table }) ≡ packed count (outcome (take count sets))
+unfolding packed
+finished sets count i table owners queue e R K l =
+    let z : count - i ≡ 0 = omega arith in
+    let q : match-rest count sets [] 0 ≡ success (take i table) e = sym (R .same) ∙ ap (λ (k : ℕ). match-rest k sets (take i table) e) z ∙ match-none sets (take i table) e in
+    rw (outcome-take count sets (K .present), q, ← R .tables .held)
