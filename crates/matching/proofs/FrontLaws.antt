@@ -169,10 +169,11 @@ pub searching-expand : {sets : List ℕ} {own : ℕ → ℕ} {result : Search} {
     → (front′ .head ≡ suc (front .head)) × (search-from (bound - front′ .head) sets own (search-of front′ queue′ links′) ≡ result)
 searching-expand {sets} {own} {result} {queue} {links} {front} queue′ links′ front′ G l e =
     let h : front′ .head ≡ suc (front .head) = ap (λ (s : Search). s .taken) e ∙ expand-taken sets own (search-of front queue links) in
-    let n : bound - front .head ≡ suc (bound - front′ .head) = omega (arith, sound-tail front queue (G .sound)) in
-    (h,
-    rw e (sym (search-on (bound - front′ .head) sets own (search-of front queue links) (G .none) (rw (length-queue front queue links (G .sound)) l))
-    ∙ ap (λ (k : ℕ). search-from k sets own (search-of front queue links)) (sym n) ∙ G .same))
+    let n : bound - front .head ≡ suc (bound - front′ .head) = omega (arith, sound-tail front queue (G .sound)) in (
+      h,
+      rw e (sym (search-on (bound - front′ .head) sets own (search-of front queue links) (G .none) (rw (length-queue front queue links (G .sound)) l))
+          ∙ ap (λ (k : ℕ). search-from k sets own (search-of front queue links)) (sym n) ∙ G .same),
+    )
 
 pub searching-on : {sets : List ℕ} {own : ℕ → ℕ} {result : Search} {queue links : List ℕ} {front : Front} (queue′ links′ : List ℕ) (front′ : Front)
     → Searching sets own result queue links front → front .head < front .tail

@@ -87,6 +87,7 @@ matches-cons s v sets vs nm new M = record { one-each = ap suc (M .one-each); na
     named : (i : ℕ) → i < suc (length sets) → bit (at (s ∷ sets) i) (at (v ∷ vs) i) ≡ true
     named zero h = nm
     named (suc i) h = M .named i (omega arith)
+
     distinct : (i j : ℕ) → i < suc (length sets) → j < suc (length sets) → at (v ∷ vs) i ≡ at (v ∷ vs) j → i ≡ j
     distinct zero zero h k e = refl
     distinct zero (suc j) h k e = absurd (new (record { at = j; within = omega (arith, M .one-each); is = sym e }))
@@ -101,9 +102,11 @@ chosen-found (c ∷ marks) (y ∷ l) x F = go (eqb c 0) (λ G. later (chosen-fou
   where
     later : Found l x → Found (y ∷ l) x
     later G = record { at = suc (G .at); within = omega (arith, G .within); is = G .is }
+
     index : (Found (chosen marks l) x → Found (y ∷ l) x) → (i : ℕ) → i < suc (length (chosen marks l)) → at (y ∷ chosen marks l) i ≡ x → Found (y ∷ l) x
     index rec zero h e = record { at = 0; within = omega arith; is = e }
     index rec (suc i) h e = rec (record { at = i; within = omega arith; is = e })
+
     go : (b : Bool) → (Found (chosen marks l) x → Found (y ∷ l) x) → Found (cond b (chosen marks l) (y ∷ chosen marks l)) x → Found (y ∷ l) x
     go true rec G = rec G
     go false rec G = index rec (G .at) (G .within) (G .is)
@@ -178,10 +181,12 @@ chosen-from (d ∷ marks) (s ∷ sets) i h = go (eqb d 0) refl (λ j l. chosen-f
     rest : ((j : ℕ) → j < length (chosen marks sets) → Marked marks sets (at (chosen marks sets) j))
         → (j : ℕ) → j < length (chosen marks sets) → Marked (d ∷ marks) (s ∷ sets) (at (chosen marks sets) j)
     rest rec j l = let w = rec j l in (suc (w .0), omega (arith, w .1), omega (arith, w .2), w .3, w .4)
+
     head : eqb d 0 ≡ false → ((j : ℕ) → j < length (chosen marks sets) → Marked marks sets (at (chosen marks sets) j))
         → (j : ℕ) → j < suc (length (chosen marks sets)) → Marked (d ∷ marks) (s ∷ sets) (at (s ∷ chosen marks sets) j)
     head f rec zero l = (0, omega arith, omega arith, eqb-false d 0 f, refl)
     head f rec (suc j) l = rest rec j (omega arith)
+
     go : (b : Bool) → eqb d 0 ≡ b → ((j : ℕ) → j < length (chosen marks sets) → Marked marks sets (at (chosen marks sets) j))
         → (j : ℕ) → j < length (cond b (chosen marks sets) (s ∷ chosen marks sets))
         → Marked (d ∷ marks) (s ∷ sets) (at (cond b (chosen marks sets) (s ∷ chosen marks sets)) j)

@@ -96,6 +96,7 @@ module _ (sets m : List ℕ) (W : Words sets) (M : Partial sets m) (room : lengt
           let F = chosen-in ms sets c (rw (length-marks (length sets) (s .queue)) lc) lc
           (λ z. let q = marks-in (length sets) (s .queue) (k .0) lt lc in omega arith) in
           union-in (chosen ms sets) x (F .at) (F .within) (rw (F .is, ← k .2) (k .3))
+
       outside : (x : ℕ) → bit (union (chosen (marks (length sets) (s .queue)) sets)) x ≡ true → bit (s .seen) x ≡ true
       outside x u =
           let I = S .inv in

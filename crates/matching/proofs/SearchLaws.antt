@@ -211,16 +211,22 @@ module _ (sets m : List ℕ) (M : Partial sets m) where
     where
       t : ℕ
       t = length (s .queue)
+
       pos′ : ℕ → ℕ
       pos′ = put (I .pos) v (length (s .queue))
+
       old : (k : ℕ) → k < length (s .queue) → at (s .queue ++ (c ∷ [])) k ≡ at (s .queue) k
       old k l = List·getD-append (s .queue) (c ∷ []) 0 k l
+
       last : at (s .queue ++ (c ∷ [])) (length (s .queue)) ≡ c
       last = getD-append-seam (s .queue) c [] 0
+
       more : length (s .queue) < length (s .queue ++ (c ∷ []))
       more = let e = length-append (s .queue) (c ∷ []) in omega arith
+
       grown : (y : ℕ) → bit (s .seen) y ≡ true → bit (with (s .seen) v) y ≡ true
       grown y u = ⊎-elim (λ (q : eqb y v ≡ true). rw (eqb-true y v q) (bit-with-same (s .seen) v)) (λ f. bit-with-other (s .seen) v y (eqb-false y v f) ∙ u) (look (eqb y v))
+
       cases : (y : ℕ) → bit (with (s .seen) v) y ≡ true → (y ≡ v) ⊎ ((y ≡ v → ⊥) × (bit (s .seen) y ≡ true))
       cases y u = ⊎-elim (λ q. inl (eqb-true y v q)) (λ f. inr (eqb-false y v f, sym (bit-with-other (s .seen) v y (eqb-false y v f)) ∙ u)) (look (eqb y v))
 
@@ -253,8 +259,10 @@ module _ (sets m : List ℕ) (M : Partial sets m) where
     where
       t : ℕ
       t = length (s .queue)
+
       cases : (y : ℕ) → bit (with (s .seen) v) y ≡ true → (y ≡ v) ⊎ ((y ≡ v → ⊥) × (bit (s .seen) y ≡ true))
       cases y u = ⊎-elim (λ q. inl (eqb-true y v q)) (λ f. inr (eqb-false y v f, sym (bit-with-other (s .seen) v y (eqb-false y v f)) ∙ u)) (look (eqb y v))
+
       up-of : (b k : ℕ) → k < b → b ≤ length (s .queue)
           → (at (s .queue) k ≡ length m)
           ⊎ ((at (s .queue) k < length m) × (bit (with (s .seen) v) (at m (at (s .queue) k)) ≡ true) × (put (I .pos) v (length (s .queue)) (at m (at (s .queue) k)) < b))

@@ -14,11 +14,11 @@ owner (x ∷ matching) v = cond (eqb x v) 1 (cond (eqb (owner matching v) 0) 0 (
 
 -- A search for one new clause.
 pub record Search : Type 0 where
-  pub queue : List ℕ   -- the clauses that joined, in order
-  pub taken : ℕ        -- how many of them are taken off: the expansions (01: reaches) so far
-  pub seen : ℕ         -- the seen variables, as a mask
-  pub links : List ℕ   -- for each seen variable the clause that it remembers
-  pub free : ℕ         -- the unmatched variable at which an augmenting path (01: a chain) ends; 64 while none is found
+  pub queue : List ℕ  -- the clauses that joined, in order
+  pub taken : ℕ  -- how many of them are taken off: the expansions (01: reaches) so far
+  pub seen : ℕ  -- the seen variables, as a mask
+  pub links : List ℕ  -- for each seen variable the clause that it remembers
+  pub free : ℕ  -- the unmatched variable at which an augmenting path (01: a chain) ends; 64 while none is found
 
 -- no variable remembers a clause
 unfoldable pub no-links : List ℕ

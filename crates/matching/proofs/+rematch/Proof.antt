@@ -125,7 +125,7 @@ rematch-rematch-requires : (t : ℕ) → rematch-lts.Need-rematch-requires (
   rematch-below t,
   rematch.Post,
 ) (rematch-at t) rematch.Post
-rematch-rematch-requires t c κs = 
+rematch-rematch-requires t c κs =
     let w2 = c .before .before .before in
     let w = w2 .before .before in
     let s = w .before .before in
@@ -133,9 +133,10 @@ rematch-rematch-requires t c κs =
     let a = s .args in
     let A = s .pre .1 in
     let lk : k < a .clause = ⊎-elim (λ e. absurd (c .before .before .if1 .taken e)) (λ l. l) (cases t w) in
-    let d = nearer (a .clause) (a .table .now) (a .owners .now) (a .links .now) (a .v) A k (w .wide .ensures) lk in
-    (subst (λ (x : ℕ). distance bound (a .links .now) (take (a .clause) (set (a .table .now) k (a .v))) x < t) (sym (w2 .wide2 .ensures)) (omega (arith, s .pre .0)),
-    rw (w2 .wide2 .ensures, add-one) (augments-next (a .clause) (a .table .now) (a .owners .now) (a .links .now) (a .v) A k (w .wide .ensures) lk))
+    let d = nearer (a .clause) (a .table .now) (a .owners .now) (a .links .now) (a .v) A k (w .wide .ensures) lk in (
+      subst (λ (x : ℕ). distance bound (a .links .now) (take (a .clause) (set (a .table .now) k (a .v))) x < t) (sym (w2 .wide2 .ensures)) (omega (arith, s .pre .0)),
+      rw (w2 .wide2 .ensures, add-one) (augments-next (a .clause) (a .table .now) (a .owners .now) (a .links .now) (a .v) A k (w .wide .ensures) lk),
+    )
 
 -- src/lib.rt:105:1
 rematch-returns : (t : ℕ) → rematch-lts.Need-returns (
@@ -144,7 +145,7 @@ rematch-returns : (t : ℕ) → rematch-lts.Need-returns (
   rematch-below t,
   rematch.Post,
 ) (rematch-at t) rematch.Post
-rematch-returns t c = 
+rematch-returns t c =
     let w2 = c .before .before .before .before in
     let w = w2 .before .before in
     let s = w .before .before in
@@ -162,15 +163,16 @@ rematch-returns-2 : (t : ℕ) → rematch-lts.Need-returns-2 (
   rematch-below t,
   rematch.Post,
 ) (rematch-at t) rematch.Post
-rematch-returns-2 t c = 
+rematch-returns-2 t c =
     let w = c .before .before .before in
     let s = w .before .before in
     let a = s .args in
     let e : w .wide .result ≡ a .clause = c .if1 .left in
     let q : at (a .links .now) (a .v) ≡ a .clause = sym (w .wide .ensures) ∙ e in
-    rw (e, add-one)
-    (table-end (a .clause) (a .table .now) (a .owners .now) (a .links .now) (a .v) (s .pre .1) q,
-    owners-end (a .clause) (a .table .now) (a .owners .now) (a .links .now) (a .v) (s .pre .1) q)
+    rw (e, add-one) (
+      table-end (a .clause) (a .table .now) (a .owners .now) (a .links .now) (a .v) (s .pre .1) q,
+      owners-end (a .clause) (a .table .now) (a .owners .now) (a .links .now) (a .v) (s .pre .1) q,
+    )
 
 pub +rematch-spec : {M : Type 1} → statement M
 +rematch-spec = close μ-rematch λ t. rematch-lts.spec (

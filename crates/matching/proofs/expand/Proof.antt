@@ -52,10 +52,11 @@ returns : tie.Need-returns
 returns c =
     let m = c .before .before .before in
     let w = m .before .before in
-    let s = w .before .before in
-    (c .scan .ensures .0
-    ∙ rw (m .minus .ensures, w .wide .ensures) (expand-unseen (s .args .sets .now) (s .args .owners .now) (s .args .queue .now) (s .args .links .now) (s .args .front) (s .pre .3)),
-    c .scan .ensures .1)
+    let s = w .before .before in (
+      c .scan .ensures .0
+          ∙ rw (m .minus .ensures, w .wide .ensures) (expand-unseen (s .args .sets .now) (s .args .owners .now) (s .args .queue .now) (s .args .links .now) (s .args .front) (s .pre .3)),
+      c .scan .ensures .1,
+    )
 
 pub expand-spec : {M : Type 1} → statement M
 expand-spec =

@@ -45,8 +45,12 @@ loop-less c =
     let k = c .before .before in
     let b = k .before .before .before in
     let G = b .before .before .loop .inv in
-    omega (arith, b .if1 .taken, sound-tail (b .before .before .loop .front) (b .before .before .loop .queue) (G .sound),
-    searching-expand (k .expand .last .1 .1 .1 .0) (k .expand .last .1 .1 .1 .1 .0) (k .expand .result) G (b .if1 .taken) (k .expand .ensures .0) .0)
+    omega (
+      arith,
+      b .if1 .taken,
+      sound-tail (b .before .before .loop .front) (b .before .before .loop .queue) (G .sound),
+      searching-expand (k .expand .last .1 .1 .1 .0) (k .expand .last .1 .1 .1 .1 .0) (k .expand .result) G (b .if1 .taken) (k .expand .ensures .0) .0,
+    )
 
 -- src/lib.rt:94:5
 loop-again : tie.Need-loop-again Inv-loop μ-loop

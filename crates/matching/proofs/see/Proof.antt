@@ -55,9 +55,10 @@ returns-2 c =
     let p = c .before .before .before .pre in
     let l = p .0 .long in
     let r = room c in
-    rw (c .before .before .with .ensures)
-    (seen-matched (a .front) (a .queue .now) (a .links .now) (a .owners .now) (a .clause) (a .v) (c .if1 .left) (omega arith),
-    sound-matched (a .front) (a .queue .now) (a .v) (at (a .owners .now) (a .v) - 1) (p .0) (p .2) (p .3) (omega (arith, p .1 (a .v), c .if1 .left)) (omega arith))
+    rw (c .before .before .with .ensures) (
+      seen-matched (a .front) (a .queue .now) (a .links .now) (a .owners .now) (a .clause) (a .v) (c .if1 .left) (omega arith),
+      sound-matched (a .front) (a .queue .now) (a .v) (at (a .owners .now) (a .v) - 1) (p .0) (p .2) (p .3) (omega (arith, p .1 (a .v), c .if1 .left)) (omega arith),
+    )
 
 pub see-spec : {M : Type 1} → statement M
 see-spec =
