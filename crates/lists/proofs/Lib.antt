@@ -1,3 +1,4 @@
 pub mod EveryLaws
 pub mod PaddedLaws
+pub mod StoreLaws
 pub mod TestLaws

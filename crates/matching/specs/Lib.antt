@@ -1,0 +1,4 @@
+pub mod Matched
+pub mod Search
+pub mod Cases
+pub mod Inner
