@@ -1,6 +1,5 @@
 -- Laws of `framed`: its cases, and where a whole vector lies.
 use Prim.Native.Nat.{ℕ, _+_, _-_, _<_, _≤_}
-use mathlib.Core.Bool.{true, false}
 use mathlib.Core.List.{List}
 use mathlib.Core.Path.{_≡_}
 use native.Mathlib.Omega.{arith}
@@ -8,7 +7,6 @@ use borrow.Author.Tests.{lt-ltb, le-ltb, ltb-true, ltb-false}
 use borrow.Table.Steps.{cases}
 use lib.Dec.{ltb}
 use lib.ListN.{length}
-use Rattle.cases.specs.declared.corpus.Framed.{Framed}
 use Rattle.cases.specs.declared.corpus.Framed.the-variants.{Whole, Broken}
 use Rattle.cases.specs.declared.corpus.Vector.{Vector}
 use Rattle.cases.specs.Corpus.{two-bytes, framed}

@@ -5,7 +5,6 @@ use mathlib.Core.Path.{_≡_, refl, sym, _∙_}
 use native.Mathlib.Omega.{arith}
 use borrow.Author.Tests.{lt-ltb, le-ltb}
 use lib.ListN.{length}
-use Rattle.cases.specs.declared.answers.Run.{Run}
 use Rattle.cases.specs.declared.corpus.Framed.the-variants.{Whole, Broken}
 use Rattle.cases.specs.declared.corpus.Vector.{Vector}
 use Rattle.cases.specs.declared.totals.Totals.{Totals}

@@ -4,7 +4,6 @@ use mathlib.Core.Bool.{cond}
 use mathlib.Core.List.{List}
 use lib.Dec.{ltb}
 use lib.ListN.{length, getD}
-use Rattle.cases.specs.declared.corpus.Vector.{Vector}
 use Rattle.cases.specs.declared.corpus.Framed.{Framed}
 use Rattle.cases.specs.declared.corpus.Framed.the-variants.{Whole, Broken}
 

@@ -1,7 +1,7 @@
 -- 01, 'Cases at the edges': the cases marked to be proved, in 01's order, each computed from the definitions.
 use Prim.Native.Nat.{ℕ, _-_}
 use mathlib.Core.Bool.{true, false}
-use mathlib.Core.List.{List, [], _∷_}
+use mathlib.Core.List.{[], _∷_}
 use mathlib.Core.Path.{_≡_, refl}
 use Rattle.formula.specs.Decode.{Decoding, readable, refused, decode, records, read-record}
 use Rattle.formula.specs.Format.{Literal, names}

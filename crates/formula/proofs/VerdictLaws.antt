@@ -9,8 +9,7 @@ use Rattle.formula.specs.declared.Refusal.{Refusal}
 use Rattle.formula.specs.declared.Refusal.the-variants.{StrayVariable}
 use Rattle.formula.specs.Check.{Answer, said-yes, said-no, answer, refusal, answered, checked}
 use Rattle.formula.specs.Decode.{Decoding, readable, refused, decode}
-use Rattle.formula.specs.Format.{Literal}
-use Rattle.formula.specs.Models.{Model, ModelOf, NoModelOf, StrayOf, satisfied, stray}
+use Rattle.formula.specs.Models.{ModelOf, NoModelOf, StrayOf, satisfied, stray}
 use Rattle.formula.specs.Table.{Refuses}
 use Rattle.formula.proofs.ModelLaws.{stray-some, some-stray, model-tests, tests-model}
 use Rattle.formula.proofs.OutcomeLaws.{decode-means}

@@ -1,7 +1,6 @@
 -- `formula::check` meets its contract: by the reader's answer, the stray test and the clauses.
 use native.Mathlib.Omega.{arith}
-use mathlib.Core.Bool.{not}
-use mathlib.Core.Path.{sym, ap, _∙_}
+use mathlib.Core.Path.{sym, _∙_}
 use borrow.Author.Tests.{eq-eqb, ne-eqb}
 use Rattle.formula.proofs.CheckLaws.{checked-accepted, checked-refused}
 use Rattle.formula.proofs.MaskedLaws.{Accepts, decoded-accepted, decoded-refused}

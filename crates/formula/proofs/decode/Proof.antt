@@ -1,7 +1,7 @@
 -- `formula::decode` meets its contract. The loop keeps `Reads`: what is left to read gives what the whole gives.
 use borrow.Author.Needs.{needs}
 use native.Mathlib.Omega.{arith}
-use mathlib.Core.Path.{_≡_, sym, ap, _∙_}
+use mathlib.Core.Path.{sym, ap, _∙_}
 use Prim.Native.Nat.{_-_}
 use lib.ListN.{length}
 use Rattle.formula.specs.InnerReader.{Reads}
