@@ -1,0 +1,15 @@
+-- What the code of find_matching computes on the way.
+use Prim.Native.Nat.{ℕ, _+_}
+use mathlib.Core.List.{List}
+use lib.ListN.{getD}
+use Rattle.lists.specs.Tabulated.{tabulated}
+use Rattle.formula.specs.declared.Clause.{Clause}
+use Rattle.formula.specs.Masked.{no-clause, named}
+
+-- the variables that each of the first n clauses of an array names
+abbrev pub sets-of : List Clause → ℕ → List ℕ
+sets-of clauses n = tabulated (λ i. named (getD clauses i no-clause)) n
+
+-- the first n numbers of a table, each raised by k
+abbrev pub raised : ℕ → List ℕ → ℕ → List ℕ
+raised k table n = tabulated (λ i. getD table i 0 + k) n
