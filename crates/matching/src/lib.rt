@@ -22,11 +22,11 @@ pub struct Matching {
 
 // Where a search stands: the seen variables, how many clauses are taken off the queue and how many joined it, and the unmatched
 // variable that was found (64: none).
-pub struct Front {
-    pub seen: u64,
-    pub head: usize,
-    pub tail: usize,
-    pub free: usize,
+struct Front {
+    seen: u64,
+    head: usize,
+    tail: usize,
+    free: usize,
 }
 
 // The clause goes through its unseen variable v.
