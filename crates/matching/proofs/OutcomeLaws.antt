@@ -14,8 +14,8 @@ use Rattle.masks.specs.Mask.{bit, size}
 use Rattle.masks.proofs.BitLaws.{mask-ext, bit-below}
 use Rattle.masks.proofs.MembersLaws.{Found}
 use Rattle.matching.specs.Matched.{Matches, Matched, Words, union, chosen}
-use Rattle.matching.specs.Search.{owner, Search, begin, search-from, rematch, bound, Outcome, success, failure, match-rest, outcome, marks}
-use Rattle.matching.specs.Inner.{at, Distinct, Partial, next-search}
+use Rattle.matching.specs.Search.{Search, rematch-from, bound, next-search, Outcome, success, failure, match-rest, outcome, marks}
+use Rattle.matching.specs.Inner.{at, Distinct, Partial}
 use Rattle.matching.proofs.Counting.{look, clash, zero-or-pos, count-all, pigeon}
 use Rattle.matching.proofs.Augmenting.{Path, rematch-partial}
 use Rattle.matching.proofs.SearchLaws.{Inv, Stuck, Reached, Ended, search-next, tail-le, word-all}
@@ -31,7 +31,7 @@ unfolding match-rest
 match-fails k sets m e f = rw (eq-eqb (next-search sets m .free) 64 f)
 
 pub match-on : (k : ℕ) (sets m : List ℕ) (e : ℕ) → (next-search sets m .free ≡ 64 → ⊥)
-    → match-rest (suc k) sets m e ≡ match-rest k sets (rematch bound (next-search sets m .links) m (next-search sets m .free)) (e + next-search sets m .taken)
+    → match-rest (suc k) sets m e ≡ match-rest k sets (rematch-from bound (next-search sets m .links) m (next-search sets m .free)) (e + next-search sets m .taken)
 unfolding match-rest
 match-on k sets m e ne = rw (ne-eqb (next-search sets m .free) 64 ne)
 
@@ -157,7 +157,7 @@ match-rest-ok sets W (suc k) m e M l c =
     (λ (R : Reached sets m M s).
     let P = rematch-partial sets (s .links) bound m (s .free) M (R .1 .0) (R .1 .1) in
     rw (match-on k sets m e (λ q. omega (arith, R .0)))
-    (match-rest-ok sets W k (rematch bound (s .links) m (s .free)) (e + s .taken) (P .0) (omega (arith, P .1))
+    (match-rest-ok sets W k (rematch-from bound (s .links) m (s .free)) (e + s .taken) (P .0) (omega (arith, P .1))
     (subst (λ (n : ℕ). Cheap (e + s .taken) n) (sym (P .1)) (cheap-more e (s .taken) (length m) c (E .1)))))
     (E .0)
 

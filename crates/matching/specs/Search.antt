@@ -20,7 +20,7 @@ pub record Search : Type 0 where
   pub links : List ℕ  -- for each seen variable the clause that it remembers
   pub free : ℕ  -- the unmatched variable at which an augmenting path (01: a chain) ends; 64 while none is found
 
--- no variable remembers a clause
+-- no variable remembers a clause yet
 unfoldable pub no-links : List ℕ
 no-links = replicate 64 0
 
@@ -28,9 +28,8 @@ no-links = replicate 64 0
 unfoldable pub begin : ℕ → Search
 begin clause = record { queue = clause ∷ []; taken = 0; seen = 0; links = no-links; free = 64 }
 
--- Below, own v is the number, from 1, of the clause that is matched to v, and 0 if v is unmatched.
-
--- 'an unseen one becomes seen and remembers this rule; if it is unpaired, a chain is found [..]; if it is paired, its rule joins the queue'
+-- 'an unseen one becomes seen and remembers this rule; if it is unpaired, a chain is found [..]; if it is paired, its rule joins the queue'.
+-- Here and below, own v is the owner of v in the matching so far.
 unfoldable pub see : (ℕ → ℕ) → ℕ → ℕ → Search → Search
 see own clause v s = record {
   queue = cond (eqb (own v) 0) (s .queue) (s .queue ++ ((own v - 1) ∷ []));
@@ -61,19 +60,26 @@ search-from zero sets own s = s
 search-from (suc k) sets own s =
     cond (eqb (s .free) 64 && ltb (s .taken) (length (s .queue))) (search-from k sets own (expand sets own s)) s
 
--- 'The chain is then re-paired link by link back to the new rule': the clause that v remembers gets v, and what it had is next.
--- The new clause is the one after those matched so far; k bounds the links.
-unfoldable pub rematch : ℕ → List ℕ → List ℕ → ℕ → List ℕ
-rematch zero links matching v = matching
-rematch (suc k) links matching v =
-    cond (eqb (getD links v 0) (length matching))
-    (matching ++ (v ∷ []))
-    (rematch k links (set matching (getD links v 0) v) (getD matching (getD links v 0) 0))
-
 -- Each clause of a queue but the first joined with a variable of its own, and there are 64: no search expands more than 65 clauses,
 -- and no path has more links.
 abbrev pub bound : ℕ
 bound = 65
+
+-- 'The chain is then re-paired link by link back to the new rule': the clause that v remembers gets v, and what it had is next.
+-- The new clause is the one after those matched so far; k bounds the links.
+unfoldable pub rematch-from : ℕ → List ℕ → List ℕ → ℕ → List ℕ
+rematch-from zero links matching v = matching
+rematch-from (suc k) links matching v =
+    cond (eqb (getD links v 0) (length matching))
+    (matching ++ (v ∷ []))
+    (rematch-from k links (set matching (getD links v 0) v) (getD matching (getD links v 0) 0))
+
+abbrev pub rematch : List ℕ → List ℕ → ℕ → List ℕ
+rematch links matching v = rematch-from bound links matching v
+
+-- the search for the clause after those that are matched
+abbrev pub next-search : List ℕ → List ℕ → Search
+next-search sets matching = search-from bound sets (owner matching) (begin (length matching))
 
 -- the matching and all expansions; or the clauses that the last, failed search took off (01: the marked rules), and all expansions
 pub data Outcome : Type 0 where
@@ -85,13 +91,21 @@ pub data Outcome : Type 0 where
 unfoldable pub match-rest : ℕ → List ℕ → List ℕ → ℕ → Outcome
 match-rest zero sets matching e = success matching e
 match-rest (suc k) sets matching e =
-    let s = search-from bound sets (owner matching) (begin (length matching)) in
+    let s = next-search sets matching in
     cond (eqb (s .free) 64)
     (failure (take (s .taken) (s .queue)) (e + s .taken))
-    (match-rest k sets (rematch bound (s .links) matching (s .free)) (e + s .taken))
+    (match-rest k sets (rematch (s .links) matching (s .free)) (e + s .taken))
 
 unfoldable pub outcome : List ℕ → Outcome
 outcome sets = match-rest (length sets) sets [] 0
+
+abbrev pub succeeds : Outcome → Bool
+succeeds (success variables e) = true
+succeeds (failure taken e) = false
+
+abbrev pub expansions : Outcome → ℕ
+expansions (success variables e) = e
+expansions (failure taken e) = e
 
 -- one mark for each of n clauses: 1 for those listed, 0 for the others
 unfoldable pub marks : ℕ → List ℕ → List ℕ

@@ -4,7 +4,7 @@ use native.Mathlib.Numerals.{add-one}
 use native.Mathlib.Omega.{arith}
 use lib.ListN.{take, set}
 use Rattle.lists.specs.Padded.{padded}
-use Rattle.matching.specs.Search.{bound, rematch as rematched}
+use Rattle.matching.specs.Search.{bound, rematch-from as rematched}
 use Rattle.matching.specs.Inner.{at, distance, owners-of}
 use Rattle.matching.proofs.RematchLaws.{link-cases, nearer, augments-next, rematch-next, table-end, owners-end}
 use borrow.Author.Needs.{needs}

@@ -1,7 +1,7 @@
 use mathlib.Core.Path.{_≡_, refl, _∙_}
 use lib.ListN.{take}
-use Rattle.matching.specs.Search.{no-links}
-use Rattle.matching.specs.Inner.{search-of, next-search}
+use Rattle.matching.specs.Search.{no-links, next-search}
+use Rattle.matching.specs.Inner.{search-of}
 use Rattle.matching.proofs.WholeLaws.{owners-few, search-is, path-ready, augmented-path, augmented-none}
 use borrow.Author.Needs.{needs}
 use Rattle.matching.proofs.augment.Statement.{statement}
