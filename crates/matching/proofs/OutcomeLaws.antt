@@ -14,7 +14,7 @@ use Rattle.masks.specs.Mask.{bit, size}
 use Rattle.masks.proofs.BitLaws.{mask-ext, bit-below}
 use Rattle.masks.proofs.MembersLaws.{Found}
 use Rattle.matching.specs.Matched.{Matches, Matched, Words, union, chosen}
-use Rattle.matching.specs.Search.{Search, rematch-from, bound, next-search, Outcome, success, failure, match-rest, outcome, marks}
+use Rattle.matching.specs.Search.{Search, rematch-from, bound, next-search, Outcome, success, failure, succeeds, expansions, match-rest, outcome, marks}
 use Rattle.matching.specs.Inner.{at, Distinct, Partial}
 use Rattle.matching.proofs.Counting.{look, clash, zero-or-pos, count-all, pigeon}
 use Rattle.matching.proofs.Augmenting.{Path, rematch-partial}
@@ -167,23 +167,37 @@ outcome-ok sets W =
     match-rest-ok sets W (length sets) [] 0 (record { named = λ i h. absurd (omega arith); distinct = λ i j h. absurd (omega arith) }) (omega arith) (omega arith)
 
 -- the same of an outcome that is known
-pub success-ok : (sets variables : List ℕ) (e : ℕ) → Words sets → outcome sets ≡ success variables e → Matches sets variables × Cheap e (length sets)
-success-ok sets variables e W q = subst (λ (o : Outcome). Correct sets o) q (outcome-ok sets W)
+pub success-ok : (sets variables : List ℕ) (e : ℕ) → Words sets → outcome sets ≡ success variables e → Matches sets variables
+success-ok sets variables e W q = subst (λ (o : Outcome). Correct sets o) q (outcome-ok sets W) .0
 
-pub failure-ok : (sets taken : List ℕ) (e : ℕ) → Words sets → outcome sets ≡ failure taken e → Violator sets taken × Cheap e (length sets)
-failure-ok sets taken e W q = subst (λ (o : Outcome). Correct sets o) q (outcome-ok sets W)
+pub failure-ok : (sets taken : List ℕ) (e : ℕ) → Words sets → outcome sets ≡ failure taken e → Violator sets taken
+failure-ok sets taken e W q = subst (λ (o : Outcome). Correct sets o) q (outcome-ok sets W) .0
 
 pub violator-few : (sets taken : List ℕ) → Violator sets taken → length taken ≤ length sets
 violator-few sets taken S =
     let k = pigeon (λ _. true) (length taken) (λ _. true) (length sets) (at taken) (λ i h _. (S .low i h, refl)) (λ i j h k _ _. S .distinct i j h k) in
     omega (arith, count-all (length taken), count-all (length sets))
 
-pub decided : (sets : List ℕ) → Words sets → Matched sets → (variables : List ℕ) × (e : ℕ) × (outcome sets ≡ success variables e)
-decided sets W w = go (outcome sets) (outcome-ok sets W)
+pub matched-succeeds : (sets : List ℕ) → Words sets → Matched sets → succeeds (outcome sets) ≡ true
+matched-succeeds sets W w = go (outcome sets) (outcome-ok sets W)
   where
-    go : (o : Outcome) → Correct sets o → (variables : List ℕ) × (e : ℕ) × (o ≡ success variables e)
-    go (success variables e) C = (variables, e, refl)
+    go : (o : Outcome) → Correct sets o → succeeds o ≡ true
+    go (success variables e) C = refl
     go (failure taken e) C = absurd (violator-unmatched sets taken W (C .0) w)
+
+pub succeeds-matched : (sets : List ℕ) → Words sets → succeeds (outcome sets) ≡ true → Matched sets
+succeeds-matched sets W t = go (outcome sets) (outcome-ok sets W) t
+  where
+    go : (o : Outcome) → Correct sets o → succeeds o ≡ true → Matched sets
+    go (success variables e) C t = (variables, C .0)
+    go (failure taken e) C t = clash t refl
+
+pub outcome-cheap : (sets : List ℕ) → Words sets → Cheap (expansions (outcome sets)) (length sets)
+outcome-cheap sets W = go (outcome sets) (outcome-ok sets W)
+  where
+    go : (o : Outcome) → Correct sets o → Cheap (expansions o) (length sets)
+    go (success variables e) C = C .1
+    go (failure taken e) C = C .1
 
 pub partial-of : (sets m : List ℕ) → length m ≤ length sets → Matches (take (length m) sets) m → Partial sets m
 partial-of sets m l M =
