@@ -1,18 +1,18 @@
 -- Re-matching along an augmenting path matches one clause more.
 use mathlib.Core.Path.{_≡_, refl, sym, _∙_, ap, subst}
-use mathlib.Core.Bool.{Bool, true, false, cond}
+use mathlib.Core.Bool.{Bool, true, false}
 use mathlib.Core.Logic.{_⊎_, inl, inr, ⊎-elim}
 use mathlib.Core.List.{List, [], _∷_, _++_}
 use Prim.Native.Nat.{ℕ, zero, suc, _+_, _≤_, _<_}
 use native.Mathlib.Omega.{arith}
-use lib.ListN.{length, getD, set, length-set, length-append, List·getD-append}
+use lib.ListN.{length, set, length-set, length-append, List·getD-append}
 use lib.Seq.{getD-set-same, getD-set-other, getD-append-seam}
 use lib.Dec.{eqb}
 use borrow.Author.Tests.{eqb-true, eqb-false, eq-eqb, ne-eqb}
 use Rattle.masks.specs.Mask.{bit}
 use Rattle.matching.specs.Search.{rematch-from}
 use Rattle.matching.specs.Inner.{at, Free, Distinct, Partial}
-use Rattle.matching.proofs.Counting.{look, clash, below-cases}
+use Rattle.matching.proofs.Counting.{look, below-cases}
 
 -- an element of a list with one more at its end
 pub snoc-cases : (l : List ℕ) (x i : ℕ) → i < length (l ++ (x ∷ [])) → ((i ≡ length l) × (at (l ++ (x ∷ [])) i ≡ x)) ⊎ ((i < length l) × (at (l ++ (x ∷ [])) i ≡ at l i))

@@ -1,9 +1,8 @@
 -- Small cases of the search, computed. {0, 1} is the mask 3.
-use Prim.Native.Nat.{ℕ}
 use mathlib.Core.Path.{_≡_, refl}
-use mathlib.Core.List.{List, [], _∷_}
+use mathlib.Core.List.{[], _∷_}
 use Rattle.masks.specs.Mask.{bit, members}
-use Rattle.matching.specs.Search.{owner, no-links, begin, see, scan, take-front, expand, search-from, rematch-from, Outcome, success, failure, match-rest, outcome, marks}
+use Rattle.matching.specs.Search.{owner, no-links, begin, see, scan, take-front, expand, search-from, rematch-from, success, failure, match-rest, outcome, marks}
 
 -- {0, 1}, {0, 1}: one expansion each, since variable 1 is unmatched
 pub two : outcome (3 ∷ 3 ∷ []) ≡ success (0 ∷ 1 ∷ []) 2

@@ -1,24 +1,22 @@
 -- What the clauses' searches together give.
 use mathlib.Core.Path.{_≡_, refl, sym, _∙_, ap, subst}
-use mathlib.Core.Bool.{Bool, true, false, cond}
-use mathlib.Core.Logic.{_⊎_, inl, inr, ⊎-elim}
-use mathlib.Core.List.{List, [], _∷_, _++_}
-use Prim.Native.Nat.{ℕ, zero, suc, _+_, _*_, _^_, _≤_, _<_}
+use mathlib.Core.Bool.{true, false}
+use mathlib.Core.Logic.{_⊎_, ⊎-elim}
+use mathlib.Core.List.{List, []}
+use Prim.Native.Nat.{ℕ, zero, suc, _+_, _*_, _≤_, _<_}
 use native.Mathlib.Nat.{suc-mul, mul-suc, mul-le-mul}
 use native.Mathlib.Omega.{arith}
-use lib.ListN.{length, getD, take}
+use lib.ListN.{length, take}
 use lib.Seq.{take-length, getD-take, length-take-le}
-use lib.Dec.{eqb}
-use borrow.Author.Tests.{eqb-true, eqb-false, eq-eqb, ne-eqb}
+use borrow.Author.Tests.{eq-eqb, ne-eqb}
 use Rattle.masks.specs.Mask.{bit, size}
-use Rattle.masks.proofs.BitLaws.{mask-ext, bit-below}
-use Rattle.masks.proofs.MembersLaws.{Found}
+use Rattle.masks.proofs.BitLaws.{mask-ext}
 use Rattle.matching.specs.Matched.{Matches, Matched, Words, union, chosen}
 use Rattle.matching.specs.Search.{Search, rematch-from, bound, next-search, Outcome, success, failure, succeeds, expansions, match-rest, outcome, marks}
 use Rattle.matching.specs.Inner.{at, Distinct, Partial}
 use Rattle.matching.proofs.Counting.{look, clash, zero-or-pos, count-all, pigeon}
-use Rattle.matching.proofs.Augmenting.{Path, rematch-partial}
-use Rattle.matching.proofs.SearchLaws.{Inv, Stuck, Reached, Ended, search-next, tail-le, word-all}
+use Rattle.matching.proofs.Augmenting.{rematch-partial}
+use Rattle.matching.proofs.SearchLaws.{Inv, Stuck, Reached, search-next}
 use Rattle.matching.proofs.MatchedLaws.{union-of, union-in, union-word, matched-room, chosen-matched, chosen-in, chosen-from, marks-in, marks-from, marks-count, length-marks}
 
 pub match-none : (sets m : List ℕ) (e : ℕ) → match-rest 0 sets m e ≡ success m e

@@ -1,23 +1,22 @@
 -- Laws of re-matching in arrays: it ends, and the owners stay right.
 use mathlib.Core.Path.{_≡_, refl, sym, _∙_, ap, subst, fun-ext}
-use mathlib.Core.Bool.{Bool, true, false, cond}
+use mathlib.Core.Bool.{true, false}
 use mathlib.Core.Logic.{_⊎_, inl, inr, ⊎-elim}
 use mathlib.Core.List.{List, [], _∷_, _++_}
 use Prim.Native.Nat.{ℕ, zero, suc, _+_, _≤_, _<_}
-use native.Mathlib.Numerals.{add-one}
 use native.Mathlib.Omega.{arith}
-use lib.ListN.{length, getD, set, take, length-set, length-append, List·getD-append, List·getD-eq-default}
+use lib.ListN.{length, set, take, length-set, length-append, List·getD-append, List·getD-eq-default}
 use lib.Seq.{getD-set-same, getD-set-other, getD-append-seam, getD-take, ext-getD, take-set-lt}
-use lib.Dec.{eqb, ltb}
-use borrow.Author.Tests.{eqb-true, eqb-false, eq-eqb, ne-eqb, ltb-true, ltb-false, lt-ltb, le-ltb}
+use lib.Dec.{eqb}
+use borrow.Author.Tests.{eqb-true, eqb-false, eq-eqb, ne-eqb, lt-ltb, le-ltb}
 use Rattle.lists.specs.Padded.{padded}
 use Rattle.lists.proofs.PaddedLaws.{padded-set}
 use Rattle.lists.proofs.StoreLaws.{padded-store, held-length}
 use Rattle.matching.specs.Search.{owner, rematch-from, bound}
-use Rattle.matching.specs.Inner.{at, Free, Distinct, Partial, listing, owners-of, Augments, distance}
-use Rattle.matching.proofs.Counting.{look, clash, below-cases, lt-or-le}
+use Rattle.matching.specs.Inner.{at, Free, Distinct, listing, owners-of, Augments, distance}
+use Rattle.matching.proofs.Counting.{look, below-cases, lt-or-le}
 use Rattle.matching.proofs.OwnerLaws.{zero-or-suc, owner-free, owner-some, free-owner, owner-is}
-use Rattle.matching.proofs.Augmenting.{Links, Path, snoc-cases, set-cases, grow-distinct, swap-distinct, swap-free, rematch-end, rematch-on}
+use Rattle.matching.proofs.Augmenting.{Path, snoc-cases, set-cases, grow-distinct, swap-distinct, swap-free, rematch-end, rematch-on}
 
 -- ── Distances ─────────────────────────────────────────────────────────────────────────────────────────────────────────
 

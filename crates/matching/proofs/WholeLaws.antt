@@ -1,14 +1,14 @@
 -- Laws of the clauses' searches in arrays.
 use mathlib.Core.Path.{_≡_, refl, sym, _∙_, ap, subst}
-use mathlib.Core.Bool.{Bool, true, false, cond}
-use mathlib.Core.Logic.{_⊎_, inl, inr, ⊎-elim}
+use mathlib.Core.Bool.{true, false}
+use mathlib.Core.Logic.{_⊎_, ⊎-elim}
 use mathlib.Core.List.{List, [], _∷_, _++_}
 use Prim.Native.Nat.{ℕ, zero, suc, _+_, _-_, _*_, _≤_, _<_}
 use native.Mathlib.Numerals.{add-one}
 use native.Mathlib.Omega.{arith}
-use lib.ListN.{length, getD, set, take, replicate, length-set, length-append, length-take, length-replicate, replicate-append-replicate, getD-replicate}
-use lib.Seq.{getD-take, take-suc, take-length, take-all, take-take, length-take-le, set-getD, set-comm}
-use lib.Dec.{eqb, ltb}
+use lib.ListN.{length, set, take, replicate, length-set, length-append, length-replicate, replicate-append-replicate, getD-replicate}
+use lib.Seq.{getD-take, take-suc, take-length, length-take-le, set-getD, set-comm}
+use lib.Dec.{eqb}
 use borrow.Author.Tests.{eqb-true, eqb-false, eq-eqb, ne-eqb}
 use Rattle.lists.specs.Padded.{padded}
 use Rattle.lists.proofs.PaddedLaws.{padded-none, take-padded}
@@ -16,14 +16,13 @@ use Rattle.lists.proofs.StoreLaws.{padded-store, held-length}
 use Rattle.masks.specs.Mask.{bit, members}
 use Rattle.masks.proofs.BitLaws.{bit-below}
 use Rattle.matching.specs.Matched.{Words}
-use Rattle.matching.specs.Search.{owner, Search, begin, see, scan, take-front, front, expand, search-from, rematch-from, bound, next-search, Outcome, success, failure, match-rest, outcome, marks}
-use Rattle.matching.specs.Inner.{at, Free, Partial, owners-of, Tables, search-of, Sound, Owned, Augments, augmented, Augmented}
+use Rattle.matching.specs.Search.{owner, Search, begin, see, scan, take-front, front, expand, search-from, rematch-from, bound, next-search, success, failure, match-rest, outcome, marks}
+use Rattle.matching.specs.Inner.{at, owners-of, Tables, search-of, Sound, Owned, Augments, augmented, Augmented}
 use Rattle.matching.specs.Result.{Clauses, packed}
 use Rattle.matching.specs.declared.Front.{Front}
-use Rattle.matching.specs.declared.Matching.{Matching}
 use Rattle.matching.proofs.Counting.{look, lt-or-le, zero-or-pos}
 use Rattle.matching.proofs.OwnerLaws.{zero-or-suc, owner-le, free-owner}
-use Rattle.matching.proofs.Augmenting.{snoc-cases, rematch-end, rematch-on, rematch-partial}
+use Rattle.matching.proofs.Augmenting.{snoc-cases, rematch-partial}
 use Rattle.matching.proofs.SearchLaws.{see-free, see-matched, scan-none, scan-old, scan-new, scan-stop, search-on, search-found, search-empty, Stuck, Reached, Ended, search-next, word-all}
 use Rattle.matching.proofs.OutcomeLaws.{match-none, match-fails, match-on}
 use Rattle.matching.proofs.FrontLaws.{sound-tail}
@@ -218,10 +217,6 @@ marks-more n (d ∷ l) c =
     (λ (t : eqb c d ≡ true). rw (eqb-true c d t))
     (λ (f : eqb c d ≡ false). set-comm (marks n l) c d 1 1 (eqb-false c d f))
     (look (eqb c d))
-
-pub marks-none : (n : ℕ) (l : List ℕ) → replicate n 0 ≡ marks n (take 0 l)
-unfolding marks
-marks-none n l = refl
 
 -- one clause more of the queue is marked
 pub marks-next : (n : ℕ) (queue : List ℕ) (i : ℕ) → i < length queue → set (marks n (take i queue)) (at queue i) 1 ≡ marks n (take (i + 1) queue)
