@@ -1,21 +1,20 @@
 -- Laws of what the search's functions hold in arrays and numbers.
-use mathlib.Core.Path.{_≡_, refl, sym, _∙_, ap, subst}
-use mathlib.Core.Bool.{Bool, true, false, not, _&&_, cond}
-use mathlib.Core.Logic.{_⊎_, inl, inr, ⊎-elim}
-use mathlib.Core.List.{List, [], _∷_, _++_}
-use Prim.Native.Nat.{ℕ, zero, suc, _+_, _-_, _^_, _≤_, _<_}
+use mathlib.Core.Path.{_≡_, refl, sym, _∙_, ap}
+use mathlib.Core.Bool.{true, false, not}
+use mathlib.Core.Logic.{_⊎_, ⊎-elim}
+use mathlib.Core.List.{List, _∷_}
+use Prim.Native.Nat.{ℕ, suc, _+_, _-_, _^_, _≤_, _<_}
 use native.Mathlib.Numerals.{add-one}
 use native.Mathlib.Omega.{arith}
-use lib.ListN.{length, getD, set, take, length-set}
+use lib.ListN.{length, set, length-set}
 use lib.Seq.{take-suc-set, getD-set-same, getD-set-other, getD-take, length-take-le}
-use lib.Dec.{eqb}
 use borrow.Author.Tests.{ne-eqb, not-true}
 use Rattle.masks.specs.Mask.{bit, with, minus, without, lowest, members, size}
 use Rattle.masks.proofs.BitLaws.{bit-none, bit-minus, bit-with-other, bit-without-same, bit-without-other, with-lt, minus-lt}
 use Rattle.masks.proofs.MembersLaws.{lowest-is, members-le, members-none, members-lowest}
 use Rattle.masks.proofs.SizeLaws.{with-count, without-count}
 use Rattle.matching.specs.Search.{Search, see, scan, take-front, expand, search-from, begin, no-links, bound}
-use Rattle.matching.specs.Inner.{at, search-of, Sound, Owned, Apart}
+use Rattle.matching.specs.Inner.{at, search-of, Sound, Apart}
 use Rattle.matching.specs.declared.Front.{Front}
 use Rattle.matching.proofs.Counting.{clash, and-r, below-cases}
 use Rattle.matching.proofs.SearchLaws.{see-free, see-seen, scan-none, scan-new, scan-stop, expand-taken, search-on, search-found, search-empty}

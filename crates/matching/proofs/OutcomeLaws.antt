@@ -1,24 +1,22 @@
 -- What the clauses' searches together give.
 use mathlib.Core.Path.{_≡_, refl, sym, _∙_, ap, subst}
-use mathlib.Core.Bool.{Bool, true, false, cond}
-use mathlib.Core.Logic.{_⊎_, inl, inr, ⊎-elim}
-use mathlib.Core.List.{List, [], _∷_, _++_}
-use Prim.Native.Nat.{ℕ, zero, suc, _+_, _*_, _^_, _≤_, _<_}
+use mathlib.Core.Bool.{true, false}
+use mathlib.Core.Logic.{_⊎_, ⊎-elim}
+use mathlib.Core.List.{List, []}
+use Prim.Native.Nat.{ℕ, zero, suc, _+_, _*_, _≤_, _<_}
 use native.Mathlib.Nat.{suc-mul, mul-suc, mul-le-mul}
 use native.Mathlib.Omega.{arith}
-use lib.ListN.{length, getD, take}
+use lib.ListN.{length, take}
 use lib.Seq.{take-length, getD-take, length-take-le}
-use lib.Dec.{eqb}
-use borrow.Author.Tests.{eqb-true, eqb-false, eq-eqb, ne-eqb}
+use borrow.Author.Tests.{eq-eqb, ne-eqb}
 use Rattle.masks.specs.Mask.{bit, size}
-use Rattle.masks.proofs.BitLaws.{mask-ext, bit-below}
-use Rattle.masks.proofs.MembersLaws.{Found}
+use Rattle.masks.proofs.BitLaws.{mask-ext}
 use Rattle.matching.specs.Matched.{Matches, Matched, Words, union, chosen}
-use Rattle.matching.specs.Search.{owner, Search, begin, search-from, rematch, bound, Outcome, success, failure, match-rest, outcome, marks}
-use Rattle.matching.specs.Inner.{at, Distinct, Partial, next-search}
+use Rattle.matching.specs.Search.{Search, rematch-from, bound, next-search, Outcome, success, failure, succeeds, expansions, match-rest, outcome, marks}
+use Rattle.matching.specs.Inner.{at, Distinct, Partial}
 use Rattle.matching.proofs.Counting.{look, clash, zero-or-pos, count-all, pigeon}
-use Rattle.matching.proofs.Augmenting.{Path, rematch-partial}
-use Rattle.matching.proofs.SearchLaws.{Inv, Stuck, Reached, Ended, search-next, tail-le, word-all}
+use Rattle.matching.proofs.Augmenting.{rematch-partial}
+use Rattle.matching.proofs.SearchLaws.{Inv, Stuck, Reached, search-next}
 use Rattle.matching.proofs.MatchedLaws.{union-of, union-in, union-word, matched-room, chosen-matched, chosen-in, chosen-from, marks-in, marks-from, marks-count, length-marks}
 
 pub match-none : (sets m : List ℕ) (e : ℕ) → match-rest 0 sets m e ≡ success m e
@@ -31,7 +29,7 @@ unfolding match-rest
 match-fails k sets m e f = rw (eq-eqb (next-search sets m .free) 64 f)
 
 pub match-on : (k : ℕ) (sets m : List ℕ) (e : ℕ) → (next-search sets m .free ≡ 64 → ⊥)
-    → match-rest (suc k) sets m e ≡ match-rest k sets (rematch bound (next-search sets m .links) m (next-search sets m .free)) (e + next-search sets m .taken)
+    → match-rest (suc k) sets m e ≡ match-rest k sets (rematch-from bound (next-search sets m .links) m (next-search sets m .free)) (e + next-search sets m .taken)
 unfolding match-rest
 match-on k sets m e ne = rw (ne-eqb (next-search sets m .free) 64 ne)
 
@@ -157,7 +155,7 @@ match-rest-ok sets W (suc k) m e M l c =
     (λ (R : Reached sets m M s).
     let P = rematch-partial sets (s .links) bound m (s .free) M (R .1 .0) (R .1 .1) in
     rw (match-on k sets m e (λ q. omega (arith, R .0)))
-    (match-rest-ok sets W k (rematch bound (s .links) m (s .free)) (e + s .taken) (P .0) (omega (arith, P .1))
+    (match-rest-ok sets W k (rematch-from bound (s .links) m (s .free)) (e + s .taken) (P .0) (omega (arith, P .1))
     (subst (λ (n : ℕ). Cheap (e + s .taken) n) (sym (P .1)) (cheap-more e (s .taken) (length m) c (E .1)))))
     (E .0)
 
@@ -167,23 +165,37 @@ outcome-ok sets W =
     match-rest-ok sets W (length sets) [] 0 (record { named = λ i h. absurd (omega arith); distinct = λ i j h. absurd (omega arith) }) (omega arith) (omega arith)
 
 -- the same of an outcome that is known
-pub success-ok : (sets variables : List ℕ) (e : ℕ) → Words sets → outcome sets ≡ success variables e → Matches sets variables × Cheap e (length sets)
-success-ok sets variables e W q = subst (λ (o : Outcome). Correct sets o) q (outcome-ok sets W)
+pub success-ok : (sets variables : List ℕ) (e : ℕ) → Words sets → outcome sets ≡ success variables e → Matches sets variables
+success-ok sets variables e W q = subst (λ (o : Outcome). Correct sets o) q (outcome-ok sets W) .0
 
-pub failure-ok : (sets taken : List ℕ) (e : ℕ) → Words sets → outcome sets ≡ failure taken e → Violator sets taken × Cheap e (length sets)
-failure-ok sets taken e W q = subst (λ (o : Outcome). Correct sets o) q (outcome-ok sets W)
+pub failure-ok : (sets taken : List ℕ) (e : ℕ) → Words sets → outcome sets ≡ failure taken e → Violator sets taken
+failure-ok sets taken e W q = subst (λ (o : Outcome). Correct sets o) q (outcome-ok sets W) .0
 
 pub violator-few : (sets taken : List ℕ) → Violator sets taken → length taken ≤ length sets
 violator-few sets taken S =
     let k = pigeon (λ _. true) (length taken) (λ _. true) (length sets) (at taken) (λ i h _. (S .low i h, refl)) (λ i j h k _ _. S .distinct i j h k) in
     omega (arith, count-all (length taken), count-all (length sets))
 
-pub decided : (sets : List ℕ) → Words sets → Matched sets → (variables : List ℕ) × (e : ℕ) × (outcome sets ≡ success variables e)
-decided sets W w = go (outcome sets) (outcome-ok sets W)
+pub matched-succeeds : (sets : List ℕ) → Words sets → Matched sets → succeeds (outcome sets) ≡ true
+matched-succeeds sets W w = go (outcome sets) (outcome-ok sets W)
   where
-    go : (o : Outcome) → Correct sets o → (variables : List ℕ) × (e : ℕ) × (o ≡ success variables e)
-    go (success variables e) C = (variables, e, refl)
+    go : (o : Outcome) → Correct sets o → succeeds o ≡ true
+    go (success variables e) C = refl
     go (failure taken e) C = absurd (violator-unmatched sets taken W (C .0) w)
+
+pub succeeds-matched : (sets : List ℕ) → Words sets → succeeds (outcome sets) ≡ true → Matched sets
+succeeds-matched sets W t = go (outcome sets) (outcome-ok sets W) t
+  where
+    go : (o : Outcome) → Correct sets o → succeeds o ≡ true → Matched sets
+    go (success variables e) C t = (variables, C .0)
+    go (failure taken e) C t = clash t refl
+
+pub outcome-cheap : (sets : List ℕ) → Words sets → Cheap (expansions (outcome sets)) (length sets)
+outcome-cheap sets W = go (outcome sets) (outcome-ok sets W)
+  where
+    go : (o : Outcome) → Correct sets o → Cheap (expansions o) (length sets)
+    go (success variables e) C = C .1
+    go (failure taken e) C = C .1
 
 pub partial-of : (sets m : List ℕ) → length m ≤ length sets → Matches (take (length m) sets) m → Partial sets m
 partial-of sets m l M =

@@ -1,24 +1,24 @@
 -- What a search finds: an augmenting path, or a queue that is used up.
 use mathlib.Core.Path.{_≡_, refl, sym, _∙_, ap, subst}
-use mathlib.Core.Bool.{Bool, true, false, not, _&&_, _||_, cond}
+use mathlib.Core.Bool.{Bool, true, false, _&&_, cond}
 use mathlib.Core.Logic.{_⊎_, inl, inr, ⊎-elim}
 use mathlib.Core.List.{List, [], _∷_, _++_}
 use Prim.Native.Nat.{ℕ, zero, suc, _+_, _-_, _^_, _≤_, _<_}
 use native.Mathlib.Omega.{arith}
-use lib.ListN.{length, getD, set, length-set, length-append, length-replicate, List·getD-append}
+use lib.ListN.{length, set, length-set, length-append, length-replicate, List·getD-append}
 use lib.Seq.{getD-set-same, getD-set-other, getD-append-seam}
-use lib.Dec.{eqb, ltb}
-use borrow.Author.Tests.{eqb-true, eqb-false, eq-eqb, ne-eqb, ltb-true, ltb-false, lt-ltb, le-ltb}
+use lib.Dec.{eqb}
+use borrow.Author.Tests.{eqb-true, eqb-false, eq-eqb, ne-eqb, lt-ltb, le-ltb}
 use Rattle.masks.specs.Mask.{bit, with, members, size}
 use Rattle.masks.proofs.BitLaws.{bit-none, bit-with-same, bit-with-other, bit-below, with-lt}
 use Rattle.masks.proofs.MembersLaws.{Found, members-find, members-are, members-le}
 use Rattle.masks.proofs.SizeLaws.{with-count, size-none}
 use Rattle.matching.specs.Matched.{Words}
 use Rattle.matching.specs.Search.{owner, Search, no-links, begin, see, scan, take-front, front, expand, search-from, bound}
-use Rattle.matching.specs.Inner.{at, Free, Distinct, Partial}
-use Rattle.matching.proofs.Counting.{look, clash, and-l, and-r, and-i, below-cases, zero-or-pos, lt-or-le, pigeon, count-all}
+use Rattle.matching.specs.Inner.{at, Free, Partial}
+use Rattle.matching.proofs.Counting.{look, clash, below-cases, zero-or-pos, lt-or-le, pigeon, count-all}
 use Rattle.matching.proofs.OwnerLaws.{zero-or-suc, owner-free, owner-some}
-use Rattle.matching.proofs.Augmenting.{Links, Path, snoc-cases}
+use Rattle.matching.proofs.Augmenting.{Path}
 
 -- ── The definitions' turns ────────────────────────────────────────────────────────────────────────────────────────────
 

@@ -1,14 +1,14 @@
 -- Laws of the clauses' searches in arrays.
 use mathlib.Core.Path.{_≡_, refl, sym, _∙_, ap, subst}
-use mathlib.Core.Bool.{Bool, true, false, cond}
-use mathlib.Core.Logic.{_⊎_, inl, inr, ⊎-elim}
+use mathlib.Core.Bool.{true, false}
+use mathlib.Core.Logic.{_⊎_, ⊎-elim}
 use mathlib.Core.List.{List, [], _∷_, _++_}
 use Prim.Native.Nat.{ℕ, zero, suc, _+_, _-_, _*_, _≤_, _<_}
 use native.Mathlib.Numerals.{add-one}
 use native.Mathlib.Omega.{arith}
-use lib.ListN.{length, getD, set, take, replicate, length-set, length-append, length-take, length-replicate, replicate-append-replicate, getD-replicate}
-use lib.Seq.{getD-take, take-suc, take-length, take-all, take-take, length-take-le, set-getD, set-comm}
-use lib.Dec.{eqb, ltb}
+use lib.ListN.{length, set, take, replicate, length-set, length-append, length-replicate, replicate-append-replicate, getD-replicate}
+use lib.Seq.{getD-take, take-suc, take-length, length-take-le, set-getD, set-comm}
+use lib.Dec.{eqb}
 use borrow.Author.Tests.{eqb-true, eqb-false, eq-eqb, ne-eqb}
 use Rattle.lists.specs.Padded.{padded}
 use Rattle.lists.proofs.PaddedLaws.{padded-none, take-padded}
@@ -16,13 +16,13 @@ use Rattle.lists.proofs.StoreLaws.{padded-store, held-length}
 use Rattle.masks.specs.Mask.{bit, members}
 use Rattle.masks.proofs.BitLaws.{bit-below}
 use Rattle.matching.specs.Matched.{Words}
-use Rattle.matching.specs.Search.{owner, Search, begin, see, scan, take-front, front, expand, search-from, rematch, bound, Outcome, success, failure, match-rest, outcome, marks}
-use Rattle.matching.specs.Inner.{at, Free, Partial, owners-of, Tables, search-of, Sound, Owned, Augments, next-search, augmented, Augmented, Clauses, packed}
+use Rattle.matching.specs.Search.{owner, Search, begin, see, scan, take-front, front, expand, search-from, rematch-from, bound, next-search, success, failure, match-rest, outcome, marks}
+use Rattle.matching.specs.Inner.{at, owners-of, Tables, search-of, Sound, Owned, Augments, augmented, Augmented}
+use Rattle.matching.specs.Result.{Clauses, packed}
 use Rattle.matching.specs.declared.Front.{Front}
-use Rattle.matching.specs.declared.Matching.{Matching}
 use Rattle.matching.proofs.Counting.{look, lt-or-le, zero-or-pos}
 use Rattle.matching.proofs.OwnerLaws.{zero-or-suc, owner-le, free-owner}
-use Rattle.matching.proofs.Augmenting.{snoc-cases, rematch-end, rematch-on, rematch-partial}
+use Rattle.matching.proofs.Augmenting.{snoc-cases, rematch-partial}
 use Rattle.matching.proofs.SearchLaws.{see-free, see-matched, scan-none, scan-old, scan-new, scan-stop, search-on, search-found, search-empty, Stuck, Reached, Ended, search-next, word-all}
 use Rattle.matching.proofs.OutcomeLaws.{match-none, match-fails, match-on}
 use Rattle.matching.proofs.FrontLaws.{sound-tail}
@@ -92,8 +92,8 @@ next-take n sets m l =
     search-take n sets (owner m) (λ v. omega (arith, owner-le m v)) bound (begin (length m)) (λ i h. let z : i ≡ 0 = omega arith in rw z l)
 
 -- one clause more at most is matched
-rematch-short : (k : ℕ) (links m : List ℕ) (v : ℕ) → length (rematch k links m v) ≤ suc (length m)
-unfolding rematch
+rematch-short : (k : ℕ) (links m : List ℕ) (v : ℕ) → length (rematch-from k links m v) ≤ suc (length m)
+unfolding rematch-from
 rematch-short zero links m v = omega arith
 rematch-short (suc k) links m v =
     ⊎-elim
@@ -116,8 +116,8 @@ match-take n sets (suc k) m e l =
     (λ (f : eqb (s .free) 64 ≡ false).
     let ne = eqb-false (s .free) 64 f in
     match-on k (take n sets) m e (rw q ne)
-    ∙ ap (λ (r : Search). match-rest k (take n sets) (rematch bound (r .links) m (r .free)) (e + r .taken)) q
-    ∙ match-take n sets k (rematch bound (s .links) m (s .free)) (e + s .taken) (let r = rematch-short bound (s .links) m (s .free) in omega arith)
+    ∙ ap (λ (r : Search). match-rest k (take n sets) (rematch-from bound (r .links) m (r .free)) (e + r .taken)) q
+    ∙ match-take n sets k (rematch-from bound (s .links) m (s .free)) (e + s .taken) (let r = rematch-short bound (s .links) m (s .free) in omega arith)
     ∙ sym (match-on k sets m e ne))
     (look (eqb (s .free) 64))
 
@@ -169,13 +169,13 @@ module _ (sets : List ℕ) (n : ℕ) (table owners : List ℕ) (T : Tables sets 
         (path-distance sets (s .links) (take n table) (s .free) (R .1 .0) bound (R .1 .1)))
 
     pub augmented-path : (table′ owners′ : List ℕ) → (front .free ≡ 64 → ⊥) → length queue ≡ 96
-        → table′ ≡ padded 96 0 (rematch bound links (take n table) (front .free)) → owners′ ≡ owners-of (rematch bound links (take n table) (front .free))
+        → table′ ≡ padded 96 0 (rematch-from bound links (take n table) (front .free)) → owners′ ≡ owners-of (rematch-from bound links (take n table) (front .free))
         → Augmented sets (take n table) front queue table′ owners′
     unfolding augmented
     augmented-path table′ owners′ ne l et eo =
         let s = next-search sets (take n table) in
         let f : eqb (s .free) 64 ≡ false = ne-eqb (s .free) 64 (λ q. ne (free-is ∙ q)) in
-        let r : rematch bound links (take n table) (front .free) ≡ rematch bound (s .links) (take n table) (s .free) =
+        let r : rematch-from bound links (take n table) (front .free) ≡ rematch-from bound (s .links) (take n table) (s .free) =
         rw (free-is, links-are) in
         record {
           head = ap (λ (s : Search). s .taken) e;
@@ -217,10 +217,6 @@ marks-more n (d ∷ l) c =
     (λ (t : eqb c d ≡ true). rw (eqb-true c d t))
     (λ (f : eqb c d ≡ false). set-comm (marks n l) c d 1 1 (eqb-false c d f))
     (look (eqb c d))
-
-pub marks-none : (n : ℕ) (l : List ℕ) → replicate n 0 ≡ marks n (take 0 l)
-unfolding marks
-marks-none n l = refl
 
 -- one clause more of the queue is marked
 pub marks-next : (n : ℕ) (queue : List ℕ) (i : ℕ) → i < length queue → set (marks n (take i queue)) (at queue i) 1 ≡ marks n (take (i + 1) queue)
@@ -281,7 +277,7 @@ module _ (sets : List ℕ) (count i : ℕ) (table owners queue : List ℕ) (e : 
         let s = next-search sets m in
         let E = next-ended sets i table owners T (K .words) in
         let F : Reached sets m (T .partial) s = ⊎-elim (λ S. absurd (ne (A .free ∙ S .none))) (λ F. F) (E .0) in
-        let n = rematch bound (s .links) m (s .free) in
+        let n = rematch-from bound (s .links) m (s .free) in
         let P = rematch-partial sets (s .links) bound m (s .free) (T .partial) (F .1 .0) (F .1 .1) in
         let f : eqb (s .free) 64 ≡ false = ne-eqb (s .free) 64 (λ q. ne (A .free ∙ q)) in
         let t : table′ ≡ padded 96 0 n = A .table-is ∙ rw f in

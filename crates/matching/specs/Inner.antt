@@ -7,10 +7,8 @@ use lib.ListN.{length, getD, take, set}
 use lib.Dec.{eqb, ltb}
 use Rattle.lists.specs.Padded.{padded}
 use Rattle.masks.specs.Mask.{bit, size}
-use Rattle.matching.specs.Matched.{Words}
-use Rattle.matching.specs.Search.{owner, Search, begin, search-from, rematch, bound, Outcome, success, failure, marks}
+use Rattle.matching.specs.Search.{owner, Search, rematch, bound, next-search}
 use Rattle.matching.specs.declared.Front.{Front}
-use Rattle.matching.specs.declared.Matching.{Matching}
 
 abbrev pub at : List ℕ → ℕ → ℕ
 at l i = getD l i 0
@@ -91,15 +89,11 @@ pub record Augments (n : ℕ) (table owners links : List ℕ) (v : ℕ) : Type 0
 
 -- ── One clause, and all ───────────────────────────────────────────────────────────────────────────────────────────────
 
--- the search for the clause after those of the matching
-abbrev pub next-search : List ℕ → List ℕ → Search
-next-search sets matching = search-from bound sets (owner matching) (begin (length matching))
-
 -- the matching after that search
 unfoldable pub augmented : List ℕ → List ℕ → List ℕ
 augmented sets matching =
     let s = next-search sets matching in
-    cond (eqb (s .free) 64) matching (rematch bound (s .links) matching (s .free))
+    cond (eqb (s .free) 64) matching (rematch (s .links) matching (s .free))
 
 -- the numbers and the arrays after the next clause's search; the queue matters only after a failure
 pub record Augmented (sets matching : List ℕ) (front : Front) (queue table owners : List ℕ) : Type 0 where
@@ -109,14 +103,3 @@ pub record Augmented (sets matching : List ℕ) (front : Front) (queue table own
   pub long : length queue ≡ 96
   pub table-is : table ≡ padded 96 0 (augmented sets matching)
   pub owners-are : owners ≡ owners-of (augmented sets matching)
-
--- what is asked of the clauses: at most 96, whose variables are below 64
-pub record Clauses (sets : List ℕ) (count : ℕ) : Type 0 where
-  pub few : count ≤ 96
-  pub present : count ≤ length sets
-  pub words : Words sets
-
--- an outcome for n clauses as the result of match_sets
-unfoldable pub packed : ℕ → Outcome → Matching
-packed n (success variables e) = record { complete = true; expansions = e; marked = 0; table = padded 96 0 variables }
-packed n (failure taken e) = record { complete = false; expansions = e; marked = length taken; table = padded 96 0 (marks n taken) }

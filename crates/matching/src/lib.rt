@@ -2,13 +2,13 @@
 // A clause is the mask of its variables; clauses and variables count from 0.
 ghost use mathlib.Core.Path.{_≡_};
 ghost use mathlib.Core.Bool.{false};
-ghost use mathlib.Core.List.{List};
 ghost use Prim.Native.Nat.{ℕ, _<_, _≤_};
 ghost use lib.ListN.{length, take};
 ghost use Rattle.lists.specs.Padded.{padded};
 ghost use Rattle.masks.specs.Mask.{bit, members};
 ghost use Rattle.matching.specs.Search.{see, scan, expand, search-from, begin, rematch, bound, no-links, outcome, marks};
-ghost use Rattle.matching.specs.Inner.{at, search-of, Sound, Owned, Apart, owners-of, Augments, Tables, Augmented, Clauses, packed};
+ghost use Rattle.matching.specs.Inner.{at, search-of, Sound, Owned, Apart, owners-of, Augments, Tables, Augmented};
+ghost use Rattle.matching.specs.Result.{Clauses, packed};
 ghost use Rattle.matching.specs.Matched.{Words};
 
 // If complete, the first bytes of `table` are the variables of the clauses and `marked` is 0; otherwise they are 1 for a marked
@@ -22,11 +22,11 @@ pub struct Matching {
 
 // Where a search stands: the seen variables, how many clauses are taken off the queue and how many joined it, and the unmatched
 // variable that was found (64: none).
-pub struct Front {
-    pub seen: u64,
-    pub head: usize,
-    pub tail: usize,
-    pub free: usize,
+struct Front {
+    seen: u64,
+    head: usize,
+    tail: usize,
+    free: usize,
 }
 
 // The clause goes through its unseen variable v.
@@ -158,8 +158,8 @@ fn find_path(
 // Re-matches along the path from v back to the clause, so that the first clauses and this one are matched. Calls itself once a link.
 fn rematch(table: &mut [u8; 96], owners: &mut [u8; 64], links: &[u8; 64], clause: usize, v: usize)
     requires { ⌜ Augments clause (now table) (now owners) (now links) v ⌝ }
-    ensures { λ _. ⌜ now (table .exit) ≡ padded 96 0 (rematch bound (now (links .entry)) (take clause (now (table .entry))) v) ⌝ }
-    ensures { λ _. ⌜ now (owners .exit) ≡ owners-of (rematch bound (now (links .entry)) (take clause (now (table .entry))) v) ⌝ }
+    ensures { λ _. ⌜ now (table .exit) ≡ padded 96 0 (rematch (now (links .entry)) (take clause (now (table .entry))) v) ⌝ }
+    ensures { λ _. ⌜ now (owners .exit) ≡ owners-of (rematch (now (links .entry)) (take clause (now (table .entry))) v) ⌝ }
 {
     let c = wide(links[v]);
     let old = wide(table[c]);
