@@ -1,11 +1,10 @@
 -- The masks of a formula, and what the reader's contract says of an accepted input.
-use Prim.Native.Nat.{ℕ, zero, suc, _<_}
-use mathlib.Core.List.{List, [], _∷_, map}
-use native.Mathlib.Nat.{not-suc-le-zero, le-of-suc-le-suc}
+use Prim.Native.Nat.{ℕ, _<_}
+use mathlib.Core.List.{List, [], map}
 use mathlib.Core.Path.{_≡_, refl, ap}
 use native.Mathlib.Omega.{arith}
-use lib.ListN.{length, length-map, getD}
-use Rattle.lists.specs.Every.{Every}
+use lib.ListN.{length, length-map, List·getD-map}
+use Rattle.lists.proofs.EveryLaws.{every-getD}
 use Rattle.lists.proofs.PaddedLaws.{getD-padded}
 use Rattle.formula.specs.declared.Decoded.{Decoded}
 use Rattle.formula.specs.declared.Formula.{Formula}
@@ -13,24 +12,21 @@ use Rattle.formula.specs.declared.Outcome.the-variants.{Accepted, Refuse
 use Rattle.formula.specs.declared.Refusal.{Refusal}
 use Rattle.formula.specs.Decode.{Decoding, readable, refused, decode}
 use Rattle.formula.specs.Format.{Literal, ClauseOver, Sized, Encodes}
-use Rattle.formula.specs.Masked.{no-clause, clause-of, formula-of, held, decoded, ClauseFits, FormulaFits}
+use Rattle.formula.specs.Masked.{no-clause, with-literals, clause-of, formula-of, held, decoded, ClauseFits, FormulaFits}
 use Rattle.formula.proofs.ClauseLaws.{clause-fits}
 use Rattle.formula.proofs.OutcomeLaws.{decode-means}
 
-every-at : (n : ℕ) (cs : List (List Literal)) (i : ℕ) → i < length cs → Every (ClauseOver n) cs → ClauseFits n (getD (map clause-of cs) i no-clause)
-every-at n [] i l e = absurd (not-suc-le-zero l)
-every-at n (c ∷ cs) zero l e = clause-fits (e .0)
-every-at n (c ∷ cs) (suc i) l e = every-at n cs i (le-of-suc-le-suc l) (e .1)
-
 -- the masks of a formula fit
 pub formula-fits : {n : ℕ} {cs : List (List Literal)} → Sized n cs → FormulaFits (formula-of n cs)
+unfolding with-literals
 formula-fits {n} {cs} z = record {
   some = z .some;
   most = z .most;
   few = z .few;
   clauses = λ i l.
       let m : i < length (map clause-of cs) = rw (length-map cs clause-of) l in
-      rw (getD-padded 96 no-clause (map clause-of cs) i no-clause m) (every-at n cs i l (z .clauses));
+      rw (getD-padded 96 no-clause (map clause-of cs) i no-clause m, List·getD-map clause-of cs i [])
+      (clause-fits (every-getD (ClauseOver n) cs i [] l (z .clauses)));
 }
 
 -- ---- what the reader's contract says
@@ -41,6 +37,7 @@ pub record Accepts (s : List ℕ) (f : Formula) : Type 0 where
   pub clauses : List (List Literal)
   pub reads : decode s ≡ readable variables clauses
   pub formula : f ≡ formula-of variables clauses
+  pub sized : Sized variables clauses
   pub fits : FormulaFits f
 
 accepts : (s : List ℕ) (x : Decoding) → decode s ≡ x → (held x) .outcome ≡ Accepted → Accepts s ((held x) .formula)
@@ -49,6 +46,7 @@ accepts s (readable n cs) e o = let encoded : Encodes s n cs = rw e at (decode-m
   clauses = cs;
   reads = e;
   formula = refl;
+  sized = encoded .sized;
   fits = formula-fits (encoded .sized);
 }
 accepts s (refused r) e o = let z : _≡_ {A = ℕ} 0 1 = cc in absurd (omega arith)

@@ -1,7 +1,8 @@
 -- Laws of what holds of every element of a list.
-use Prim.Native.Nat.{ℕ, zero, suc}
+use Prim.Native.Nat.{ℕ, zero, suc, _<_}
 use mathlib.Core.List.{List, [], _∷_, _++_}
-use lib.ListN.{replicate}
+use native.Mathlib.Nat.{not-suc-le-zero, le-of-suc-le-suc}
+use lib.ListN.{length, getD, replicate}
 use Rattle.lists.specs.Every.{Every}
 
 module _ {A : Type 0} (P : A → Type 0) where
@@ -14,3 +15,9 @@ module _ {A : Type 0} (P : A → Type 0) where
   pub every-replicate : (n : ℕ) (x : A) → P x → Every P (replicate n x)
   every-replicate zero x h = tt
   every-replicate (suc n) x h = (h, every-replicate n x h)
+
+  -- and of the i-th element
+  pub every-getD : (xs : List A) (i : ℕ) (d : A) → i < length xs → Every P xs → P (getD xs i d)
+  every-getD [] i d l h = absurd (not-suc-le-zero l)
+  every-getD (x ∷ xs) zero d l h = h .0
+  every-getD (x ∷ xs) (suc i) d l h = every-getD xs i d (le-of-suc-le-suc l) (h .1)

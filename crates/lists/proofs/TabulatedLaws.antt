@@ -33,7 +33,13 @@ module _ {A : Type 0} (f : ℕ → A) where
           let q : n ≡ i = omega arith in
           getD-at (tabulated f n) (f n) [] d i (length-tabulated n ∙ q) ∙ ap f q
 
--- over the elements of a list it is the list mapped
+-- the elements of a list are the list
+pub tabulated-self : {A : Type 0} (l : List A) (d : A) → tabulated (λ i. getD l i d) (length l) ≡ l
+tabulated-self l d =
+    let n : length (tabulated (λ i. getD l i d) (length l)) ≡ length l = length-tabulated (λ i. getD l i d) (length l) in
+    ext-getD d (tabulated (λ i. getD l i d) (length l)) l n (λ i h. getD-tabulated (λ j. getD l j d) (length l) i d (rw n at h))
+
+-- a function of them is the list mapped
 pub tabulated-map : {A B : Type 0} (g : A → B) (l : List A) (d : A) → tabulated (λ i. g (getD l i d)) (length l) ≡ map g l
 tabulated-map g l d =
     let n : length (tabulated (λ i. g (getD l i d)) (length l)) ≡ length l = length-tabulated (λ i. g (getD l i d)) (length l) in

@@ -198,6 +198,18 @@ unfolding marks
 length-marks n [] = length-replicate {A = ℕ} n 0
 length-marks n (c ∷ l) = length-set (marks n l) c 1 ∙ length-marks n l
 
+-- a mark is 0 or 1
+pub marks-le : (n : ℕ) (l : List ℕ) (i : ℕ) → i < n → at (marks n l) i ≤ 1
+unfolding marks
+marks-le n [] i h = omega (arith, getD-replicate {A = ℕ} n i 0 0 h)
+marks-le n (c ∷ l) i h =
+    ⊎-elim
+    (λ (t : eqb i c ≡ true). let e = length-marks n l in
+    let q = eqb-true i c t in
+    omega (arith, getD-set-same (marks n l) c 1 0 (omega arith), ap (at (set (marks n l) c 1)) q))
+    (λ (f : eqb i c ≡ false). omega (arith, getD-set-other (marks n l) c i 1 0 (eqb-false i c f), marks-le n l i h))
+    (look (eqb i c))
+
 -- what is listed has a mark
 pub marks-in : (n : ℕ) (l : List ℕ) (i : ℕ) → i < length l → at l i < n → at (marks n l) (at l i) ≡ 1
 unfolding marks
