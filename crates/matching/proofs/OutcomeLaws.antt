@@ -1,12 +1,12 @@
 -- What the clauses' searches together give.
-use mathlib.Core.Path.{_≡_, refl, sym, _∙_, ap, subst}
+use mathlib.Core.Path.{_≡_, refl, sym, _∙_, subst}
 use mathlib.Core.Bool.{true, false}
 use mathlib.Core.Logic.{_⊎_, ⊎-elim}
 use mathlib.Core.List.{List, []}
 use Prim.Native.Nat.{ℕ, zero, suc, _+_, _*_, _≤_, _<_}
 use native.Mathlib.Nat.{suc-mul, mul-suc, mul-le-mul}
 use native.Mathlib.Omega.{arith}
-use lib.ListN.{length, take}
+use lib.ListN.{length, set, take}
 use lib.Seq.{take-length, getD-take, length-take-le}
 use borrow.Author.Tests.{eq-eqb, ne-eqb}
 use Rattle.masks.specs.Mask.{bit, size}
@@ -16,7 +16,8 @@ use Rattle.matching.specs.Search.{Search, rematch-from, bound, next-sear
 use Rattle.matching.specs.Inner.{at, Distinct, Partial}
 use Rattle.matching.proofs.Counting.{look, clash, zero-or-pos, count-all, pigeon}
 use Rattle.matching.proofs.Augmenting.{rematch-partial}
-use Rattle.matching.proofs.SearchLaws.{Inv, Stuck, Reached, search-next}
+use Rattle.matching.proofs.SearchLaws.{queue-distinct, Inv, Stuck, Reached, search-next}
+use Rattle.matching.proofs.CriticalLaws.{critical}
 use Rattle.matching.proofs.MatchedLaws.{union-of, union-in, union-word, matched-room, chosen-matched, chosen-in, chosen-from, marks-in, marks-from, marks-count, length-marks}
 
 pub match-none : (sets m : List ℕ) (e : ℕ) → match-rest 0 sets m e ≡ success m e
@@ -35,12 +36,13 @@ match-on k sets m e ne = rw (ne-eqb (next-search sets m .free) 64 ne)
 
 -- ── A search that fails ───────────────────────────────────────────────────────────────────────────────────────────────
 
--- The clauses of the list are all different and name one variable fewer than they are.
+-- The clauses of the list are all different and name one variable fewer than they are. Without any one of them the others are matched.
 pub record Violator (sets taken : List ℕ) : Type 0 where
   pub some : 0 < length taken
   pub low : (i : ℕ) → i < length taken → at taken i < length sets
   pub distinct : Distinct taken
   pub tight : suc (size (union (chosen (marks (length sets) taken) sets))) ≡ length taken
+  pub critical : (i : ℕ) → i < length taken → Matched (chosen (set (marks (length sets) taken) (at taken i) 0) sets)
 
 words-chosen : (marks sets : List ℕ) → Words sets → Words (chosen marks sets)
 words-chosen marks sets W i h = let w = chosen-from marks sets i h in rw (w .4) (W (w .0) (w .2))
@@ -57,19 +59,6 @@ module _ (sets m : List ℕ) (W : Words sets) (M : Partial sets m) (room : lengt
   queue-low : (h : ℕ) (s : Search) → Inv sets m h s → (i : ℕ) → i < length (s .queue) → at (s .queue) i < length sets
   queue-low h s I i l =
       ⊎-elim (λ (e : i ≡ 0). rw (e, I .root) room) (λ p. omega (arith, I .each i p l .0)) (zero-or-pos i)
-
-  queue-distinct : (h : ℕ) (s : Search) → Inv sets m h s → Distinct (s .queue)
-  queue-distinct h s I i j l k e =
-      ⊎-elim
-      (λ (p : i ≡ 0). ⊎-elim
-      (λ (q : j ≡ 0). p ∙ sym q)
-      (λ q. let r : at (s .queue) i ≡ length m = rw p (I .root) in absurd (omega (arith, I .each j q k .0)))
-      (zero-or-pos j))
-      (λ p. ⊎-elim
-      (λ (q : j ≡ 0). let r : at (s .queue) j ≡ length m = rw q (I .root) in absurd (omega (arith, I .each i p l .0)))
-      (λ q. sym (I .each i p l .2) ∙ ap (λ c. I .pos (at m c)) e ∙ I .each j q k .2)
-      (zero-or-pos j))
-      (zero-or-pos i)
 
   -- what the queue's clauses name is what is seen
   stuck-union : (s : Search) → Stuck sets m M s → union (chosen (marks (length sets) (s .queue)) sets) ≡ s .seen
@@ -110,8 +99,9 @@ module _ (sets m : List ℕ) (W : Words sets) (M : Partial sets m) (room : lengt
       rw (S .all-taken, take-length (s .queue)) (record {
         some = I .some;
         low = queue-low (s .taken) s I;
-        distinct = queue-distinct (s .taken) s I;
+        distinct = queue-distinct sets m M (s .taken) s I;
         tight = rw (stuck-union s S) (sym (I .sized));
+        critical = critical sets m W M room s S;
       })
 
 -- ── All clauses ───────────────────────────────────────────────────────────────────────────────────────────────────────

@@ -15,7 +15,7 @@ use Rattle.masks.proofs.MembersLaws.{Found, members-find, members-are, members-
 use Rattle.masks.proofs.SizeLaws.{with-count, size-none}
 use Rattle.matching.specs.Matched.{Words}
 use Rattle.matching.specs.Search.{owner, Search, no-links, begin, see, scan, take-front, front, expand, search-from, bound}
-use Rattle.matching.specs.Inner.{at, Free, Partial}
+use Rattle.matching.specs.Inner.{at, Free, Distinct, Partial}
 use Rattle.matching.proofs.Counting.{look, clash, below-cases, zero-or-pos, lt-or-le, pigeon, count-all}
 use Rattle.matching.proofs.OwnerLaws.{zero-or-suc, owner-free, owner-some}
 use Rattle.matching.proofs.Augmenting.{Path}
@@ -437,3 +437,17 @@ module _ (sets m : List ℕ) (M : Partial sets m) where
   pub search-next : Words sets → Ended (search-from bound sets (owner m) (begin (length m)))
   unfolding begin
   search-next W = search-ok W bound (begin (length m)) refl (inv-begin sets m) refl (omega arith)
+
+  -- no clause stands twice in the queue
+  pub queue-distinct : (h : ℕ) (s : Search) → Inv sets m h s → Distinct (s .queue)
+  queue-distinct h s I i j l k e =
+      ⊎-elim
+      (λ (p : i ≡ 0). ⊎-elim
+      (λ (q : j ≡ 0). p ∙ sym q)
+      (λ q. let r : at (s .queue) i ≡ length m = rw p (I .root) in absurd (omega (arith, I .each j q k .0)))
+      (zero-or-pos j))
+      (λ p. ⊎-elim
+      (λ (q : j ≡ 0). let r : at (s .queue) j ≡ length m = rw q (I .root) in absurd (omega (arith, I .each i p l .0)))
+      (λ q. sym (I .each i p l .2) ∙ ap (λ c. I .pos (at m c)) e ∙ I .each j q k .2)
+      (zero-or-pos j))
+      (zero-or-pos i)
