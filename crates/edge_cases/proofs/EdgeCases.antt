@@ -1,7 +1,7 @@
 -- 01, 'Cases at the edges': the cases marked to be proved, in 01's order, each computed from the definitions.
 use Prim.Native.Nat.{ℕ, _-_}
 use mathlib.Core.Bool.{true, false}
-use mathlib.Core.List.{List, [], _∷_}
+use mathlib.Core.List.{[], _∷_}
 use mathlib.Core.Path.{_≡_, refl}
 use Rattle.formula.specs.Decode.{Decoding, readable, refused, decode, records, read-record}
 use Rattle.formula.specs.Format.{Literal, names}
@@ -38,9 +38,9 @@ unfolding decode records read-record names
 named-twice = refl
 
 -- 01 01 02 01 05: 4 at 4
-pub rule-not-ended : refusal-of (decode (1 ∷ 1 ∷ 2 ∷ 1 ∷ 5 ∷ [])) ≡ number-at 4 4
+pub clause-not-ended : refusal-of (decode (1 ∷ 1 ∷ 2 ∷ 1 ∷ 5 ∷ [])) ≡ number-at 4 4
 unfolding decode records read-record names
-rule-not-ended = refl
+clause-not-ended = refl
 
 -- 01 01 05 00: 9 at 3
 pub tail-byte : refusal-of (decode (1 ∷ 1 ∷ 5 ∷ 0 ∷ [])) ≡ number-at 9 3

@@ -1,44 +1,32 @@
 -- The length of an encoded formula, and the longest one.
 use Prim.Native.Nat.{ℕ, zero, suc, _+_, _*_, _≤_, _<_}
-use mathlib.Core.Bool.{true, false, or-comm}
+use mathlib.Core.Bool.{true, false}
 use mathlib.Core.List.{List, [], _∷_}
 use mathlib.Core.Path.{_≡_, refl, ap, _∙_}
 use native.Mathlib.Omega.{arith}
 use borrow.Author.Tests.{ne-eqb}
-use lib.Dec.{eqb}
 use lib.ListN.{length, length-append, replicate, length-replicate}
 use Rattle.lists.specs.Every.{Every}
 use Rattle.lists.proofs.EveryLaws.{every-replicate}
-use Rattle.lists.proofs.TestLaws.{eqb-comm}
-use Rattle.masks.specs.Mask.{bit, with, members}
-use Rattle.masks.proofs.BitLaws.{bit-none, bit-with}
+use Rattle.masks.specs.Mask.{members}
 use Rattle.masks.proofs.MembersLaws.{members-le}
 use Rattle.masks.proofs.SizeLaws.{with-count, size-none}
 use Rattle.formula.specs.Format.{Literal, literal-bytes, literals-bytes, clause-bytes, clauses-bytes, formula-bytes, names, distinct, ClauseOver, Encodes}
+use Rattle.formula.specs.Masked.{variables}
+use Rattle.formula.proofs.ClauseLaws.{variables-bit}
 use Rattle.formula.proofs.FormatLaws.{distinct-rest}
 
--- the variables of a clause as a mask
-variables-of : List Literal → ℕ
-variables-of [] = 0
-variables-of (l ∷ c) = with (variables-of c) (l .variable)
-
--- its members are the variables that the clause names
-variables-bit : (c : List Literal) (v : ℕ) → bit (variables-of c) v ≡ names c v
-unfolding variables-of names
-variables-bit [] v = bit-none v
-variables-bit (l ∷ c) v = bit-with (variables-of c) (l .variable) v ∙ rw (variables-bit c v, eqb-comm v (l .variable)) (or-comm (names c v) (eqb (l .variable) v))
-
 -- a clause over n variables with none twice has a literal for each member
-variables-count : (n : ℕ) (c : List Literal) → Every (λ l. l .variable < n) c → distinct c ≡ true → length (members (variables-of c) n) ≡ length c
-unfolding variables-of
+variables-count : (n : ℕ) (c : List Literal) → Every (λ l. l .variable < n) c → distinct c ≡ true → length (members (variables c) n) ≡ length c
+unfolding variables
 variables-count n [] h o = size-none n
 variables-count n (l ∷ c) h o =
     let a = distinct-rest l c o in
-    with-count (variables-of c) (l .variable) n (variables-bit c (l .variable) ∙ a .0) (h .0) ∙ ap suc (variables-count n c (h .1) (a .1))
+    with-count (variables c) (l .variable) n (variables-bit c (l .variable) ∙ a .0) (h .0) ∙ ap suc (variables-count n c (h .1) (a .1))
 
 -- so it has n literals at most
 pub clause-le : {n : ℕ} {c : List Literal} → ClauseOver n c → length c ≤ n
-clause-le {n} {c} o = omega (arith, variables-count n c (o .below) (o .once), members-le (variables-of c) n)
+clause-le {n} {c} o = omega (arith, variables-count n c (o .below) (o .once), members-le (variables c) n)
 
 -- a literal has two bytes
 pub literals-length : (c : List Literal) → length (literals-bytes c) ≡ 2 * length c

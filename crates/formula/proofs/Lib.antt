@@ -1,4 +1,5 @@
 pub mod CheckLaws
+pub mod ClauseLaws
 pub mod DecodeLaws
 pub mod Demands
 pub mod ExtendsLaws

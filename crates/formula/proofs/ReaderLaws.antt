@@ -1,75 +1,29 @@
 -- The reader over masks follows `decode` over written clauses.
 use Prim.Native.Nat.{ℕ, zero, suc, _+_, _-_, _≤_, _<_, zero-le}
-use mathlib.Core.Bool.{Bool, true, false, cond, _&&_, _||_, true≢false, or-assoc, or-false}
+use mathlib.Core.Bool.{Bool, true, false, cond, _&&_}
 use mathlib.Core.List.{List, [], _∷_, _++_, map, map-append}
-use mathlib.Core.Logic.{_⊎_, inl, inr}
 use mathlib.Core.Path.{_≡_, refl, sym, ap, _∙_, subst}
 use native.Mathlib.Decide.{decLt}
-use native.Mathlib.Numerals.{add-one, add-two}
 use native.Mathlib.Omega.{arith}
-use lib.Bits.{bitOr}
 use lib.Dec.{eqb, ltb}
 use lib.ListN.{length, length-map, getD, drop, set, length-append, drop-of-length-le}
 use lib.Seq.{drop-cons}
-use borrow.Author.Tests.{eqb-true, eqb-false, ltb-true, ltb-false, lt-ltb, le-ltb, eq-eqb, ne-eqb}
-use Rattle.masks.specs.Mask.{bit}
-use Rattle.masks.proofs.BitLaws.{bit-or, bit-pow, bit-none}
+use borrow.Author.Tests.{eqb-true, eqb-false, ltb-true, lt-ltb, le-ltb}
 use Rattle.formula.specs.declared.Clause.{Clause}
 use Rattle.formula.specs.declared.Event.{Event}
 use Rattle.formula.specs.declared.Event.the-variants.{Next, Finished, Stopped}
 use Rattle.formula.specs.declared.Reader.{Reader}
 use Rattle.formula.specs.declared.Refusal.{Refusal}
 use Rattle.formula.specs.declared.Refusal.the-variants.{Truncated, UnknownKind, Misplaced, BadVariableCount, NoSuchVariable, RepeatedVariable, TooManyClauses, TrailingByte}
-use Rattle.formula.specs.Decode.{Decoding, readable, refused, Kind, variable-count, literal, clause-end, formula-end, unknown, kind-of, known, allowed, Reading, start, Step, next, stop, refuse, none-yet, one-to, after-kind, variable-count-body, literal-body, clause-ends, formula-ends, read-record, records, decode}
+use Rattle.formula.specs.Decode.{readable, refused, Kind, variable-count, literal, clause-end, formula-end, unknown, kind-of, known, allowed, Reading, start, Step, next, stop, refuse, none-yet, one-to, after-kind, variable-count-body, literal-body, clause-ends, formula-ends, read-record, records, decode}
 use Rattle.formula.specs.Format.{Literal, names}
-use Rattle.formula.specs.InnerReader.{named, count-event, variable-event, literal-event, end-event, finish-event, kind-event, record-event, reader-of, Reads}
+use Rattle.formula.specs.InnerReader.{count-event, variable-event, literal-event, end-event, finish-event, kind-event, record-event, reader-of, Reads}
+use Rattle.formula.proofs.ClauseLaws.{with-literals-last, clause-names, clause-empty}
 use Rattle.formula.proofs.OneTo.{one-to-most}
-use Rattle.formula.specs.Masked.{no-clause, with-literal, with-literals, clause-of, held}
+use Rattle.formula.specs.Masked.{no-clause, with-literals, clause-of, held}
 use Rattle.formula.specs.declared.Outcome.the-variants.{Accepted}
 use Rattle.lists.specs.Padded.{padded}
 use Rattle.lists.proofs.PaddedLaws.{padded-set}
-use Rattle.lists.proofs.TestLaws.{or-swap, eqb-comm}
-
--- ---- the masks of a clause
-
--- one literal more at the end
-pub with-literals-last : (c : Clause) (ls : List Literal) (l : Literal)
-    → with-literals c (ls ++ (l ∷ [])) ≡ with-literal (with-literals c ls) (l .variable) (l .positive)
-unfolding with-literals
-with-literals-last c [] l = refl
-with-literals-last c (k ∷ ls) l = with-literals-last (with-literal c (k .variable) (k .positive)) ls l
-
--- a literal more names its variable and what was named
-pub with-literal-names : (c : Clause) (v : ℕ) (sign : Bool) (i : ℕ) → bit (named (with-literal c v sign)) i ≡ bit (named c) i || eqb i v
-with-literal-names c v true i =
-    simp (bit-or, bit-pow) (or-swap (bit (c .positive) i) (bit (c .negative) i) (eqb i v))
-with-literal-names c v false i =
-    simp (bit-or, bit-pow) (sym (or-assoc (bit (c .positive) i) (bit (c .negative) i) (eqb i v)))
-
--- the masks name v if they named it before, or a literal does
-with-literals-names : (c : Clause) (ls : List Literal) (v : ℕ) → bit (named (with-literals c ls)) v ≡ bit (named c) v || names ls v
-unfolding with-literals names
-with-literals-names c [] v = sym (or-false (bit (named c) v))
-with-literals-names c (l ∷ ls) v =
-    with-literals-names (with-literal c (l .variable) (l .positive)) ls v
-    ∙ ap (λ (b : Bool). b || names ls v)
-    (with-literal-names c (l .variable) (l .positive) v ∙ ap (λ (b : Bool). bit (named c) v || b) (eqb-comm v (l .variable)))
-    ∙ or-assoc (bit (named c) v) (eqb (l .variable) v) (names ls v)
-
--- the masks of a clause name what its literals name
-pub clause-names : (c : List Literal) (v : ℕ) → bit (named (clause-of c)) v ≡ names c v
-clause-names c v =
-    let e : bit (named no-clause) v ≡ false = bit-none v in
-    with-literals-names no-clause c v ∙ rw e
-
--- and are empty only where there is no literal
-pub clause-empty : (c : List Literal) → eqb (named (clause-of c)) 0 ≡ none-yet c
-unfolding with-literals names
-clause-empty [] = refl
-clause-empty (l ∷ c) = ne-eqb (named (clause-of (l ∷ c))) 0 (λ e. true≢false (sym (here (clause-names (l ∷ c) (l .variable))) ∙ ap (λ (m : ℕ). bit m (l .variable)) e ∙ bit-none (l .variable)))
-  where
-    here : bit (named (clause-of (l ∷ c))) (l .variable) ≡ names (l ∷ c) (l .variable) → bit (named (clause-of (l ∷ c))) (l .variable) ≡ true
-    here e = e ∙ rw (eq-eqb (l .variable) (l .variable) refl)
 
 -- ---- one record
 

@@ -7,10 +7,9 @@ use native.Mathlib.Omega.{arith}
 use Rattle.masks.specs.Mask.{bit}
 use Rattle.formula.specs.declared.Refusal.{Refusal}
 use Rattle.formula.specs.declared.Refusal.the-variants.{StrayVariable}
-use Rattle.formula.specs.Check.{Answer, said-yes, said-no, answer, refusal, judged, checked}
+use Rattle.formula.specs.Check.{Answer, said-yes, said-no, answer, refusal, answered, checked}
 use Rattle.formula.specs.Decode.{Decoding, readable, refused, decode}
-use Rattle.formula.specs.Format.{Literal}
-use Rattle.formula.specs.Models.{Model, ModelOf, NoModelOf, StrayOf, satisfied, stray}
+use Rattle.formula.specs.Models.{ModelOf, NoModelOf, StrayOf, satisfied, stray}
 use Rattle.formula.specs.Table.{Refuses}
 use Rattle.formula.proofs.ModelLaws.{stray-some, some-stray, model-tests, tests-model}
 use Rattle.formula.proofs.OutcomeLaws.{decode-means}
@@ -30,7 +29,7 @@ no-strays n a e v l = go (bit a v) refl
     go true q = sym (some-stray n a v l q) ∙ e
     go false q = refl
 
-says-of : (s : List ℕ) (a : ℕ) (x : Decoding) → decode s ≡ x → Says s a (judged x a)
+says-of : (s : List ℕ) (a : ℕ) (x : Decoding) → decode s ≡ x → Says s a (answered x a)
 says-of s a (readable n cs) e = go (stray n a) refl (satisfied a cs) refl
   where
     go : (t : Bool) → stray n a ≡ t → (u : Bool) → satisfied a cs ≡ u → Says s a (cond t (refusal (StrayVariable 0)) (cond u (answer said-yes) (answer said-no)))

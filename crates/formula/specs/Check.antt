@@ -35,9 +35,9 @@ values NotModel = answer said-no
 values (Refused r) = refusal r
 
 -- yes if the assignment is a model, no if it is not; 12 if a variable above the formula's is true
-abbrev pub judged : Decoding → ℕ → Answer
-judged (readable n cs) a = cond (stray n a) (refusal (StrayVariable 0)) (cond (satisfied a cs) (answer said-yes) (answer said-no))
-judged (refused r) a = refusal r
+abbrev pub answered : Decoding → ℕ → Answer
+answered (readable n cs) a = cond (stray n a) (refusal (StrayVariable 0)) (cond (satisfied a cs) (answer said-yes) (answer said-no))
+answered (refused r) a = refusal r
 
 unfoldable pub checked : List ℕ → ℕ → Answer
-checked s a = judged (decode s) a
+checked s a = answered (decode s) a

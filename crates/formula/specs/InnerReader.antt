@@ -3,7 +3,6 @@ use Prim.Native.Nat.{ℕ, _+_, _-_, _≤_}
 use mathlib.Core.Bool.{Bool, cond}
 use mathlib.Core.List.{List, map}
 use mathlib.Core.Path.{_≡_}
-use lib.Bits.{bitOr}
 use lib.Dec.{eqb, ltb}
 use lib.ListN.{length, getD, drop}
 use Rattle.lists.specs.Padded.{padded}
@@ -14,10 +13,7 @@ use Rattle.formula.specs.declared.Event.the-variants.{Next, Finished, St
 use Rattle.formula.specs.declared.Reader.{Reader}
 use Rattle.formula.specs.declared.Refusal.the-variants.{Truncated, UnknownKind, Misplaced, BadVariableCount, NoSuchVariable, RepeatedVariable, TooManyClauses, TrailingByte}
 use Rattle.formula.specs.Decode.{Kind, variable-count, literal, clause-end, formula-end, unknown, kind-of, one-to, Reading, records, decode}
-use Rattle.formula.specs.Masked.{no-clause, with-literal, clause-of}
-
-abbrev pub named : Clause → ℕ
-named c = bitOr (c .positive) (c .negative)
+use Rattle.formula.specs.Masked.{no-clause, with-literal, clause-of, named}
 
 -- kind 1
 unfoldable pub count-event : List ℕ → Reader → Event

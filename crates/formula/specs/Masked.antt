@@ -3,6 +3,7 @@ use Prim.Native.Nat.{ℕ, _^_, _<_, _≤_}
 use mathlib.Core.Bool.{Bool, true, false}
 use mathlib.Core.List.{List, [], _∷_, map}
 use mathlib.Core.Path.{_≡_}
+use lib.Bits.{bitOr}
 use lib.ListN.{length, getD}
 use Rattle.lists.specs.Padded.{padded}
 use Rattle.masks.specs.Mask.{with, meets}
@@ -10,13 +11,16 @@ use Rattle.formula.specs.declared.Clause.{Clause}
 use Rattle.formula.specs.declared.Decoded.{Decoded}
 use Rattle.formula.specs.declared.Formula.{Formula}
 use Rattle.formula.specs.declared.Outcome.the-variants.{Accepted, Refused}
-use Rattle.formula.specs.declared.Refusal.{Refusal}
 use Rattle.formula.specs.Decode.{Decoding, readable, refused, decode}
 use Rattle.formula.specs.Format.{Literal}
 
 -- the clause that names nothing
 abbrev pub no-clause : Clause
 no-clause = record { positive = 0; negative = 0 }
+
+-- the variables that the clause names
+abbrev pub named : Clause → ℕ
+named c = bitOr (c .positive) (c .negative)
 
 -- the clause that names v as well, as true or as false
 abbrev pub with-literal : Clause → ℕ → Bool → Clause
@@ -32,6 +36,11 @@ with-literals c (l ∷ ls) = with-literals (with-literal c (l .variable) (l .pos
 abbrev pub side : Clause → Bool → ℕ
 side c true = c .positive
 side c false = c .negative
+
+-- all variables that a clause names, as a mask
+unfoldable pub variables : List Literal → ℕ
+variables [] = 0
+variables (l ∷ c) = with (variables c) (l .variable)
 
 -- the masks of a clause
 abbrev pub clause-of : List Literal → Clause

@@ -3,7 +3,6 @@ ghost use mathlib.Core.Path.{_≡_};
 ghost use Prim.Native.Nat.{_+_, _<_, _≤_, _^_};
 ghost use lib.ListN.{length};
 ghost use mathlib.Core.List.{[]};
-ghost use lib.Bits.{bitOr};
 ghost use Rattle.formula.specs.Check.{values, checked};
 ghost use Rattle.formula.specs.InnerCheck.{clause-holds, clauses-hold};
 ghost use Rattle.formula.specs.Masked.{no-clause, with-literal, formula-of, held, decoded};
@@ -339,7 +338,7 @@ pub fn place_of(refusal: Refusal) -> usize
 }
 
 // Some variable stands the way that the clause names it.
-pub fn holds(c: Clause, assignment: u64) -> bool
+fn holds(c: Clause, assignment: u64) -> bool
     ensures { λ r. ⌜ r ≡ clause-holds assignment c ⌝ }
 {
     masks::meets(c.positive, assignment) || masks::minus(c.negative, assignment) != 0

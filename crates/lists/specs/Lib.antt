@@ -1,2 +1,4 @@
 pub mod Every
+pub mod Over
 pub mod Padded
+pub mod Tabulated

@@ -1,18 +1,18 @@
 -- Re-matching along an augmenting path matches one clause more.
 use mathlib.Core.Path.{_≡_, refl, sym, _∙_, ap, subst}
-use mathlib.Core.Bool.{Bool, true, false, cond}
+use mathlib.Core.Bool.{Bool, true, false}
 use mathlib.Core.Logic.{_⊎_, inl, inr, ⊎-elim}
 use mathlib.Core.List.{List, [], _∷_, _++_}
 use Prim.Native.Nat.{ℕ, zero, suc, _+_, _≤_, _<_}
 use native.Mathlib.Omega.{arith}
-use lib.ListN.{length, getD, set, length-set, length-append, List·getD-append}
+use lib.ListN.{length, set, length-set, length-append, List·getD-append}
 use lib.Seq.{getD-set-same, getD-set-other, getD-append-seam}
 use lib.Dec.{eqb}
 use borrow.Author.Tests.{eqb-true, eqb-false, eq-eqb, ne-eqb}
 use Rattle.masks.specs.Mask.{bit}
-use Rattle.matching.specs.Search.{rematch}
+use Rattle.matching.specs.Search.{rematch-from}
 use Rattle.matching.specs.Inner.{at, Free, Distinct, Partial}
-use Rattle.matching.proofs.Counting.{look, clash, below-cases}
+use Rattle.matching.proofs.Counting.{look, below-cases}
 
 -- an element of a list with one more at its end
 pub snoc-cases : (l : List ℕ) (x i : ℕ) → i < length (l ++ (x ∷ [])) → ((i ≡ length l) × (at (l ++ (x ∷ [])) i ≡ x)) ⊎ ((i < length l) × (at (l ++ (x ∷ [])) i ≡ at l i))
@@ -141,18 +141,18 @@ path-step sets links m v M P ne =
 pub path-end : (sets links m : List ℕ) (v : ℕ) → Partial sets m → Path sets links m v → at links v ≡ length m → Partial sets (m ++ (v ∷ []))
 path-end sets links m v M P e = grow sets m v M (subst (λ k. bit (at sets k) v ≡ true) e (P .links-up .named v (P .here) (omega arith))) (P .free)
 
-pub rematch-end : (k : ℕ) (links m : List ℕ) (v : ℕ) → at links v ≡ length m → rematch (suc k) links m v ≡ m ++ (v ∷ [])
-unfolding rematch
+pub rematch-end : (k : ℕ) (links m : List ℕ) (v : ℕ) → at links v ≡ length m → rematch-from (suc k) links m v ≡ m ++ (v ∷ [])
+unfolding rematch-from
 rematch-end k links m v e = rw (eq-eqb (at links v) (length m) e)
 
 pub rematch-on : (k : ℕ) (links m : List ℕ) (v : ℕ) → (at links v ≡ length m → ⊥)
-    → rematch (suc k) links m v ≡ rematch k links (set m (at links v) v) (at m (at links v))
-unfolding rematch
+    → rematch-from (suc k) links m v ≡ rematch-from k links (set m (at links v) v) (at m (at links v))
+unfolding rematch-from
 rematch-on k links m v ne = rw (ne-eqb (at links v) (length m) ne)
 
 -- re-matching matches the new clause too
 pub rematch-partial : (sets links : List ℕ) (k : ℕ) (m : List ℕ) (v : ℕ) → Partial sets m → (P : Path sets links m v) → P .age v < k
-    → Partial sets (rematch k links m v) × (length (rematch k links m v) ≡ suc (length m))
+    → Partial sets (rematch-from k links m v) × (length (rematch-from k links m v) ≡ suc (length m))
 rematch-partial sets links zero m v M P l = absurd (omega arith)
 rematch-partial sets links (suc k) m v M P l =
     ⊎-elim

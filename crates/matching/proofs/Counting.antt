@@ -1,12 +1,12 @@
 -- Tests, counting and the pigeonhole principle, over sets of naturals that are Bool-valued functions.
-use mathlib.Core.Path.{_≡_, refl, sym, _∙_, ap}
+use mathlib.Core.Path.{_≡_, refl}
 use mathlib.Core.Bool.{Bool, true, false, not, _&&_, _||_}
 use mathlib.Core.Logic.{_⊎_, inl, inr, ⊎-elim}
 use Prim.Native.Nat.{ℕ, zero, suc, _+_, _≤_, _<_}
 use native.Mathlib.Nat.{eq-or-lt-of-le, le-of-suc-le-suc, not-suc-le-zero}
 use native.Mathlib.Omega.{arith}
 use lib.Dec.{eqb, ltb}
-use borrow.Author.Tests.{ltb-true, ltb-false, eqb-true, eqb-false, eq-eqb, ne-eqb, not-true, not-false}
+use borrow.Author.Tests.{ltb-true, ltb-false, eqb-false, ne-eqb, not-true}
 
 pub look : (b : Bool) → (b ≡ true) ⊎ (b ≡ false)
 look true = inl refl
@@ -22,9 +22,6 @@ and-l false b e = e
 pub and-r : (a b : Bool) → (a && b) ≡ true → b ≡ true
 and-r true b e = e
 and-r false b e = clash e refl
-
-pub and-i : (a b : Bool) → a ≡ true → b ≡ true → (a && b) ≡ true
-and-i a b p q = rw (p, q)
 
 pub or-e : (a b : Bool) → (a || b) ≡ true → (a ≡ true) ⊎ (b ≡ true)
 or-e true b e = inl refl
@@ -63,10 +60,6 @@ except f a i = f i && not (eqb i a)
 pub except-i : (f : ℕ → Bool) (a i : ℕ) → f i ≡ true → (i ≡ a → ⊥) → except f a i ≡ true
 unfolding except
 except-i f a i p ne = rw (p, ne-eqb i a ne)
-
-pub except-of : (f : ℕ → Bool) (a i : ℕ) → except f a i ≡ true → f i ≡ true
-unfolding except
-except-of f a i e = and-l _ _ e
 
 pub except-ne : (f : ℕ → Bool) (a i : ℕ) → except f a i ≡ true → i ≡ a → ⊥
 unfolding except
@@ -111,11 +104,6 @@ pigeon S (suc n) W N f into inj =
     rw t (omega (arith, k, count-except W (f n) N (here .0) (here .1))))
     (λ (t : S n ≡ false). rw t (omega (arith, pigeon S n W N f (λ i h. into i (omega arith)) (λ i j h k. inj i j (omega arith) (omega arith)))))
     (look (S n))
-
-pub count-le : (f : ℕ → Bool) (n : ℕ) → count f n ≤ n
-unfolding count
-count-le f zero = omega arith
-count-le f (suc n) = ⊎-elim (λ t. rw t (omega (arith, count-le f n))) (λ t. rw t (omega (arith, count-le f n))) (look (f n))
 
 pub count-all : (n : ℕ) → count (λ _. true) n ≡ n
 unfolding count

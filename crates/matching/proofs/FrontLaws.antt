@@ -1,21 +1,20 @@
 -- Laws of what the search's functions hold in arrays and numbers.
-use mathlib.Core.Path.{_≡_, refl, sym, _∙_, ap, subst}
-use mathlib.Core.Bool.{Bool, true, false, not, _&&_, cond}
-use mathlib.Core.Logic.{_⊎_, inl, inr, ⊎-elim}
-use mathlib.Core.List.{List, [], _∷_, _++_}
-use Prim.Native.Nat.{ℕ, zero, suc, _+_, _-_, _^_, _≤_, _<_}
+use mathlib.Core.Path.{_≡_, refl, sym, _∙_, ap}
+use mathlib.Core.Bool.{true, false, not}
+use mathlib.Core.Logic.{_⊎_, ⊎-elim}
+use mathlib.Core.List.{List, _∷_}
+use Prim.Native.Nat.{ℕ, suc, _+_, _-_, _^_, _≤_, _<_}
 use native.Mathlib.Numerals.{add-one}
 use native.Mathlib.Omega.{arith}
-use lib.ListN.{length, getD, set, take, length-set}
+use lib.ListN.{length, set, length-set}
 use lib.Seq.{take-suc-set, getD-set-same, getD-set-other, getD-take, length-take-le}
-use lib.Dec.{eqb}
 use borrow.Author.Tests.{ne-eqb, not-true}
 use Rattle.masks.specs.Mask.{bit, with, minus, without, lowest, members, size}
 use Rattle.masks.proofs.BitLaws.{bit-none, bit-minus, bit-with-other, bit-without-same, bit-without-other, with-lt, minus-lt}
 use Rattle.masks.proofs.MembersLaws.{lowest-is, members-le, members-none, members-lowest}
 use Rattle.masks.proofs.SizeLaws.{with-count, without-count}
 use Rattle.matching.specs.Search.{Search, see, scan, take-front, expand, search-from, begin, no-links, bound}
-use Rattle.matching.specs.Inner.{at, search-of, Sound, Owned, Apart}
+use Rattle.matching.specs.Inner.{at, search-of, Sound, Apart}
 use Rattle.matching.specs.declared.Front.{Front}
 use Rattle.matching.proofs.Counting.{clash, and-r, below-cases}
 use Rattle.matching.proofs.SearchLaws.{see-free, see-seen, scan-none, scan-new, scan-stop, expand-taken, search-on, search-found, search-empty}
@@ -169,10 +168,11 @@ pub searching-expand : {sets : List ℕ} {own : ℕ → ℕ} {result : Search} {
     → (front′ .head ≡ suc (front .head)) × (search-from (bound - front′ .head) sets own (search-of front′ queue′ links′) ≡ result)
 searching-expand {sets} {own} {result} {queue} {links} {front} queue′ links′ front′ G l e =
     let h : front′ .head ≡ suc (front .head) = ap (λ (s : Search). s .taken) e ∙ expand-taken sets own (search-of front queue links) in
-    let n : bound - front .head ≡ suc (bound - front′ .head) = omega (arith, sound-tail front queue (G .sound)) in
-    (h,
-    rw e (sym (search-on (bound - front′ .head) sets own (search-of front queue links) (G .none) (rw (length-queue front queue links (G .sound)) l))
-    ∙ ap (λ (k : ℕ). search-from k sets own (search-of front queue links)) (sym n) ∙ G .same))
+    let n : bound - front .head ≡ suc (bound - front′ .head) = omega (arith, sound-tail front queue (G .sound)) in (
+      h,
+      rw e (sym (search-on (bound - front′ .head) sets own (search-of front queue links) (G .none) (rw (length-queue front queue links (G .sound)) l))
+          ∙ ap (λ (k : ℕ). search-from k sets own (search-of front queue links)) (sym n) ∙ G .same),
+    )
 
 pub searching-on : {sets : List ℕ} {own : ℕ → ℕ} {result : Search} {queue links : List ℕ} {front : Front} (queue′ links′ : List ℕ) (front′ : Front)
     → Searching sets own result queue links front → front .head < front .tail

@@ -1,14 +1,14 @@
 -- Laws of matched lists of clauses: sub-lists, larger clauses, and the pigeonhole principle.
-use mathlib.Core.Path.{_≡_, refl, sym, _∙_, ap, subst}
-use mathlib.Core.Bool.{Bool, true, false, _||_, cond}
-use mathlib.Core.Logic.{_⊎_, inl, inr, ⊎-elim}
-use mathlib.Core.List.{List, [], _∷_, _++_}
+use mathlib.Core.Path.{_≡_, refl, sym, _∙_, ap}
+use mathlib.Core.Bool.{Bool, true, false, cond}
+use mathlib.Core.Logic.{_⊎_, ⊎-elim}
+use mathlib.Core.List.{List, [], _∷_}
 use Prim.Native.Nat.{ℕ, zero, suc, _+_, _^_, _≤_, _<_}
 use native.Mathlib.Omega.{arith}
-use lib.ListN.{length, getD, set, replicate, length-set, length-append, length-replicate, getD-replicate}
+use lib.ListN.{length, set, replicate, length-set, length-append, length-replicate, getD-replicate}
 use lib.Seq.{getD-set-same, getD-set-other}
 use lib.Dec.{eqb}
-use lib.Bits.{bitOr, or-lt}
+use lib.Bits.{or-lt}
 use borrow.Author.Tests.{eqb-true, eqb-false, eq-eqb, ne-eqb}
 use Rattle.masks.specs.Mask.{bit, members, size, only-if}
 use Rattle.masks.proofs.BitLaws.{bit-or, bit-none, bit-below}
@@ -74,63 +74,18 @@ matched-larger sets larger e sub w =
       },
     )
 
-matches-tail : (s v : ℕ) (sets vs : List ℕ) → Matches (s ∷ sets) (v ∷ vs) → Matches sets vs
-matches-tail s v sets vs M = record {
-  one-each = omega (arith, M .one-each);
-  named = λ i h. M .named (suc i) (omega arith);
-  distinct = λ i j h k e. let z = M .distinct (suc i) (suc j) (omega arith) (omega arith) e in omega arith;
-}
-
 matches-cons : (s v : ℕ) (sets vs : List ℕ) → bit s v ≡ true → (Found vs v → ⊥) → Matches sets vs → Matches (s ∷ sets) (v ∷ vs)
 matches-cons s v sets vs nm new M = record { one-each = ap suc (M .one-each); named = named; distinct = distinct }
   where
     named : (i : ℕ) → i < suc (length sets) → bit (at (s ∷ sets) i) (at (v ∷ vs) i) ≡ true
     named zero h = nm
     named (suc i) h = M .named i (omega arith)
+
     distinct : (i j : ℕ) → i < suc (length sets) → j < suc (length sets) → at (v ∷ vs) i ≡ at (v ∷ vs) j → i ≡ j
     distinct zero zero h k e = refl
     distinct zero (suc j) h k e = absurd (new (record { at = j; within = omega (arith, M .one-each); is = sym e }))
     distinct (suc i) zero h k e = absurd (new (record { at = i; within = omega (arith, M .one-each); is = e }))
     distinct (suc i) (suc j) h k e = ap suc (M .distinct i j (omega arith) (omega arith) e)
-
-chosen-found : (marks l : List ℕ) (x : ℕ) → Found (chosen marks l) x → Found l x
-unfolding chosen
-chosen-found [] l x F = absurd (omega (arith, F .within))
-chosen-found (c ∷ marks) [] x F = absurd (omega (arith, F .within))
-chosen-found (c ∷ marks) (y ∷ l) x F = go (eqb c 0) (λ G. later (chosen-found marks l x G)) F
-  where
-    later : Found l x → Found (y ∷ l) x
-    later G = record { at = suc (G .at); within = omega (arith, G .within); is = G .is }
-    index : (Found (chosen marks l) x → Found (y ∷ l) x) → (i : ℕ) → i < suc (length (chosen marks l)) → at (y ∷ chosen marks l) i ≡ x → Found (y ∷ l) x
-    index rec zero h e = record { at = 0; within = omega arith; is = e }
-    index rec (suc i) h e = rec (record { at = i; within = omega arith; is = e })
-    go : (b : Bool) → (Found (chosen marks l) x → Found (y ∷ l) x) → Found (cond b (chosen marks l) (y ∷ chosen marks l)) x → Found (y ∷ l) x
-    go true rec G = rec G
-    go false rec G = index rec (G .at) (G .within) (G .is)
-
-chosen-matches : (marks sets vs : List ℕ) → Matches sets vs → Matches (chosen marks sets) (chosen marks vs)
-unfolding chosen
-chosen-matches [] sets vs M =
-    record { one-each = refl; named = λ i h. absurd (omega arith); distinct = λ i j h. absurd (omega arith) }
-chosen-matches (c ∷ marks) [] [] M = M
-chosen-matches (c ∷ marks) [] (v ∷ vs) M = absurd (omega (arith, M .one-each))
-chosen-matches (c ∷ marks) (s ∷ sets) [] M = absurd (omega (arith, M .one-each))
-chosen-matches (c ∷ marks) (s ∷ sets) (v ∷ vs) M = go (eqb c 0) (chosen-matches marks sets vs (matches-tail s v sets vs M))
-  where
-    go : (b : Bool) → Matches (chosen marks sets) (chosen marks vs)
-        → Matches (cond b (chosen marks sets) (s ∷ chosen marks sets)) (cond b (chosen marks vs) (v ∷ chosen marks vs))
-    go true R = R
-    go false R =
-        matches-cons s v (chosen marks sets) (chosen marks vs) (M .named 0 (omega arith))
-        (λ F.
-        let G = chosen-found marks vs v F in
-        let z = M .distinct (suc (G .at)) 0 (omega (arith, G .within, M .one-each)) (omega arith) (G .is) in
-        omega arith)
-        R
-
--- a sub-list of a matched list is matched
-pub chosen-matched : (marks sets : List ℕ) → Matched sets → Matched (chosen marks sets)
-chosen-matched marks sets w = (chosen marks (w .0), chosen-matches marks sets (w .0) (w .1))
 
 -- ── Marks ─────────────────────────────────────────────────────────────────────────────────────────────────────────────
 
@@ -178,20 +133,74 @@ chosen-from (d ∷ marks) (s ∷ sets) i h = go (eqb d 0) refl (λ j l. chosen-f
     rest : ((j : ℕ) → j < length (chosen marks sets) → Marked marks sets (at (chosen marks sets) j))
         → (j : ℕ) → j < length (chosen marks sets) → Marked (d ∷ marks) (s ∷ sets) (at (chosen marks sets) j)
     rest rec j l = let w = rec j l in (suc (w .0), omega (arith, w .1), omega (arith, w .2), w .3, w .4)
+
     head : eqb d 0 ≡ false → ((j : ℕ) → j < length (chosen marks sets) → Marked marks sets (at (chosen marks sets) j))
         → (j : ℕ) → j < suc (length (chosen marks sets)) → Marked (d ∷ marks) (s ∷ sets) (at (s ∷ chosen marks sets) j)
     head f rec zero l = (0, omega arith, omega arith, eqb-false d 0 f, refl)
     head f rec (suc j) l = rest rec j (omega arith)
+
     go : (b : Bool) → eqb d 0 ≡ b → ((j : ℕ) → j < length (chosen marks sets) → Marked marks sets (at (chosen marks sets) j))
         → (j : ℕ) → j < length (cond b (chosen marks sets) (s ∷ chosen marks sets))
         → Marked (d ∷ marks) (s ∷ sets) (at (cond b (chosen marks sets) (s ∷ chosen marks sets)) j)
     go true e rec j l = rest rec j l
     go false e rec j l = head e rec j l
 
+-- the marked clauses have variables that they name, no two the same
+pub record Selects (marks sets variables : List ℕ) : Type 0 where
+  pub one-each : length variables ≡ length sets
+  pub named : (i : ℕ) → i < length sets → (at marks i ≡ 0 → ⊥) → bit (at sets i) (at variables i) ≡ true
+  pub distinct : (i j : ℕ) → i < length sets → j < length sets → (at marks i ≡ 0 → ⊥) → (at marks j ≡ 0 → ⊥) → at variables i ≡ at variables j → i ≡ j
+
+selects-tail : (k s v : ℕ) (marks sets vs : List ℕ) → Selects (k ∷ marks) (s ∷ sets) (v ∷ vs) → Selects marks sets vs
+selects-tail k s v marks sets vs C = record {
+  one-each = omega (arith, C .one-each);
+  named = λ i h. C .named (suc i) (omega arith);
+  distinct = λ i j h k a b e. let z = C .distinct (suc i) (suc j) (omega arith) (omega arith) a b e in omega arith;
+}
+
+pub selects-matches : (marks sets vs : List ℕ) → Selects marks sets vs → Matches (chosen marks sets) (chosen marks vs)
+unfolding chosen
+selects-matches [] sets vs C = record { one-each = refl; named = λ i h. absurd (omega arith); distinct = λ i j h. absurd (omega arith) }
+selects-matches (k ∷ marks) [] [] C = record { one-each = refl; named = λ i h. absurd (omega arith); distinct = λ i j h. absurd (omega arith) }
+selects-matches (k ∷ marks) [] (v ∷ vs) C = absurd (omega (arith, C .one-each))
+selects-matches (k ∷ marks) (s ∷ sets) [] C = absurd (omega (arith, C .one-each))
+selects-matches (k ∷ marks) (s ∷ sets) (v ∷ vs) C = go (eqb k 0) refl (selects-matches marks sets vs (selects-tail k s v marks sets vs C))
+  where
+    go : (b : Bool) → eqb k 0 ≡ b → Matches (chosen marks sets) (chosen marks vs)
+        → Matches (cond b (chosen marks sets) (s ∷ chosen marks sets)) (cond b (chosen marks vs) (v ∷ chosen marks vs))
+    go true e R = R
+    go false e R =
+        matches-cons s v (chosen marks sets) (chosen marks vs) (C .named 0 (omega arith) (eqb-false k 0 e))
+        (λ F.
+        let w = chosen-from marks vs (F .at) (F .within) in
+        let z = C .distinct (suc (w .0)) 0 (omega (arith, w .2, C .one-each)) (omega arith) (w .3) (eqb-false k 0 e) (sym (w .4) ∙ F .is) in
+        omega arith)
+        R
+
+-- a sub-list of a matched list is matched
+pub chosen-matched : (marks sets : List ℕ) → Matched sets → Matched (chosen marks sets)
+chosen-matched marks sets w =
+    let M = w .1 in (
+      chosen marks (w .0),
+      selects-matches marks sets (w .0) (record { one-each = M .one-each; named = λ i h _. M .named i h; distinct = λ i j h k _ _. M .distinct i j h k }),
+    )
+
 pub length-marks : (n : ℕ) (l : List ℕ) → length (marks n l) ≡ n
 unfolding marks
 length-marks n [] = length-replicate {A = ℕ} n 0
 length-marks n (c ∷ l) = length-set (marks n l) c 1 ∙ length-marks n l
+
+-- a mark is 0 or 1
+pub marks-le : (n : ℕ) (l : List ℕ) (i : ℕ) → i < n → at (marks n l) i ≤ 1
+unfolding marks
+marks-le n [] i h = omega (arith, getD-replicate {A = ℕ} n i 0 0 h)
+marks-le n (c ∷ l) i h =
+    ⊎-elim
+    (λ (t : eqb i c ≡ true). let e = length-marks n l in
+    let q = eqb-true i c t in
+    omega (arith, getD-set-same (marks n l) c 1 0 (omega arith), ap (at (set (marks n l) c 1)) q))
+    (λ (f : eqb i c ≡ false). omega (arith, getD-set-other (marks n l) c i 1 0 (eqb-false i c f), marks-le n l i h))
+    (look (eqb i c))
 
 -- what is listed has a mark
 pub marks-in : (n : ℕ) (l : List ℕ) (i : ℕ) → i < length l → at l i < n → at (marks n l) (at l i) ≡ 1

@@ -1,24 +1,23 @@
 -- What the clauses' searches together give.
-use mathlib.Core.Path.{_≡_, refl, sym, _∙_, ap, subst}
-use mathlib.Core.Bool.{Bool, true, false, cond}
-use mathlib.Core.Logic.{_⊎_, inl, inr, ⊎-elim}
-use mathlib.Core.List.{List, [], _∷_, _++_}
-use Prim.Native.Nat.{ℕ, zero, suc, _+_, _*_, _^_, _≤_, _<_}
+use mathlib.Core.Path.{_≡_, refl, sym, _∙_, subst}
+use mathlib.Core.Bool.{true, false}
+use mathlib.Core.Logic.{_⊎_, ⊎-elim}
+use mathlib.Core.List.{List, []}
+use Prim.Native.Nat.{ℕ, zero, suc, _+_, _*_, _≤_, _<_}
 use native.Mathlib.Nat.{suc-mul, mul-suc, mul-le-mul}
 use native.Mathlib.Omega.{arith}
-use lib.ListN.{length, getD, take}
+use lib.ListN.{length, set, take}
 use lib.Seq.{take-length, getD-take, length-take-le}
-use lib.Dec.{eqb}
-use borrow.Author.Tests.{eqb-true, eqb-false, eq-eqb, ne-eqb}
+use borrow.Author.Tests.{eq-eqb, ne-eqb}
 use Rattle.masks.specs.Mask.{bit, size}
-use Rattle.masks.proofs.BitLaws.{mask-ext, bit-below}
-use Rattle.masks.proofs.MembersLaws.{Found}
+use Rattle.masks.proofs.BitLaws.{mask-ext}
 use Rattle.matching.specs.Matched.{Matches, Matched, Words, union, chosen}
-use Rattle.matching.specs.Search.{owner, Search, begin, search-from, rematch, bound, Outcome, success, failure, match-rest, outcome, marks}
-use Rattle.matching.specs.Inner.{at, Distinct, Partial, next-search}
+use Rattle.matching.specs.Search.{Search, rematch-from, bound, next-search, Outcome, success, failure, succeeds, expansions, match-rest, outcome, marks}
+use Rattle.matching.specs.Inner.{at, Distinct, Partial}
 use Rattle.matching.proofs.Counting.{look, clash, zero-or-pos, count-all, pigeon}
-use Rattle.matching.proofs.Augmenting.{Path, rematch-partial}
-use Rattle.matching.proofs.SearchLaws.{Inv, Stuck, Reached, Ended, search-next, tail-le, word-all}
+use Rattle.matching.proofs.Augmenting.{rematch-partial}
+use Rattle.matching.proofs.SearchLaws.{queue-distinct, Inv, Stuck, Reached, search-next}
+use Rattle.matching.proofs.CriticalLaws.{critical}
 use Rattle.matching.proofs.MatchedLaws.{union-of, union-in, union-word, matched-room, chosen-matched, chosen-in, chosen-from, marks-in, marks-from, marks-count, length-marks}
 
 pub match-none : (sets m : List ℕ) (e : ℕ) → match-rest 0 sets m e ≡ success m e
@@ -31,18 +30,19 @@ unfolding match-rest
 match-fails k sets m e f = rw (eq-eqb (next-search sets m .free) 64 f)
 
 pub match-on : (k : ℕ) (sets m : List ℕ) (e : ℕ) → (next-search sets m .free ≡ 64 → ⊥)
-    → match-rest (suc k) sets m e ≡ match-rest k sets (rematch bound (next-search sets m .links) m (next-search sets m .free)) (e + next-search sets m .taken)
+    → match-rest (suc k) sets m e ≡ match-rest k sets (rematch-from bound (next-search sets m .links) m (next-search sets m .free)) (e + next-search sets m .taken)
 unfolding match-rest
 match-on k sets m e ne = rw (ne-eqb (next-search sets m .free) 64 ne)
 
 -- ── A search that fails ───────────────────────────────────────────────────────────────────────────────────────────────
 
--- The clauses of the list are all different and name one variable fewer than they are.
+-- The clauses of the list are all different and name one variable fewer than they are. Without any one of them the others are matched.
 pub record Violator (sets taken : List ℕ) : Type 0 where
   pub some : 0 < length taken
   pub low : (i : ℕ) → i < length taken → at taken i < length sets
   pub distinct : Distinct taken
   pub tight : suc (size (union (chosen (marks (length sets) taken) sets))) ≡ length taken
+  pub critical : (i : ℕ) → i < length taken → Matched (chosen (set (marks (length sets) taken) (at taken i) 0) sets)
 
 words-chosen : (marks sets : List ℕ) → Words sets → Words (chosen marks sets)
 words-chosen marks sets W i h = let w = chosen-from marks sets i h in rw (w .4) (W (w .0) (w .2))
@@ -59,19 +59,6 @@ module _ (sets m : List ℕ) (W : Words sets) (M : Partial sets m) (room : lengt
   queue-low : (h : ℕ) (s : Search) → Inv sets m h s → (i : ℕ) → i < length (s .queue) → at (s .queue) i < length sets
   queue-low h s I i l =
       ⊎-elim (λ (e : i ≡ 0). rw (e, I .root) room) (λ p. omega (arith, I .each i p l .0)) (zero-or-pos i)
-
-  queue-distinct : (h : ℕ) (s : Search) → Inv sets m h s → Distinct (s .queue)
-  queue-distinct h s I i j l k e =
-      ⊎-elim
-      (λ (p : i ≡ 0). ⊎-elim
-      (λ (q : j ≡ 0). p ∙ sym q)
-      (λ q. let r : at (s .queue) i ≡ length m = rw p (I .root) in absurd (omega (arith, I .each j q k .0)))
-      (zero-or-pos j))
-      (λ p. ⊎-elim
-      (λ (q : j ≡ 0). let r : at (s .queue) j ≡ length m = rw q (I .root) in absurd (omega (arith, I .each i p l .0)))
-      (λ q. sym (I .each i p l .2) ∙ ap (λ c. I .pos (at m c)) e ∙ I .each j q k .2)
-      (zero-or-pos j))
-      (zero-or-pos i)
 
   -- what the queue's clauses name is what is seen
   stuck-union : (s : Search) → Stuck sets m M s → union (chosen (marks (length sets) (s .queue)) sets) ≡ s .seen
@@ -96,6 +83,7 @@ module _ (sets m : List ℕ) (W : Words sets) (M : Partial sets m) (room : lengt
           let F = chosen-in ms sets c (rw (length-marks (length sets) (s .queue)) lc) lc
           (λ z. let q = marks-in (length sets) (s .queue) (k .0) lt lc in omega arith) in
           union-in (chosen ms sets) x (F .at) (F .within) (rw (F .is, ← k .2) (k .3))
+
       outside : (x : ℕ) → bit (union (chosen (marks (length sets) (s .queue)) sets)) x ≡ true → bit (s .seen) x ≡ true
       outside x u =
           let I = S .inv in
@@ -111,8 +99,9 @@ module _ (sets m : List ℕ) (W : Words sets) (M : Partial sets m) (room : lengt
       rw (S .all-taken, take-length (s .queue)) (record {
         some = I .some;
         low = queue-low (s .taken) s I;
-        distinct = queue-distinct (s .taken) s I;
+        distinct = queue-distinct sets m M (s .taken) s I;
         tight = rw (stuck-union s S) (sym (I .sized));
+        critical = critical sets m W M room s S;
       })
 
 -- ── All clauses ───────────────────────────────────────────────────────────────────────────────────────────────────────
@@ -156,7 +145,7 @@ match-rest-ok sets W (suc k) m e M l c =
     (λ (R : Reached sets m M s).
     let P = rematch-partial sets (s .links) bound m (s .free) M (R .1 .0) (R .1 .1) in
     rw (match-on k sets m e (λ q. omega (arith, R .0)))
-    (match-rest-ok sets W k (rematch bound (s .links) m (s .free)) (e + s .taken) (P .0) (omega (arith, P .1))
+    (match-rest-ok sets W k (rematch-from bound (s .links) m (s .free)) (e + s .taken) (P .0) (omega (arith, P .1))
     (subst (λ (n : ℕ). Cheap (e + s .taken) n) (sym (P .1)) (cheap-more e (s .taken) (length m) c (E .1)))))
     (E .0)
 
@@ -166,23 +155,37 @@ outcome-ok sets W =
     match-rest-ok sets W (length sets) [] 0 (record { named = λ i h. absurd (omega arith); distinct = λ i j h. absurd (omega arith) }) (omega arith) (omega arith)
 
 -- the same of an outcome that is known
-pub success-ok : (sets variables : List ℕ) (e : ℕ) → Words sets → outcome sets ≡ success variables e → Matches sets variables × Cheap e (length sets)
-success-ok sets variables e W q = subst (λ (o : Outcome). Correct sets o) q (outcome-ok sets W)
+pub success-ok : (sets variables : List ℕ) (e : ℕ) → Words sets → outcome sets ≡ success variables e → Matches sets variables
+success-ok sets variables e W q = subst (λ (o : Outcome). Correct sets o) q (outcome-ok sets W) .0
 
-pub failure-ok : (sets taken : List ℕ) (e : ℕ) → Words sets → outcome sets ≡ failure taken e → Violator sets taken × Cheap e (length sets)
-failure-ok sets taken e W q = subst (λ (o : Outcome). Correct sets o) q (outcome-ok sets W)
+pub failure-ok : (sets taken : List ℕ) (e : ℕ) → Words sets → outcome sets ≡ failure taken e → Violator sets taken
+failure-ok sets taken e W q = subst (λ (o : Outcome). Correct sets o) q (outcome-ok sets W) .0
 
 pub violator-few : (sets taken : List ℕ) → Violator sets taken → length taken ≤ length sets
 violator-few sets taken S =
     let k = pigeon (λ _. true) (length taken) (λ _. true) (length sets) (at taken) (λ i h _. (S .low i h, refl)) (λ i j h k _ _. S .distinct i j h k) in
     omega (arith, count-all (length taken), count-all (length sets))
 
-pub decided : (sets : List ℕ) → Words sets → Matched sets → (variables : List ℕ) × (e : ℕ) × (outcome sets ≡ success variables e)
-decided sets W w = go (outcome sets) (outcome-ok sets W)
+pub matched-succeeds : (sets : List ℕ) → Words sets → Matched sets → succeeds (outcome sets) ≡ true
+matched-succeeds sets W w = go (outcome sets) (outcome-ok sets W)
   where
-    go : (o : Outcome) → Correct sets o → (variables : List ℕ) × (e : ℕ) × (o ≡ success variables e)
-    go (success variables e) C = (variables, e, refl)
+    go : (o : Outcome) → Correct sets o → succeeds o ≡ true
+    go (success variables e) C = refl
     go (failure taken e) C = absurd (violator-unmatched sets taken W (C .0) w)
+
+pub succeeds-matched : (sets : List ℕ) → Words sets → succeeds (outcome sets) ≡ true → Matched sets
+succeeds-matched sets W t = go (outcome sets) (outcome-ok sets W) t
+  where
+    go : (o : Outcome) → Correct sets o → succeeds o ≡ true → Matched sets
+    go (success variables e) C t = (variables, C .0)
+    go (failure taken e) C t = clash t refl
+
+pub outcome-cheap : (sets : List ℕ) → Words sets → Cheap (expansions (outcome sets)) (length sets)
+outcome-cheap sets W = go (outcome sets) (outcome-ok sets W)
+  where
+    go : (o : Outcome) → Correct sets o → Cheap (expansions o) (length sets)
+    go (success variables e) C = C .1
+    go (failure taken e) C = C .1
 
 pub partial-of : (sets m : List ℕ) → length m ≤ length sets → Matches (take (length m) sets) m → Partial sets m
 partial-of sets m l M =

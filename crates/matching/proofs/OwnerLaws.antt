@@ -1,16 +1,16 @@
 -- Laws of the owner of a variable in a matching so far.
 use mathlib.Core.Path.{_≡_, refl, sym, _∙_, ap}
-use mathlib.Core.Bool.{Bool, true, false, cond}
+use mathlib.Core.Bool.{true, false}
 use mathlib.Core.Logic.{_⊎_, inl, inr, ⊎-elim}
-use mathlib.Core.List.{List, [], _∷_, _++_}
-use Prim.Native.Nat.{ℕ, zero, suc, _+_, _≤_, _<_}
+use mathlib.Core.List.{List, [], _∷_}
+use Prim.Native.Nat.{ℕ, zero, suc, _≤_, _<_}
 use native.Mathlib.Omega.{arith}
-use lib.ListN.{length, getD, set}
+use lib.ListN.{length}
 use lib.Dec.{eqb}
 use borrow.Author.Tests.{eqb-true, eqb-false, eq-eqb, ne-eqb}
 use Rattle.matching.specs.Search.{owner}
 use Rattle.matching.specs.Inner.{at, Free, Distinct}
-use Rattle.matching.proofs.Counting.{look, clash, zero-or-pos}
+use Rattle.matching.proofs.Counting.{look}
 
 -- the owner's number goes by the first place that has the variable
 owner-here : (x v : ℕ) (l : List ℕ) → x ≡ v → owner (x ∷ l) v ≡ 1

@@ -1,23 +1,22 @@
 -- Laws of re-matching in arrays: it ends, and the owners stay right.
 use mathlib.Core.Path.{_≡_, refl, sym, _∙_, ap, subst, fun-ext}
-use mathlib.Core.Bool.{Bool, true, false, cond}
+use mathlib.Core.Bool.{true, false}
 use mathlib.Core.Logic.{_⊎_, inl, inr, ⊎-elim}
 use mathlib.Core.List.{List, [], _∷_, _++_}
 use Prim.Native.Nat.{ℕ, zero, suc, _+_, _≤_, _<_}
-use native.Mathlib.Numerals.{add-one}
 use native.Mathlib.Omega.{arith}
-use lib.ListN.{length, getD, set, take, length-set, length-append, List·getD-append, List·getD-eq-default}
+use lib.ListN.{length, set, take, length-set, length-append, List·getD-append, List·getD-eq-default}
 use lib.Seq.{getD-set-same, getD-set-other, getD-append-seam, getD-take, ext-getD, take-set-lt}
-use lib.Dec.{eqb, ltb}
-use borrow.Author.Tests.{eqb-true, eqb-false, eq-eqb, ne-eqb, ltb-true, ltb-false, lt-ltb, le-ltb}
+use lib.Dec.{eqb}
+use borrow.Author.Tests.{eqb-true, eqb-false, eq-eqb, ne-eqb, lt-ltb, le-ltb}
 use Rattle.lists.specs.Padded.{padded}
 use Rattle.lists.proofs.PaddedLaws.{padded-set}
 use Rattle.lists.proofs.StoreLaws.{padded-store, held-length}
-use Rattle.matching.specs.Search.{owner, rematch, bound}
-use Rattle.matching.specs.Inner.{at, Free, Distinct, Partial, listing, owners-of, Augments, distance}
-use Rattle.matching.proofs.Counting.{look, clash, below-cases, lt-or-le}
+use Rattle.matching.specs.Search.{owner, rematch-from, bound}
+use Rattle.matching.specs.Inner.{at, Free, Distinct, listing, owners-of, Augments, distance}
+use Rattle.matching.proofs.Counting.{look, below-cases, lt-or-le}
 use Rattle.matching.proofs.OwnerLaws.{zero-or-suc, owner-free, owner-some, free-owner, owner-is}
-use Rattle.matching.proofs.Augmenting.{Links, Path, snoc-cases, set-cases, grow-distinct, swap-distinct, swap-free, rematch-end, rematch-on}
+use Rattle.matching.proofs.Augmenting.{Path, snoc-cases, set-cases, grow-distinct, swap-distinct, swap-free, rematch-end, rematch-on}
 
 -- ── Distances ─────────────────────────────────────────────────────────────────────────────────────────────────────────
 
@@ -110,7 +109,7 @@ distance-next k links m v h l =
     let s = distance-set links m c v (distance k links m x) l (λ j a. distance-same j k links m x a b) k x b (omega arith) in
     (omega arith, omega arith)
 
-pub rematch-same : (j k : ℕ) (links m : List ℕ) (v : ℕ) → distance j links m v ≤ j → distance k links m v ≤ k → rematch j links m v ≡ rematch k links m v
+pub rematch-same : (j k : ℕ) (links m : List ℕ) (v : ℕ) → distance j links m v ≤ j → distance k links m v ≤ k → rematch-from j links m v ≡ rematch-from k links m v
 unfolding distance
 rematch-same zero k links m v a b = absurd (omega arith)
 rematch-same (suc j) zero links m v a b = absurd (omega arith)
@@ -247,7 +246,7 @@ owners-grow m owners v d free lv e =
 
 -- ── The arrays ────────────────────────────────────────────────────────────────────────────────────────────────────────
 
-augments-of : (n : ℕ) (table owners links : List ℕ) (v : ℕ) (m : List ℕ) → take n table ≡ m → n < 96 → table ≡ padded 96 0 m
+pub augments-of : (n : ℕ) (table owners links : List ℕ) (v : ℕ) (m : List ℕ) → take n table ≡ m → n < 96 → table ≡ padded 96 0 m
     → ((i : ℕ) → i < length m → at m i < 64) → set owners v 0 ≡ owners-of m → Distinct m → Free m v → v < 64 → distance bound links m v ≤ bound
     → Augments n table owners links v
 augments-of n table owners links v m e room held low owned distinct free variable path = record {
@@ -302,7 +301,7 @@ module _ (n : ℕ) (table owners links : List ℕ) (v : ℕ) (A : Augments n tab
         (rw old-is (A .low c lm))
         (subst (λ (l : List ℕ). distance bound links l (at table c) ≤ bound) m-set (omega (arith, A .path)))
 
-    pub rematch-next : rematch bound links (take n (set table c v)) (at table c) ≡ rematch bound links (take n table) v
+    pub rematch-next : rematch-from bound links (take n (set table c v)) (at table c) ≡ rematch-from bound links (take n table) v
     rematch-next =
         let l : at links v < length (take n table) = rw (← ec, m-long) lc in
         let d = distance-next 64 links (take n table) v (A .path) l in
@@ -316,15 +315,15 @@ module _ (n : ℕ) (table owners links : List ℕ) (v : ℕ) (A : Augments n tab
     new-long : length (take n table) ≡ n
     new-long = held-length 96 0 table n (let r = A .room in omega arith) (A .held) .1
 
-    last : rematch bound links (take n table) v ≡ take n table ++ (v ∷ [])
+    last : rematch-from bound links (take n table) v ≡ take n table ++ (v ∷ [])
     last = rematch-end 64 links (take n table) v (ec ∙ sym new-long)
 
-    pub table-end : set table n v ≡ padded 96 0 (rematch bound links (take n table) v)
+    pub table-end : set table n v ≡ padded 96 0 (rematch-from bound links (take n table) v)
     table-end =
         ap (λ (t : List ℕ). set t n v) (A .held) ∙ ap (λ (k : ℕ). set (padded 96 0 (take n table)) k v) (sym new-long)
         ∙ padded-set 96 0 (take n table) v (omega (arith, new-long, A .room)) ∙ ap (padded 96 0) (sym last)
 
-    pub owners-end : set owners v (suc n) ≡ owners-of (rematch bound links (take n table) v)
+    pub owners-end : set owners v (suc n) ≡ owners-of (rematch-from bound links (take n table) v)
     owners-end =
         ap (λ (k : ℕ). set owners v (suc k)) (sym new-long)
         ∙ owners-grow (take n table) owners v (A .distinct) (A .free) (A .variable) (A .owned) ∙ ap owners-of (sym last)

@@ -1,14 +1,14 @@
 -- What a search finds: an augmenting path, or a queue that is used up.
 use mathlib.Core.Path.{_≡_, refl, sym, _∙_, ap, subst}
-use mathlib.Core.Bool.{Bool, true, false, not, _&&_, _||_, cond}
+use mathlib.Core.Bool.{Bool, true, false, _&&_, cond}
 use mathlib.Core.Logic.{_⊎_, inl, inr, ⊎-elim}
 use mathlib.Core.List.{List, [], _∷_, _++_}
 use Prim.Native.Nat.{ℕ, zero, suc, _+_, _-_, _^_, _≤_, _<_}
 use native.Mathlib.Omega.{arith}
-use lib.ListN.{length, getD, set, length-set, length-append, length-replicate, List·getD-append}
+use lib.ListN.{length, set, length-set, length-append, length-replicate, List·getD-append}
 use lib.Seq.{getD-set-same, getD-set-other, getD-append-seam}
-use lib.Dec.{eqb, ltb}
-use borrow.Author.Tests.{eqb-true, eqb-false, eq-eqb, ne-eqb, ltb-true, ltb-false, lt-ltb, le-ltb}
+use lib.Dec.{eqb}
+use borrow.Author.Tests.{eqb-true, eqb-false, eq-eqb, ne-eqb, lt-ltb, le-ltb}
 use Rattle.masks.specs.Mask.{bit, with, members, size}
 use Rattle.masks.proofs.BitLaws.{bit-none, bit-with-same, bit-with-other, bit-below, with-lt}
 use Rattle.masks.proofs.MembersLaws.{Found, members-find, members-are, members-le}
@@ -16,9 +16,9 @@ use Rattle.masks.proofs.SizeLaws.{with-count, size-none}
 use Rattle.matching.specs.Matched.{Words}
 use Rattle.matching.specs.Search.{owner, Search, no-links, begin, see, scan, take-front, front, expand, search-from, bound}
 use Rattle.matching.specs.Inner.{at, Free, Distinct, Partial}
-use Rattle.matching.proofs.Counting.{look, clash, and-l, and-r, and-i, below-cases, zero-or-pos, lt-or-le, pigeon, count-all}
+use Rattle.matching.proofs.Counting.{look, clash, below-cases, zero-or-pos, lt-or-le, pigeon, count-all}
 use Rattle.matching.proofs.OwnerLaws.{zero-or-suc, owner-free, owner-some}
-use Rattle.matching.proofs.Augmenting.{Links, Path, snoc-cases}
+use Rattle.matching.proofs.Augmenting.{Path}
 
 -- ── The definitions' turns ────────────────────────────────────────────────────────────────────────────────────────────
 
@@ -211,16 +211,22 @@ module _ (sets m : List ℕ) (M : Partial sets m) where
     where
       t : ℕ
       t = length (s .queue)
+
       pos′ : ℕ → ℕ
       pos′ = put (I .pos) v (length (s .queue))
+
       old : (k : ℕ) → k < length (s .queue) → at (s .queue ++ (c ∷ [])) k ≡ at (s .queue) k
       old k l = List·getD-append (s .queue) (c ∷ []) 0 k l
+
       last : at (s .queue ++ (c ∷ [])) (length (s .queue)) ≡ c
       last = getD-append-seam (s .queue) c [] 0
+
       more : length (s .queue) < length (s .queue ++ (c ∷ []))
       more = let e = length-append (s .queue) (c ∷ []) in omega arith
+
       grown : (y : ℕ) → bit (s .seen) y ≡ true → bit (with (s .seen) v) y ≡ true
       grown y u = ⊎-elim (λ (q : eqb y v ≡ true). rw (eqb-true y v q) (bit-with-same (s .seen) v)) (λ f. bit-with-other (s .seen) v y (eqb-false y v f) ∙ u) (look (eqb y v))
+
       cases : (y : ℕ) → bit (with (s .seen) v) y ≡ true → (y ≡ v) ⊎ ((y ≡ v → ⊥) × (bit (s .seen) y ≡ true))
       cases y u = ⊎-elim (λ q. inl (eqb-true y v q)) (λ f. inr (eqb-false y v f, sym (bit-with-other (s .seen) v y (eqb-false y v f)) ∙ u)) (look (eqb y v))
 
@@ -253,8 +259,10 @@ module _ (sets m : List ℕ) (M : Partial sets m) where
     where
       t : ℕ
       t = length (s .queue)
+
       cases : (y : ℕ) → bit (with (s .seen) v) y ≡ true → (y ≡ v) ⊎ ((y ≡ v → ⊥) × (bit (s .seen) y ≡ true))
       cases y u = ⊎-elim (λ q. inl (eqb-true y v q)) (λ f. inr (eqb-false y v f, sym (bit-with-other (s .seen) v y (eqb-false y v f)) ∙ u)) (look (eqb y v))
+
       up-of : (b k : ℕ) → k < b → b ≤ length (s .queue)
           → (at (s .queue) k ≡ length m)
           ⊎ ((at (s .queue) k < length m) × (bit (with (s .seen) v) (at m (at (s .queue) k)) ≡ true) × (put (I .pos) v (length (s .queue)) (at m (at (s .queue) k)) < b))
@@ -429,3 +437,17 @@ module _ (sets m : List ℕ) (M : Partial sets m) where
   pub search-next : Words sets → Ended (search-from bound sets (owner m) (begin (length m)))
   unfolding begin
   search-next W = search-ok W bound (begin (length m)) refl (inv-begin sets m) refl (omega arith)
+
+  -- no clause stands twice in the queue
+  pub queue-distinct : (h : ℕ) (s : Search) → Inv sets m h s → Distinct (s .queue)
+  queue-distinct h s I i j l k e =
+      ⊎-elim
+      (λ (p : i ≡ 0). ⊎-elim
+      (λ (q : j ≡ 0). p ∙ sym q)
+      (λ q. let r : at (s .queue) i ≡ length m = rw p (I .root) in absurd (omega (arith, I .each j q k .0)))
+      (zero-or-pos j))
+      (λ p. ⊎-elim
+      (λ (q : j ≡ 0). let r : at (s .queue) j ≡ length m = rw q (I .root) in absurd (omega (arith, I .each i p l .0)))
+      (λ q. sym (I .each i p l .2) ∙ ap (λ c. I .pos (at m c)) e ∙ I .each j q k .2)
+      (zero-or-pos j))
+      (zero-or-pos i)

@@ -1,9 +1,9 @@
 -- Going through a clause's variables is going through those that are not seen when it begins.
 use mathlib.Core.Path.{_≡_, refl, sym, _∙_, ap}
 use mathlib.Core.Bool.{Bool, true, false, not, _&&_, cond}
-use mathlib.Core.Logic.{_⊎_, inl, inr, ⊎-elim}
+use mathlib.Core.Logic.{_⊎_, ⊎-elim}
 use mathlib.Core.List.{List, [], _∷_, _++_, append-nil}
-use Prim.Native.Nat.{ℕ, zero, suc, _+_, _≤_, _<_}
+use Prim.Native.Nat.{ℕ, zero, suc, _+_, _<_}
 use native.Mathlib.Omega.{arith}
 use lib.ListN.{length}
 use lib.Dec.{eqb}
@@ -14,7 +14,7 @@ use Rattle.masks.proofs.MembersLaws.{members-ascend}
 use Rattle.matching.specs.Search.{Search, see, scan}
 use Rattle.matching.specs.Inner.{at}
 use Rattle.matching.proofs.Counting.{look}
-use Rattle.matching.proofs.SearchLaws.{see-seen, scan-none, scan-old, scan-new, scan-stop}
+use Rattle.matching.proofs.SearchLaws.{see-seen, scan-old, scan-new, scan-stop}
 
 -- the variables of the list that are not in the mask
 unfoldable outside : ℕ → List ℕ → List ℕ

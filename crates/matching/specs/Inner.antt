@@ -7,10 +7,8 @@ use lib.ListN.{length, getD, take, set}
 use lib.Dec.{eqb, ltb}
 use Rattle.lists.specs.Padded.{padded}
 use Rattle.masks.specs.Mask.{bit, size}
-use Rattle.matching.specs.Matched.{Words}
-use Rattle.matching.specs.Search.{owner, Search, begin, search-from, rematch, bound, Outcome, success, failure, marks}
+use Rattle.matching.specs.Search.{owner, Search, rematch, bound, next-search}
 use Rattle.matching.specs.declared.Front.{Front}
-use Rattle.matching.specs.declared.Matching.{Matching}
 
 abbrev pub at : List ℕ → ℕ → ℕ
 at l i = getD l i 0
@@ -39,12 +37,12 @@ listing f (suc n) = listing f n ++ (f n ∷ [])
 abbrev pub owners-of : List ℕ → List ℕ
 owners-of matching = listing (owner matching) 64
 
--- the arrays that hold a matching of the first n clauses, and its owners
-pub record Tables (n : ℕ) (table owners : List ℕ) : Type 0 where
+-- the arrays hold a matching of the first n clauses, and its owners
+pub record Tables (sets : List ℕ) (n : ℕ) (table owners : List ℕ) : Type 0 where
   pub room : n ≤ 96
   pub held : table ≡ padded 96 0 (take n table)
-  pub low : (i : ℕ) → i < length (take n table) → at (take n table) i < 64
   pub owned : owners ≡ owners-of (take n table)
+  pub partial : Partial sets (take n table)
 
 -- ── The search ────────────────────────────────────────────────────────────────────────────────────────────────────────
 
@@ -91,25 +89,17 @@ pub record Augments (n : ℕ) (table owners links : List ℕ) (v : ℕ) : Type 0
 
 -- ── One clause, and all ───────────────────────────────────────────────────────────────────────────────────────────────
 
--- the search for the clause after those of the matching
-abbrev pub next-search : List ℕ → List ℕ → Search
-next-search sets matching = search-from bound sets (owner matching) (begin (length matching))
-
 -- the matching after that search
 unfoldable pub augmented : List ℕ → List ℕ → List ℕ
 augmented sets matching =
     let s = next-search sets matching in
-    cond (eqb (s .free) 64) matching (rematch bound (s .links) matching (s .free))
+    cond (eqb (s .free) 64) matching (rematch (s .links) matching (s .free))
 
--- the numbers, the queue and the tables after the next clause's search
+-- the numbers and the arrays after the next clause's search; the queue matters only after a failure
 pub record Augmented (sets matching : List ℕ) (front : Front) (queue table owners : List ℕ) : Type 0 where
   pub head : front .head ≡ next-search sets matching .taken
   pub free : front .free ≡ next-search sets matching .free
-  pub taken : take (front .head) queue ≡ take (next-search sets matching .taken) (next-search sets matching .queue)
+  pub taken : front .free ≡ 64 → take (front .head) queue ≡ take (next-search sets matching .taken) (next-search sets matching .queue)
+  pub long : length queue ≡ 96
   pub table-is : table ≡ padded 96 0 (augmented sets matching)
   pub owners-are : owners ≡ owners-of (augmented sets matching)
-
--- an outcome for n clauses as the result of match_sets
-unfoldable pub packed : ℕ → Outcome → Matching
-packed n (success variables e) = record { complete = true; expansions = e; marked = 0; table = padded 96 0 variables }
-packed n (failure taken e) = record { complete = false; expansions = e; marked = length taken; table = padded 96 0 (marks n taken) }

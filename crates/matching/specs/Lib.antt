@@ -1,4 +1,4 @@
 pub mod Matched
 pub mod Search
-pub mod Cases
+pub mod Result
 pub mod Inner

@@ -2,13 +2,14 @@
 // A clause is the mask of its variables; clauses and variables count from 0.
 ghost use mathlib.Core.Path.{_≡_};
 ghost use mathlib.Core.Bool.{false};
-ghost use mathlib.Core.List.{List};
 ghost use Prim.Native.Nat.{ℕ, _<_, _≤_};
 ghost use lib.ListN.{length, take};
 ghost use Rattle.lists.specs.Padded.{padded};
 ghost use Rattle.masks.specs.Mask.{bit, members};
-ghost use Rattle.matching.specs.Search.{see, scan, expand, search-from, begin, rematch, bound, no-links};
-ghost use Rattle.matching.specs.Inner.{at, search-of, Sound, Owned, Apart, owners-of, Augments};
+ghost use Rattle.matching.specs.Search.{see, scan, expand, search-from, begin, rematch, bound, no-links, outcome, marks};
+ghost use Rattle.matching.specs.Inner.{at, search-of, Sound, Owned, Apart, owners-of, Augments, Tables, Augmented};
+ghost use Rattle.matching.specs.Result.{Clauses, packed};
+ghost use Rattle.matching.specs.Matched.{Words};
 
 // If complete, the first bytes of `table` are the variables of the clauses and `marked` is 0; otherwise they are 1 for a marked
 // clause and 0 for another, and `marked` clauses are marked. The bytes after those of the clauses are 0.
@@ -21,15 +22,22 @@ pub struct Matching {
 
 // Where a search stands: the seen variables, how many clauses are taken off the queue and how many joined it, and the unmatched
 // variable that was found (64: none).
-pub struct Front {
-    pub seen: u64,
-    pub head: usize,
-    pub tail: usize,
-    pub free: usize,
+struct Front {
+    seen: u64,
+    head: usize,
+    tail: usize,
+    free: usize,
 }
 
 // The clause goes through its unseen variable v.
-fn see(front: Front, owners: &[u8; 64], clause: u8, v: usize, queue: &mut [u8; 96], links: &mut [u8; 64]) -> Front
+fn see(
+    front: Front,
+    owners: &[u8; 64],
+    clause: u8,
+    v: usize,
+    queue: &mut [u8; 96],
+    links: &mut [u8; 64],
+) -> Front
     requires { ⌜ Sound front (now queue) × Owned (now owners) × (v < 64) × (bit (front .seen) v ≡ false) ⌝ }
     ensures { λ r. ⌜ search-of r (now (queue .exit)) (now (links .exit)) ≡ see (at (now (owners .entry))) clause v (search-of front (now (queue .entry)) (now (links .entry))) ⌝ }
     ensures { λ r. ⌜ Sound r (now (queue .exit)) ⌝ }
@@ -38,15 +46,32 @@ fn see(front: Front, owners: &[u8; 64], clause: u8, v: usize, queue: &mut [u8; 9
     let seen = masks::with(front.seen, v);
     let owner = owners[v];
     if owner == 0 {
-        return Front { seen, head: front.head, tail: front.tail, free: v };
+        return Front {
+            seen,
+            head: front.head,
+            tail: front.tail,
+            free: v,
+        };
     }
     let tail = front.tail;
     queue[tail] = owner - 1;
-    Front { seen, head: front.head, tail: tail + 1, free: 64 }
+    Front {
+        seen,
+        head: front.head,
+        tail: tail + 1,
+        free: 64,
+    }
 }
 
 // The clause goes through its unseen variables upward, until one is unmatched.
-fn scan(front: Front, owners: &[u8; 64], clause: u8, unseen: u64, queue: &mut [u8; 96], links: &mut [u8; 64]) -> Front
+fn scan(
+    front: Front,
+    owners: &[u8; 64],
+    clause: u8,
+    unseen: u64,
+    queue: &mut [u8; 96],
+    links: &mut [u8; 64],
+) -> Front
     requires { ⌜ Sound front (now queue) × Owned (now owners) × (front .free ≡ 64) × Apart unseen (front .seen) ⌝ }
     ensures { λ r. ⌜ search-of r (now (queue .exit)) (now (links .exit)) ≡ scan (at (now (owners .entry))) clause (members unseen 64) (search-of front (now (queue .entry)) (now (links .entry))) ⌝ }
     ensures { λ r. ⌜ Sound r (now (queue .exit)) ⌝ }
@@ -72,7 +97,13 @@ fn wide(x: u8) -> usize
 }
 
 // The front clause is taken off the queue and goes through its variables: one expansion.
-fn expand(front: Front, sets: &[u64; 96], owners: &[u8; 64], queue: &mut [u8; 96], links: &mut [u8; 64]) -> Front
+fn expand(
+    front: Front,
+    sets: &[u64; 96],
+    owners: &[u8; 64],
+    queue: &mut [u8; 96],
+    links: &mut [u8; 64],
+) -> Front
     requires { ⌜ Sound front (now queue) × Owned (now owners) × (front .free ≡ 64) × (front .head < front .tail) ⌝ }
     ensures { λ r. ⌜ search-of r (now (queue .exit)) (now (links .exit)) ≡ expand (now (sets .entry)) (at (now (owners .entry))) (search-of front (now (queue .entry)) (now (links .entry))) ⌝ }
     ensures { λ r. ⌜ Sound r (now (queue .exit)) ⌝ }
@@ -80,18 +111,41 @@ fn expand(front: Front, sets: &[u64; 96], owners: &[u8; 64], queue: &mut [u8; 96
     let head = front.head;
     let clause = queue[head];
     let set = sets[wide(clause)];
-    let taken = Front { seen: front.seen, head: head + 1, tail: front.tail, free: front.free };
-    scan(taken, owners, clause, masks::minus(set, front.seen), queue, links)
+    let taken = Front {
+        seen: front.seen,
+        head: head + 1,
+        tail: front.tail,
+        free: front.free,
+    };
+    scan(
+        taken,
+        owners,
+        clause,
+        masks::minus(set, front.seen),
+        queue,
+        links,
+    )
 }
 
 // The search for one clause: until an augmenting path is found or the queue is empty.
-fn find_path(sets: &[u64; 96], owners: &[u8; 64], clause: u8, queue: &mut [u8; 96], links: &mut [u8; 64]) -> Front
+fn find_path(
+    sets: &[u64; 96],
+    owners: &[u8; 64],
+    clause: u8,
+    queue: &mut [u8; 96],
+    links: &mut [u8; 64],
+) -> Front
     requires { ⌜ (length (now queue) ≡ 96) × Owned (now owners) × (clause < 96) × (now links ≡ no-links) ⌝ }
     ensures { λ r. ⌜ search-of r (now (queue .exit)) (now (links .exit)) ≡ search-from bound (now (sets .entry)) (at (now (owners .entry))) (begin clause) ⌝ }
     ensures { λ r. ⌜ Sound r (now (queue .exit)) ⌝ }
 {
     queue[0] = clause;
-    let mut front = Front { seen: 0, head: 0, tail: 1, free: 64 };
+    let mut front = Front {
+        seen: 0,
+        head: 0,
+        tail: 1,
+        free: 64,
+    };
     while front.head < front.tail {
         front = expand(front, sets, owners, queue, links);
         if front.free != 64 {
@@ -104,8 +158,8 @@ fn find_path(sets: &[u64; 96], owners: &[u8; 64], clause: u8, queue: &mut [u8; 9
 // Re-matches along the path from v back to the clause, so that the first clauses and this one are matched. Calls itself once a link.
 fn rematch(table: &mut [u8; 96], owners: &mut [u8; 64], links: &[u8; 64], clause: usize, v: usize)
     requires { ⌜ Augments clause (now table) (now owners) (now links) v ⌝ }
-    ensures { λ _. ⌜ now (table .exit) ≡ padded 96 0 (rematch bound (now (links .entry)) (take clause (now (table .entry))) v) ⌝ }
-    ensures { λ _. ⌜ now (owners .exit) ≡ owners-of (rematch bound (now (links .entry)) (take clause (now (table .entry))) v) ⌝ }
+    ensures { λ _. ⌜ now (table .exit) ≡ padded 96 0 (rematch (now (links .entry)) (take clause (now (table .entry))) v) ⌝ }
+    ensures { λ _. ⌜ now (owners .exit) ≡ owners-of (rematch (now (links .entry)) (take clause (now (table .entry))) v) ⌝ }
 {
     let c = wide(links[v]);
     let old = wide(table[c]);
@@ -113,5 +167,73 @@ fn rematch(table: &mut [u8; 96], owners: &mut [u8; 64], links: &[u8; 64], clause
     owners[v] = (c + 1) as u8;
     if c != clause {
         rematch(table, owners, links, clause, old);
+    }
+}
+
+// The next clause is matched too, unless its search fails.
+fn augment(
+    sets: &[u64; 96],
+    clause: usize,
+    table: &mut [u8; 96],
+    owners: &mut [u8; 64],
+    queue: &mut [u8; 96],
+) -> Front
+    requires { ⌜ Tables (now sets) clause (now table) (now owners) × Words (now sets) × (clause < 96) × (length (now queue) ≡ 96) ⌝ }
+    ensures { λ r. ⌜ Augmented (now (sets .entry)) (take clause (now (table .entry))) r (now (queue .exit)) (now (table .exit)) (now (owners .exit)) ⌝ }
+{
+    let mut links = [0u8; 64];
+    let front = find_path(sets, owners, clause as u8, queue, &mut links);
+    let free = front.free;
+    if free != 64 {
+        rematch(table, owners, &links, clause, free);
+    }
+    front
+}
+
+// One mark for each of 96 clauses: 1 for the first n clauses of the queue, 0 for the others.
+fn mark(queue: &[u8; 96], n: usize) -> [u8; 96]
+    requires { ⌜ (n ≤ 96) × (length (now queue) ≡ 96) × ((i : ℕ) → i < n → at (now queue) i < 96) ⌝ }
+    ensures { λ r. ⌜ r ≡ marks 96 (take n (now (queue .entry))) ⌝ }
+{
+    let mut table = [0u8; 96];
+    let mut i: usize = 0;
+    while i < n {
+        let clause = wide(queue[i]);
+        table[clause] = 1;
+        i += 1;
+    }
+    table
+}
+
+// Matches the first `count` clauses in order, each by its search, until all are matched or a search fails.
+pub fn match_sets(sets: &[u64; 96], count: usize) -> Matching
+    requires { ⌜ Clauses (now sets) count ⌝ }
+    ensures { λ r. ⌜ r ≡ packed count (outcome (take count (now (sets .entry)))) ⌝ }
+{
+    let mut table = [0u8; 96];
+    let mut owners = [0u8; 64];
+    let mut queue = [0u8; 96];
+    let mut expansions: u64 = 0;
+    let mut i: usize = 0;
+    while i < count {
+        let front = augment(sets, i, &mut table, &mut owners, &mut queue);
+        let head = front.head;
+        expansions += head as u64;
+        if front.free == 64 {
+            let marks = mark(&queue, head);
+            return Matching {
+                complete: false,
+                expansions,
+                marked: head,
+                table: marks,
+            };
+        }
+        i += 1;
+    }
+    Matching {
+        complete: true,
+        expansions,
+        marked: 0,
+        table,
     }
 }

@@ -1,21 +1,21 @@
 -- Laws of the choice at a node: the variable is new, an open value keeps the invariant, a closed one cannot be had, and the cost.
-use Prim.Native.Nat.{ℕ, zero, suc, _+_, _*_, _≤_, _<_}
-use mathlib.Core.Path.{_≡_, refl, sym, _∙_, ap, subst}
-use mathlib.Core.Bool.{Bool, true, false, not, _&&_, _||_}
-use mathlib.Core.List.{List, [], _∷_, map, List·Memᴰ, List·Memᴰ·head, Sublistᴰ, Sublistᴰ·eq-nil}
-use mathlib.Core.Logic.{_⊎_, inl, inr, ⊎-elim}
+use Prim.Native.Nat.{ℕ, suc, _*_, _≤_, _<_}
+use mathlib.Core.Path.{_≡_, refl, sym, _∙_, subst}
+use mathlib.Core.Bool.{Bool, true, false, not}
+use mathlib.Core.List.{List, [], _∷_, map, List·Memᴰ·head, Sublistᴰ, Sublistᴰ·eq-nil}
 use native.Mathlib.Nat.{mul-le-mul-right}
 use native.Mathlib.Omega.{arith}
 use lib.ListN.{length}
 use borrow.Author.Tests.{not-true, not-false}
 use Rattle.lists.proofs.SublistLaws.{sub-within, sub-length}
 use Rattle.matching.specs.Matched.{Matched}
-use Rattle.matching.proofs.Counting.{look, clash}
-use Rattle.formula.specs.Format.{Literal, names}
-use Rattle.splitting.specs.declared.Choice.{Choice}
+use Rattle.matching.specs.Search.{expansions}
+use Rattle.matching.proofs.Counting.{clash}
+use Rattle.formula.specs.Format.{Literal}
+use Rattle.formula.specs.Masked.{variables}
 use Rattle.splitting.specs.Nodes.{assign, named, lowest-with}
 use Rattle.splitting.specs.Stripping.{stripped}
-use Rattle.splitting.specs.Choosing.{variables, trial, first-passing, candidates, among, listed, last, emptied, last-listed, by-left, by-remaining}
+use Rattle.splitting.specs.Choosing.{trial, first-passing, candidates, among, listed, last, emptied, last-listed, by-left, by-remaining}
 use Rattle.splitting.proofs.Terms.{Below, NonePure, Sound, Satisfies, opened}
 use Rattle.splitting.proofs.ClauseLaws.{named-by, named-within}
 use Rattle.splitting.proofs.SearchLaws.{lowest-found}

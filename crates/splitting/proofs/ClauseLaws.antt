@@ -1,22 +1,18 @@
 -- Laws of what clauses name: one clause, a list of clauses, and a clause less a variable.
-use Prim.Native.Nat.{ℕ, zero, suc, _+_, _≤_, _<_, _^_}
-use mathlib.Core.Path.{_≡_, refl, sym, _∙_, ap, subst}
-use mathlib.Core.Bool.{Bool, true, false, not, _&&_, _||_, cond, xor, Bool·beq, or-comm}
-use mathlib.Core.List.{List, [], _∷_, _++_, map, List·Memᴰ, List·Memᴰ·head, List·Memᴰ·tail, List·Memᴰ·cases-cons, List·Memᴰ·not-nil, List·Memᴰ·append-cases}
-use mathlib.Core.Logic.{_⊎_, inl, inr, ⊎-elim}
-use native.Mathlib.Omega.{arith}
+use Prim.Native.Nat.{ℕ}
+use mathlib.Core.Path.{_≡_, refl, sym, _∙_, subst}
+use mathlib.Core.Bool.{Bool, true, false, not, _&&_, xor, Bool·beq, _||_}
+use mathlib.Core.List.{List, [], _∷_, _++_, map, List·Memᴰ, List·Memᴰ·head, List·Memᴰ·tail, List·Memᴰ·cases-cons, List·Memᴰ·not-nil}
+use mathlib.Core.Logic.{⊎-elim}
 use lib.Dec.{eqb}
-use borrow.Author.Tests.{eqb-true, eqb-false, eq-eqb, ne-eqb, not-true}
-use Rattle.lists.specs.Every.{Every}
-use Rattle.lists.proofs.TestLaws.{eqb-comm}
+use borrow.Author.Tests.{eqb-true, eq-eqb, ne-eqb}
+use Rattle.lists.proofs.TestLaws.{and-left, and-right, and-both, or-cases}
 use Rattle.lists.proofs.SublistLaws.{Within}
-use Rattle.masks.specs.Mask.{bit, with}
-use Rattle.masks.proofs.BitLaws.{bit-none, bit-with, with-lt}
-use Rattle.matching.proofs.Counting.{look, clash, and-l, and-r, and-i, or-e, or-l, or-r}
-use Rattle.formula.specs.Format.{Literal, names, names-as, ClauseOver}
+use Rattle.matching.proofs.Counting.{look, clash, or-l, or-r}
+use Rattle.formula.specs.Format.{Literal, names, names-as}
+use Rattle.formula.proofs.ClauseLaws.{named-as}
 use Rattle.splitting.specs.Nodes.{less, occurs, named}
 use Rattle.splitting.specs.Stripping.{pure}
-use Rattle.splitting.specs.Choosing.{variables}
 
 -- ── One clause ────────────────────────────────────────────────────────────────────────────────────────────────────────
 
@@ -28,7 +24,7 @@ literal-names (k ∷ c) l m =
     ⊎-elim
     (λ (e : l ≡ k).
     or-l (eqb (k .variable) (l .variable) && Bool·beq (k .positive) (l .positive)) (names-as c (l .variable) (l .positive))
-    (rw e (and-i (eqb (k .variable) (k .variable)) (Bool·beq (k .positive) (k .positive)) (eq-eqb (k .variable) (k .variable) refl) (same (k .positive)))))
+    (rw e (and-both (eqb (k .variable) (k .variable)) (Bool·beq (k .positive) (k .positive)) (eq-eqb (k .variable) (k .variable) refl) (same (k .positive)))))
     (λ more. or-r (eqb (k .variable) (l .variable) && Bool·beq (k .positive) (l .positive)) (names-as c (l .variable) (l .positive)) (literal-names c l more))
     (List·Memᴰ·cases-cons m)
   where
@@ -45,27 +41,17 @@ names-literal (k ∷ c) v s t =
     (λ h. (
       k,
       List·Memᴰ·head refl,
-      eqb-true (k .variable) v (and-l (eqb (k .variable) v) (Bool·beq (k .positive) s) h),
-      same (k .positive) s (and-r (eqb (k .variable) v) (Bool·beq (k .positive) s) h),
+      eqb-true (k .variable) v (and-left (eqb (k .variable) v) (Bool·beq (k .positive) s) h),
+      same (k .positive) s (and-right (eqb (k .variable) v) (Bool·beq (k .positive) s) h),
     ))
     (λ h. let w = names-literal c v s h in (w .0, List·Memᴰ·tail (w .1), w .2, w .3))
-    (or-e (eqb (k .variable) v && Bool·beq (k .positive) s) (names-as c v s) t)
+    (or-cases (eqb (k .variable) v && Bool·beq (k .positive) s) (names-as c v s) t)
   where
     same : (a b : Bool) → Bool·beq a b ≡ true → a ≡ b
     same true true e = refl
     same true false e = clash e refl
     same false true e = clash e refl
     same false false e = refl
-
--- named one way is named
-pub names-of : (c : List Literal) (v : ℕ) (s : Bool) → names-as c v s ≡ true → names c v ≡ true
-unfolding names names-as
-names-of [] v s t = t
-names-of (l ∷ c) v s t =
-    ⊎-elim
-    (λ h. or-l (eqb (l .variable) v) (names c v) (and-l (eqb (l .variable) v) (Bool·beq (l .positive) s) h))
-    (λ h. or-r (eqb (l .variable) v) (names c v) (names-of c v s h))
-    (or-e (eqb (l .variable) v && Bool·beq (l .positive) s) (names-as c v s) t)
 
 -- what is named is named one way
 pub names-some : (c : List Literal) (v : ℕ) → names c v ≡ true → (s : Bool) × (names-as c v s ≡ true)
@@ -75,7 +61,7 @@ names-some (l ∷ c) v t =
     ⊎-elim
     (λ h. (l .positive, subst (λ w. names-as (l ∷ c) w (l .positive) ≡ true) (eqb-true (l .variable) v h) (literal-names (l ∷ c) l (List·Memᴰ·head refl))))
     (λ h. let w = names-some c v h in (w .0, later l c v (w .0) (w .1)))
-    (or-e (eqb (l .variable) v) (names c v) t)
+    (or-cases (eqb (l .variable) v) (names c v) t)
   where
     later : (l : Literal) (c : List Literal) (v : ℕ) (s : Bool) → names-as c v s ≡ true → names-as (l ∷ c) v s ≡ true
     later l c v s t =
@@ -84,34 +70,13 @@ names-some (l ∷ c) v t =
         (subst (λ x. names-as (l ∷ c) x (w .0 .positive) ≡ true) (w .2) (literal-names (l ∷ c) (w .0) (List·Memᴰ·tail (w .1))))
 
 pub names-none : (c : List Literal) (v : ℕ) → names c v ≡ false → (s : Bool) → names-as c v s ≡ false
-names-none c v f s = ⊎-elim (λ t. clash (names-of c v s t) f) (λ e. e) (look (names-as c v s))
+names-none c v f s = ⊎-elim (λ t. clash (named-as c v s t) f) (λ e. e) (look (names-as c v s))
 
 -- a clause that names nothing is empty
 pub names-empty : (c : List Literal) → ((v : ℕ) → names c v ≡ true → ⊥) → c ≡ []
 unfolding names
 names-empty [] none = refl
 names-empty (l ∷ c) none = absurd (none (l .variable) (or-l (eqb (l .variable) (l .variable)) (names c (l .variable)) (eq-eqb (l .variable) (l .variable) refl)))
-
--- the mask of a clause has the variables that it names
-pub bit-variables : (c : List Literal) (v : ℕ) → bit (variables c) v ≡ names c v
-unfolding variables names
-bit-variables [] v = bit-none v
-bit-variables (l ∷ c) v =
-    bit-with (variables c) (l .variable) v ∙ or-comm (bit (variables c) v) (eqb v (l .variable))
-    ∙ (let e = eqb-comm v (l .variable) in let r = bit-variables c v in rw (e, r))
-
--- over variables below n it is below 2 ^ n
-pub variables-lt : (n : ℕ) (c : List Literal) → ((v : ℕ) → names c v ≡ true → v < n) → variables c < 2 ^ n
-unfolding variables names
-variables-lt n [] low = pos n
-  where
-    pos : (n : ℕ) → 0 < 2 ^ n
-    pos zero = omega arith
-    pos (suc n) = omega (arith, pos n)
-variables-lt n (l ∷ c) low =
-    with-lt n (variables c) (l .variable)
-    (variables-lt n c (λ v t. low v (or-r (eqb (l .variable) v) (names c v) t)))
-    (low (l .variable) (or-l (eqb (l .variable) (l .variable)) (names c (l .variable)) (eq-eqb (l .variable) (l .variable) refl)))
 
 -- ── A clause less a variable ──────────────────────────────────────────────────────────────────────────────────────────
 
@@ -147,7 +112,7 @@ occurs-some (c ∷ cs) v s t =
     ⊎-elim
     (λ h. (c, List·Memᴰ·head refl, h))
     (λ h. let w = occurs-some cs v s h in (w .0, List·Memᴰ·tail (w .1), w .2))
-    (or-e (names-as c v s) (occurs cs v s) t)
+    (or-cases (names-as c v s) (occurs cs v s) t)
 
 pub occurs-in : (cs : List (List Literal)) (c : List Literal) (v : ℕ) (s : Bool) → List·Memᴰ c cs → names-as c v s ≡ true → occurs cs v s ≡ true
 unfolding occurs
@@ -183,7 +148,7 @@ occurs-less-self x (c ∷ cs) s = rw (less-self x c s) (occurs-less-self x cs s)
 
 pub named-some : (cs : List (List Literal)) (v : ℕ) → named cs v ≡ true → (s : Bool) × (occurs cs v s ≡ true)
 unfolding named
-named-some cs v t = ⊎-elim (λ h. (true, h)) (λ h. (false, h)) (or-e (occurs cs v true) (occurs cs v false) t)
+named-some cs v t = ⊎-elim (λ h. (true, h)) (λ h. (false, h)) (or-cases (occurs cs v true) (occurs cs v false) t)
 
 pub named-in : (cs : List (List Literal)) (v : ℕ) (s : Bool) → occurs cs v s ≡ true → named cs v ≡ true
 unfolding named

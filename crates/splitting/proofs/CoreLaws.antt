@@ -1,14 +1,16 @@
 -- A function that takes the numbers below n to numbers below n has a part on which it is onto.
-use Prim.Native.Nat.{ℕ, zero, suc, _+_, _≤_, _<_}
-use mathlib.Core.Path.{_≡_, refl, sym, _∙_, ap}
+use Prim.Native.Nat.{ℕ, zero, suc, _≤_, _<_}
+use mathlib.Core.Path.{_≡_, refl, sym}
 use mathlib.Core.Bool.{Bool, true, false, not, _&&_}
-use mathlib.Core.Logic.{_⊎_, inl, inr, ⊎-elim}
+use mathlib.Core.Logic.{⊎-elim}
 use native.Mathlib.Omega.{arith}
 use lib.Dec.{eqb, ltb}
 use borrow.Author.Tests.{eqb-true, eqb-false, eq-eqb, ltb-true, ltb-false, lt-ltb, not-true}
-use Rattle.matching.proofs.Counting.{look, clash, and-l, and-r, and-i, count, count-le, count-except, except, except-i, except-of}
+use Rattle.lists.proofs.TestLaws.{and-left, and-right, and-both}
+use Rattle.matching.proofs.Counting.{look, clash, count, count-except, except, except-i}
 use Rattle.splitting.specs.Nodes.{lowest-with}
 use Rattle.splitting.proofs.SearchLaws.{lowest-some, lowest-none, lowest-found}
+use Rattle.splitting.proofs.CountLaws.{count-le, except-of}
 
 pub record Core (q : ℕ → ℕ) (n : ℕ) : Type 0 where
   pub In : ℕ → Bool
@@ -27,13 +29,13 @@ missed n S q j = S j && not (ltb (lowest-with (hits S q j) n) n)
 
 missed-in : (n : ℕ) (S : ℕ → Bool) (q : ℕ → ℕ) (j : ℕ) → missed n S q j ≡ true → S j ≡ true
 unfolding missed
-missed-in n S q j t = and-l (S j) (not (ltb (lowest-with (hits S q j) n) n)) t
+missed-in n S q j t = and-left (S j) (not (ltb (lowest-with (hits S q j) n) n)) t
 
 missed-no : (n : ℕ) (S : ℕ → Bool) (q : ℕ → ℕ) (j : ℕ) → missed n S q j ≡ true → (i : ℕ) → i < n → S i ≡ true → q i ≡ j → ⊥
 unfolding missed hits
 missed-no n S q j t i l s e =
-    let w = lowest-found (hits S q j) n i l (and-i (S i) (eqb (q i) j) s (eq-eqb (q i) j e)) in
-    clash (lt-ltb (lowest-with (hits S q j) n) n (w .0)) (not-true _ (and-r (S j) (not (ltb (lowest-with (hits S q j) n) n)) t))
+    let w = lowest-found (hits S q j) n i l (and-both (S i) (eqb (q i) j) s (eq-eqb (q i) j e)) in
+    clash (lt-ltb (lowest-with (hits S q j) n) n (w .0)) (not-true _ (and-right (S j) (not (ltb (lowest-with (hits S q j) n) n)) t))
 
 not-missed : (n : ℕ) (S : ℕ → Bool) (q : ℕ → ℕ) (j : ℕ) → missed n S q j ≡ false → S j ≡ true → (i : ℕ) × (S i ≡ true) × (q i ≡ j)
 unfolding missed hits
@@ -42,8 +44,8 @@ not-missed n S q j f s =
     ⊎-elim
     (λ (t : ltb i n ≡ true).
     let h = lowest-some (hits S q j) n (ltb-true i n t) in
-    (i, and-l (S i) (eqb (q i) j) h, eqb-true (q i) j (and-r (S i) (eqb (q i) j) h)))
-    (λ (e : ltb i n ≡ false). clash (and-i (S j) (not (ltb i n)) s (rw e)) f)
+    (i, and-left (S i) (eqb (q i) j) h, eqb-true (q i) j (and-right (S i) (eqb (q i) j) h)))
+    (λ (e : ltb i n ≡ false). clash (and-both (S j) (not (ltb i n)) s (rw e)) f)
     (look (ltb i n))
 
 module _ (q : ℕ → ℕ) (n : ℕ) where

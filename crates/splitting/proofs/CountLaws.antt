@@ -1,14 +1,24 @@
 -- Laws of counting: smaller sets, and sets that miss a number or have them all.
-use Prim.Native.Nat.{ℕ, zero, suc, _+_, _≤_, _<_}
-use mathlib.Core.Path.{_≡_, refl, sym, _∙_, ap}
-use mathlib.Core.Bool.{Bool, true, false}
-use mathlib.Core.Logic.{_⊎_, inl, inr, ⊎-elim}
+use Prim.Native.Nat.{ℕ, zero, suc, _≤_, _<_}
+use mathlib.Core.Path.{_≡_, refl}
+use mathlib.Core.Bool.{Bool, true, false, not}
+use mathlib.Core.Logic.{⊎-elim}
 use native.Mathlib.Omega.{arith}
-use Rattle.matching.proofs.Counting.{look, clash, below-cases, count, count-le, count-except, except, except-i, pigeon}
+use lib.Dec.{eqb}
+use Rattle.lists.proofs.TestLaws.{and-left}
+use Rattle.matching.proofs.Counting.{look, clash, below-cases, count, count-all, count-except, except, except-i, pigeon}
+
+-- what is in a set without a is in the set
+pub except-of : (f : ℕ → Bool) (a i : ℕ) → except f a i ≡ true → f i ≡ true
+unfolding except
+except-of f a i e = and-left (f i) (not (eqb i a)) e
 
 -- a smaller set does not count more
 pub count-sub : (f g : ℕ → Bool) (n : ℕ) → ((i : ℕ) → f i ≡ true → g i ≡ true) → count f n ≤ count g n
 count-sub f g n sub = pigeon f n g n (λ i. i) (λ i l t. (l, sub i t)) (λ i j _ _ _ _ e. e)
+
+pub count-le : (f : ℕ → Bool) (n : ℕ) → count f n ≤ n
+count-le f n = omega (arith, count-sub f (λ _. true) n (λ i _. refl), count-all n)
 
 -- without a it counts less
 pub count-drop : (f g : ℕ → Bool) (n a : ℕ) → ((i : ℕ) → f i ≡ true → g i ≡ true) → a < n → g a ≡ true → f a ≡ false → count f n < count g n

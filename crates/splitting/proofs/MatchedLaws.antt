@@ -1,30 +1,28 @@
 -- Laws of matched lists of clauses: sub-lists, assignments, the splitting theorem, and the model that a matching gives.
-use Prim.Native.Nat.{ℕ, zero, suc, _+_, _-_, _≤_, _<_, _^_}
+use Prim.Native.Nat.{ℕ, _<_}
 use mathlib.Core.Path.{_≡_, refl, sym, _∙_, ap, subst}
-use mathlib.Core.Bool.{Bool, true, false, not, _&&_, _||_, cond}
-use mathlib.Core.List.{List, [], _∷_, _++_, map, List·Memᴰ, Sublistᴰ, Sublistᴰ·slnil, Sublistᴰ·cons, Sublistᴰ·cons-cons}
-use mathlib.Core.Logic.{_⊎_, inl, inr, ⊎-elim}
+use mathlib.Core.Bool.{Bool, true, false, not, cond}
+use mathlib.Core.List.{List, [], _∷_, map, Sublistᴰ, Sublistᴰ·slnil, Sublistᴰ·cons, Sublistᴰ·cons-cons}
+use mathlib.Core.Logic.{⊎-elim}
 use native.Mathlib.Omega.{arith}
 use lib.ListN.{length, getD, length-map, List·getD-map}
-use lib.Dec.{eqb, ltb}
-use borrow.Author.Tests.{eqb-true, eqb-false, ltb-true, lt-ltb}
+use lib.Dec.{ltb}
+use borrow.Author.Tests.{ltb-true, lt-ltb}
+use Rattle.lists.specs.Tabulated.{tabulated}
 use Rattle.lists.proofs.TestLaws.{both-signs}
 use Rattle.lists.proofs.SublistLaws.{getD-element, element-place, sub-map}
+use Rattle.lists.proofs.TabulatedLaws.{length-tabulated, getD-tabulated}
 use Rattle.masks.specs.Mask.{bit}
 use Rattle.matching.specs.Matched.{Matches, Matched, chosen}
-use Rattle.matching.specs.Search.{owner}
-use Rattle.matching.specs.Inner.{listing}
 use Rattle.matching.proofs.Counting.{look, clash}
-use Rattle.matching.proofs.OwnerLaws.{owner-is}
-use Rattle.matching.proofs.RematchLaws.{length-listing, listing-at}
 use Rattle.matching.proofs.Theorems.{sub-list-matched}
-use Rattle.formula.specs.Format.{Literal, names, names-as}
-use Rattle.splitting.specs.Nodes.{less, assign, occurs, named}
-use Rattle.splitting.specs.Stripping.{pure}
-use Rattle.splitting.specs.Choosing.{variables}
+use Rattle.formula.specs.Format.{Literal, names, names-as, distinct}
+use Rattle.formula.specs.Masked.{variables}
+use Rattle.formula.proofs.ClauseLaws.{named-as, variables-bit}
+use Rattle.splitting.specs.Nodes.{less, assign, named}
 use Rattle.splitting.proofs.Terms.{NonePure}
-use Rattle.splitting.proofs.ClauseLaws.{names-of, names-some, less-other, bit-variables, occurs-some, occurs-in, named-in, other-way}
-use Rattle.splitting.proofs.CoreLaws.{Core, core, Back, turn}
+use Rattle.splitting.proofs.ClauseLaws.{names-some, less-other, occurs-some, occurs-in, named-in, other-way}
+use Rattle.splitting.proofs.CoreLaws.{Core, core, turn}
 
 -- ── Sub-lists ─────────────────────────────────────────────────────────────────────────────────────────────────────────
 
@@ -54,23 +52,23 @@ variables-at cs i = List·getD-map variables cs i []
 -- each clause names its variable
 pub matches-names : (cs : List (List Literal)) (vs : List ℕ) → Matches (map variables cs) vs → (i : ℕ) → i < length cs → names (at cs i) (getD vs i 0) ≡ true
 matches-names cs vs M i l =
-    sym (bit-variables (at cs i) (getD vs i 0)) ∙ (let h = length-map cs variables in rw (variables-at cs i) at (M .named i (omega arith)))
+    sym (variables-bit (at cs i) (getD vs i 0)) ∙ (let h = length-map cs variables in rw (variables-at cs i) at (M .named i (omega arith)))
 
 pub matches-apart : (cs : List (List Literal)) (vs : List ℕ) → Matches (map variables cs) vs
     → (i j : ℕ) → i < length cs → j < length cs → getD vs i 0 ≡ getD vs j 0 → i ≡ j
 matches-apart cs vs M i j l k = let h = length-map cs variables in M .distinct i j (omega arith) (omega arith)
 
 matches-of : (cs : List (List Literal)) (m : ℕ → ℕ) → ((i : ℕ) → i < length cs → names (at cs i) (m i) ≡ true)
-    → ((i j : ℕ) → i < length cs → j < length cs → m i ≡ m j → i ≡ j) → Matches (map variables cs) (listing m (length cs))
+    → ((i j : ℕ) → i < length cs → j < length cs → m i ≡ m j → i ≡ j) → Matches (map variables cs) (tabulated m (length cs))
 matches-of cs m nm apart =
     let h = length-map cs variables in
     let n = length cs in
     record {
-      one-each = length-listing m n ∙ sym h;
+      one-each = length-tabulated m n ∙ sym h;
       named = λ i l.
-          rw (variables-at cs i, listing-at m n i (omega arith), bit-variables (at cs i) (m i)) (nm i (omega arith));
+          rw (variables-at cs i, getD-tabulated m n i 0 (omega arith), variables-bit (at cs i) (m i)) (nm i (omega arith));
       distinct = λ i j l k e.
-          apart i j (omega arith) (omega arith) (sym (listing-at m n i (omega arith)) ∙ e ∙ listing-at m n j (omega arith));
+          apart i j (omega arith) (omega arith) (sym (getD-tabulated m n i 0 (omega arith)) ∙ e ∙ getD-tabulated m n j 0 (omega arith));
     }
 
 -- ── A matching that gives x to a clause that x = s satisfies serves where x gets the value s ──────────────────────────
@@ -98,10 +96,10 @@ unfolding part
 part-bit x s c v t same = go (names-as c x s) refl
   where
     go : (b : Bool) → names-as c x s ≡ b → bit (cond b (variables c) (variables (less x c))) v ≡ true
-    go true e = bit-variables c v ∙ t
+    go true e = variables-bit c v ∙ t
     go false e =
         let w = names-some c v t in
-        bit-variables (less x c) v ∙ names-of (less x c) v (w .0) (less-other x c v (w .0) (λ q. clash (same q) e) ∙ w .1)
+        variables-bit (less x c) v ∙ named-as (less x c) v (w .0) (less-other x c v (w .0) (λ q. clash (same q) e) ∙ w .1)
 
 assigned-matched : (cs : List (List Literal)) (vs : List ℕ) (i x : ℕ) (s : Bool) → Matches (map variables cs) vs
     → i < length cs → getD vs i 0 ≡ x → names-as (at cs i) x s ≡ true → Matched (map variables (assign x s cs))
@@ -175,14 +173,14 @@ module _ (cs : List (List Literal)) (m : ℕ → ℕ) (nm : (i : ℕ) → i < le
       (look (K .In j)))
       (look (K .In i))
 
-  turned : Matches (map variables cs) (listing (λ j. m (back j)) (length cs))
+  turned : Matches (map variables cs) (tabulated (λ j. m (back j)) (length cs))
   turned =
       matches-of cs (λ j. m (back j))
       (λ j l.
       ⊎-elim
       (λ t.
       let w = turns (back j) (K .low (back j) (back-in j t .0)) in
-      subst (λ k. names (at cs k) (m (back j)) ≡ true) (back-in j t .1) (names-of (at cs (q (back j))) (m (back j)) (not (w .1)) (w .3)))
+      subst (λ k. names (at cs k) (m (back j)) ≡ true) (back-in j t .1) (named-as (at cs (q (back j))) (m (back j)) (not (w .1)) (w .3)))
       (λ f. rw (back-out j f) (nm j l))
       (look (K .In j)))
       (λ i j l k e. back-apart i j (apart (back i) (back j) (back-low i l) (back-low j k) e))
@@ -208,6 +206,6 @@ splits cs (vs, M) some np =
       named-in cs (m z) (t .1) (occurs-in cs (at cs z) (m z) (t .1) (getD-element cs z [] z-low) (t .2)),
       both-signs (λ b. Matched (map variables (assign (m z) b cs))) (t .1)
         (assigned-matched cs vs z (m z) (t .1) M z-low refl (t .2))
-        (assigned-matched cs (listing (λ j. m (back cs m nm apart q turns K j)) n) (q z) (m z) (not (t .1)) (turned cs m nm apart q turns K) (t .0)
-        (listing-at (λ j. m (back cs m nm apart q turns K j)) n (q z) (t .0) ∙ home) (t .3)),
+        (assigned-matched cs (tabulated (λ j. m (back cs m nm apart q turns K j)) n) (q z) (m z) (not (t .1)) (turned cs m nm apart q turns K) (t .0)
+        (getD-tabulated (λ j. m (back cs m nm apart q turns K j)) n (q z) 0 (t .0) ∙ home) (t .3)),
     )

@@ -1,31 +1,33 @@
 -- Laws of satisfying assignments: what assigning, stripping and matching do to them, and models as masks.
-use Prim.Native.Nat.{ℕ, zero, suc, _+_, _-_, _≤_, _<_}
+use Prim.Native.Nat.{ℕ, zero, suc, _-_, _≤_, _<_}
 use mathlib.Core.Path.{_≡_, refl, sym, _∙_, ap, subst}
-use mathlib.Core.Bool.{Bool, true, false, not, _&&_, _||_, cond, or-false}
-use mathlib.Core.List.{List, [], _∷_, _++_, map, List·Memᴰ, List·Memᴰ·head, List·Memᴰ·tail, List·Memᴰ·cases-cons, List·Memᴰ·not-nil}
-use mathlib.Core.Logic.{_⊎_, inl, inr, ⊎-elim}
+use mathlib.Core.Bool.{Bool, true, false, not, cond}
+use mathlib.Core.List.{List, [], _∷_, map, List·Memᴰ·head, List·Memᴰ·tail, List·Memᴰ·cases-cons, List·Memᴰ·not-nil}
+use mathlib.Core.Logic.{⊎-elim}
 use native.Mathlib.Omega.{arith}
 use lib.ListN.{length, getD, length-map}
-use lib.Dec.{eqb, ltb}
-use borrow.Author.Tests.{eqb-true, eqb-false, eq-eqb, ne-eqb, ltb-true, ltb-false, lt-ltb, le-ltb, not-true}
+use lib.Dec.{eqb}
+use borrow.Author.Tests.{eq-eqb, ne-eqb}
 use Rattle.lists.proofs.TestLaws.{both-signs}
 use Rattle.lists.proofs.SublistLaws.{element-place}
 use Rattle.masks.specs.Mask.{bit, with}
 use Rattle.masks.proofs.BitLaws.{bit-none, bit-with-same, bit-with-other}
-use Rattle.matching.specs.Matched.{Matches, Matched}
+use Rattle.matching.specs.Matched.{Matched}
 use Rattle.matching.specs.Search.{owner}
-use Rattle.matching.proofs.Counting.{look, clash, below-cases, and-l, and-r, or-l, or-r}
+use Rattle.matching.proofs.Counting.{look, clash, below-cases, or-l, or-r}
 use Rattle.matching.proofs.OwnerLaws.{owner-is}
 use Rattle.formula.specs.Format.{Literal, names, names-as, distinct}
 use Rattle.formula.specs.Models.{Model}
+use Rattle.formula.specs.Masked.{variables}
+use Rattle.formula.proofs.ClauseLaws.{named-as}
+use Rattle.formula.proofs.FormatLaws.{distinct-rest}
 use Rattle.splitting.specs.Nodes.{less, assign, remaining, occurs, named}
-use Rattle.splitting.specs.Stripping.{pure, not-naming, stripped}
-use Rattle.splitting.specs.Choosing.{variables}
+use Rattle.splitting.specs.Stripping.{not-naming, stripped}
 use Rattle.splitting.proofs.Terms.{Below, Satisfies, Agrees}
-use Rattle.splitting.proofs.ClauseLaws.{literal-names, names-literal, names-of, names-some, less-of, less-other, occurs-in, named-in, pure-ways}
+use Rattle.splitting.proofs.ClauseLaws.{literal-names, names-literal, names-some, less-of, less-other, occurs-in, named-in, pure-ways}
 use Rattle.splitting.proofs.StrippingLaws.{not-naming-in, strip-ind}
 use Rattle.splitting.proofs.NodeLaws.{assign-in, assign-of, named-assign, named-remaining}
-use Rattle.splitting.proofs.MatchedLaws.{matches-names, matches-apart}
+use Rattle.splitting.proofs.MatchedLaws.{matches-names}
 
 -- ── Assigning ─────────────────────────────────────────────────────────────────────────────────────────────────────────
 
@@ -82,16 +84,16 @@ under-other (l ∷ t) a v f =
     (look (eqb (l .variable) v))
 
 pub under-agrees : (t : List Literal) (a : ℕ → Bool) → distinct t ≡ true → Agrees (under t a) t
-unfolding under distinct
+unfolding under
 under-agrees [] a d l m = absurd (List·Memᴰ·not-nil m)
 under-agrees (k ∷ t) a d l m =
     ⊎-elim
     (λ (e : l ≡ k). rw (e, eq-eqb (k .variable) (k .variable) refl))
     (λ more.
-    let off : names t (k .variable) ≡ false = not-true (names t (k .variable)) (and-l (not (names t (k .variable))) (distinct t) d) in
+    let r = distinct-rest k t d in
     let ne : k .variable ≡ l .variable → ⊥ =
-    λ q. clash (names-of t (l .variable) (l .positive) (literal-names t l more)) (subst (λ v. names t v ≡ false) q off) in
-    rw (ne-eqb (k .variable) (l .variable) ne) (under-agrees t a (and-r (not (names t (k .variable))) (distinct t) d) l more))
+    λ q. clash (named-as t (l .variable) (l .positive) (literal-names t l more)) (subst (λ v. names t v ≡ false) q (r .0)) in
+    rw (ne-eqb (k .variable) (l .variable) ne) (under-agrees t a (r .1) l more))
     (List·Memᴰ·cases-cons m)
 
 -- what satisfies the clauses of a node gives what satisfies the formula and agrees with the trail

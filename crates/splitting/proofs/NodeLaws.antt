@@ -1,21 +1,21 @@
 -- Laws of assigning a variable, and of the clauses that remain at the node of a trail.
-use Prim.Native.Nat.{ℕ, zero, suc, _+_, _≤_, _<_}
+use Prim.Native.Nat.{ℕ, suc, _≤_, _<_}
 use mathlib.Core.Path.{_≡_, refl, sym, _∙_, ap, subst}
-use mathlib.Core.Bool.{Bool, true, false, not, _&&_, _||_, cond}
+use mathlib.Core.Bool.{Bool, true, false, cond}
 use mathlib.Core.List.{List, [], _∷_, _++_, map, List·Memᴰ, List·Memᴰ·head, List·Memᴰ·tail, List·Memᴰ·cases-cons, List·Memᴰ·not-nil, Sublistᴰ, Sublistᴰ·slnil, Sublistᴰ·cons, Sublistᴰ·cons-cons, Sublistᴰ·eq-nil, Sublistᴰ·cases-cons}
 use mathlib.Core.Logic.{_⊎_, inl, inr, ⊎-elim}
 use native.Mathlib.Omega.{arith}
 use lib.ListN.{length}
-use lib.Dec.{eqb}
-use borrow.Author.Tests.{eqb-true, ne-eqb}
+use borrow.Author.Tests.{ne-eqb}
 use Rattle.lists.specs.Every.{Every}
 use Rattle.lists.proofs.EveryLaws.{every-element}
-use Rattle.matching.proofs.Counting.{look, clash, or-e}
+use Rattle.matching.proofs.Counting.{clash}
 use Rattle.formula.specs.Format.{Literal, names, names-as, ClauseOver}
-use Rattle.splitting.specs.Nodes.{less, assign, remaining, occurs, named}
+use Rattle.formula.proofs.ClauseLaws.{named-as}
+use Rattle.splitting.specs.Nodes.{less, assign, remaining, named}
 use Rattle.splitting.specs.Choosing.{emptied}
 use Rattle.splitting.proofs.Terms.{Below}
-use Rattle.splitting.proofs.ClauseLaws.{names-of, names-some, names-none, literal-names, names-literal, less-of, occurs-some, occurs-in, named-some, named-in}
+use Rattle.splitting.proofs.ClauseLaws.{literal-names, names-literal, less-of, occurs-some, occurs-in, named-some, named-in}
 
 -- ── One assignment ────────────────────────────────────────────────────────────────────────────────────────────────────
 
@@ -128,7 +128,7 @@ emptied-none ((l ∷ d) ∷ cs) f c m =
     ⊎-elim (λ (e : c ≡ l ∷ d). (l .variable, rw e (first l d))) (λ more. emptied-none cs f c more) (List·Memᴰ·cases-cons m)
   where
     first : (l : Literal) (d : List Literal) → names (l ∷ d) (l .variable) ≡ true
-    first l d = names-of (l ∷ d) (l .variable) (l .positive) (literal-names (l ∷ d) l (List·Memᴰ·head refl))
+    first l d = named-as (l ∷ d) (l .variable) (l .positive) (literal-names (l ∷ d) l (List·Memᴰ·head refl))
 
 -- ── Trails ────────────────────────────────────────────────────────────────────────────────────────────────────────────
 

@@ -1,17 +1,16 @@
 -- What open values mean: models that agree with the trail.
 use Prim.Native.Nat.{ℕ, _≤_, _<_}
-use mathlib.Core.Path.{_≡_, refl, sym, _∙_, ap}
-use mathlib.Core.Bool.{Bool, true, false, not, _&&_}
-use mathlib.Core.List.{List, List·Memᴰ}
+use mathlib.Core.Path.{_≡_, _∙_}
+use mathlib.Core.Bool.{Bool, true, false, not}
+use mathlib.Core.List.{List}
 use mathlib.Core.Logic.{⊎-elim}
-use native.Mathlib.Omega.{arith}
 use lib.ListN.{length}
-use lib.Dec.{ltb}
-use borrow.Author.Tests.{ltb-true, lt-ltb, not-true}
+use borrow.Author.Tests.{lt-ltb, not-true}
 use Rattle.lists.proofs.EveryLaws.{every-element}
+use Rattle.lists.proofs.TestLaws.{and-both, and-right}
 use Rattle.masks.specs.Mask.{bit, full}
 use Rattle.masks.proofs.BitLaws.{bit-full}
-use Rattle.matching.proofs.Counting.{look, and-i, and-r}
+use Rattle.matching.proofs.Counting.{look}
 use Rattle.formula.specs.Format.{Literal, names}
 use Rattle.formula.specs.Models.{Model}
 use Rattle.splitting.specs.Nodes.{assign, remaining}
@@ -48,10 +47,10 @@ module _ (n : ℕ) (cs : List (List Literal)) (t : List Literal) (fits : n ≤ 6
       (λ v h. let r = named-remaining t cs v h in unassigned v (low v (r .0)) (r .1))
       (let f = trail-free n t T short in (f .0, f .1, unassigned (f .0) (f .1) (f .2))) in
       let v = by-remaining n (unassigned-of (full n) t) (remaining t cs) .variable in
-      (w .0, not-true (names t v) (and-r (bit (full n) v) (not (names t v)) (w .1)))
+      (w .0, not-true (names t v) (and-right (bit (full n) v) (not (names t v)) (w .1)))
     where
       unassigned : (v : ℕ) → v < n → names t v ≡ false → unassigned-of (full n) t v ≡ true
-      unassigned v l f = and-i (bit (full n) v) (not (names t v)) (bit-full n v ∙ lt-ltb v n l) (rw f)
+      unassigned v l f = and-both (bit (full n) v) (not (names t v)) (bit-full n v ∙ lt-ltb v n l) (rw f)
 
   -- an open value has a model
   pub open-model : length t < n → (b : Bool) → opened (choice n (full n) cs t) b ≡ true

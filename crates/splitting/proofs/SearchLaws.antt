@@ -1,15 +1,16 @@
 -- Laws of the lowest variable with a test and of the variables with it, upward.
 use Prim.Native.Nat.{ℕ, zero, suc, _+_, _≤_, _<_}
-use mathlib.Core.Path.{_≡_, refl, sym, _∙_, ap, subst}
-use mathlib.Core.Bool.{Bool, true, false, not, _&&_, _||_, cond}
-use mathlib.Core.List.{List, [], _∷_, _++_, append-nil}
+use mathlib.Core.Path.{_≡_, refl, sym}
+use mathlib.Core.Bool.{Bool, true, false, cond}
+use mathlib.Core.List.{List, [], _∷_, _++_}
 use mathlib.Core.Logic.{_⊎_, inl, inr, ⊎-elim}
 use native.Mathlib.Nat.{eq-or-lt-of-le}
 use native.Mathlib.Omega.{arith}
 use lib.ListN.{length}
 use lib.Dec.{eqb, ltb}
 use borrow.Author.Tests.{eqb-true, eq-eqb, ltb-true, ltb-false}
-use Rattle.matching.proofs.Counting.{look, clash, or-e, or-l, or-r}
+use Rattle.lists.proofs.TestLaws.{or-cases}
+use Rattle.matching.proofs.Counting.{look, clash, or-l, or-r}
 use Rattle.splitting.specs.Nodes.{first-from, lowest-with, upward-from, upward}
 use Rattle.splitting.specs.Choosing.{among, last}
 
@@ -63,7 +64,7 @@ among-more x y l t = or-r (eqb y x) (among l x) t
 
 pub among-cases : (x y : ℕ) (l : List ℕ) → among (y ∷ l) x ≡ true → (x ≡ y) ⊎ (among l x ≡ true)
 unfolding among
-among-cases x y l t = ⊎-elim (λ e. inl (sym (eqb-true y x e))) (λ r. inr r) (or-e (eqb y x) (among l x) t)
+among-cases x y l t = ⊎-elim (λ e. inl (sym (eqb-true y x e))) (λ r. inr r) (or-cases (eqb y x) (among l x) t)
 
 pub among-none : {C : Type 0} (x : ℕ) → among [] x ≡ true → C
 unfolding among

@@ -1,5 +1,5 @@
 -- Laws of the invariant: what stripping leaves is matched.
-use Prim.Native.Nat.{ℕ, zero, suc, _+_, _≤_, _<_}
+use Prim.Native.Nat.{ℕ}
 use mathlib.Core.Path.{_≡_, refl, sym, _∙_, ap, subst}
 use mathlib.Core.Bool.{Bool, true, false, not, _&&_, _||_}
 use mathlib.Core.List.{List, [], _∷_, _++_, map, append-nil, List·Memᴰ, List·Memᴰ·not-nil, List·Memᴰ·append-cases, Memᴰ·of-map, Sublistᴰ}
@@ -8,17 +8,21 @@ use native.Mathlib.Omega.{arith}
 use lib.Dec.{eqb}
 use borrow.Author.Tests.{eqb-true, eqb-false, not-true}
 use Rattle.lists.proofs.SublistLaws.{Within, sub-within, no-elements}
-use Rattle.matching.specs.Matched.{Matches, Matched}
-use Rattle.matching.proofs.Counting.{look, clash, and-l, and-r, and-i, or-l, or-r}
-use Rattle.formula.specs.Format.{Literal, names, names-as}
+use Rattle.lists.proofs.TestLaws.{and-left, and-right, and-both}
+use Rattle.masks.specs.Mask.{full}
+use Rattle.matching.specs.Matched.{Matched}
+use Rattle.matching.proofs.Counting.{look, clash, or-l, or-r}
+use Rattle.formula.specs.Format.{Literal, names, names-as, distinct}
+use Rattle.formula.specs.Masked.{variables}
+use Rattle.formula.proofs.ClauseLaws.{named-as}
 use Rattle.splitting.specs.Nodes.{less, assign, occurs, named, upward}
-use Rattle.splitting.specs.Stripping.{pure, stripped}
-use Rattle.splitting.specs.Choosing.{variables, among, listed, last, emptied}
+use Rattle.splitting.specs.Stripping.{stripped}
+use Rattle.splitting.specs.Choosing.{among, listed, last, emptied}
 use Rattle.splitting.proofs.Terms.{Below, NonePure, Sound, Satisfies}
-use Rattle.splitting.proofs.ClauseLaws.{names-of, names-some, less-of, occurs-some, occurs-in, occurs-append, occurs-less, named-some, named-in, named-by, not-pure, pure-not, other-way}
+use Rattle.splitting.proofs.ClauseLaws.{names-some, less-of, occurs-in, occurs-append, occurs-less, named-some, named-by, not-pure, pure-not, other-way}
 use Rattle.splitting.proofs.SearchLaws.{among-here, among-more, among-cases, among-none, among-append, among-left, among-right, last-among, last-append, upward-of, upward-in}
 use Rattle.splitting.proofs.StrippingLaws.{left-sub, left-none-pure, none-noted, left-keeps, noted-named, unnoted-left, none-noted-but}
-use Rattle.splitting.proofs.NodeLaws.{Origin, assign-origin, assign-sub, assign-of, below-assign, emptied-some, emptied-none}
+use Rattle.splitting.proofs.NodeLaws.{Origin, assign-origin, assign-sub, below-assign, emptied-some, emptied-none}
 use Rattle.splitting.proofs.MatchedLaws.{sub-matched}
 use Rattle.splitting.proofs.ModelLaws.{satisfies-assign, left-satisfies, matched-satisfies}
 
@@ -114,12 +118,12 @@ others-of : (n : ℕ) (cs : List (List Literal)) (x : ℕ) → among (upward (λ
     → (named cs x ≡ true) × (among (stripped n cs .noted) x ≡ false)
 others-of n cs x t =
     let w = upward-of (λ v. named cs v && not (among (stripped n cs .noted) v)) n x t in
-    (and-l (named cs x) (not (among (stripped n cs .noted) x)) (w .1), not-true _ (and-r (named cs x) (not (among (stripped n cs .noted) x)) (w .1)))
+    (and-left (named cs x) (not (among (stripped n cs .noted) x)) (w .1), not-true _ (and-right (named cs x) (not (among (stripped n cs .noted) x)) (w .1)))
 
 others-in : (n : ℕ) (cs : List (List Literal)) → Below n cs → (x : ℕ) → named cs x ≡ true → among (stripped n cs .noted) x ≡ false
     → among (upward (λ v. named cs v && not (among (stripped n cs .noted) v)) n) x ≡ true
 others-in n cs low x h f =
-    upward-in (λ v. named cs v && not (among (stripped n cs .noted) v)) n x (low x h) (and-i (named cs x) (not (among (stripped n cs .noted) x)) h (rw f))
+    upward-in (λ v. named cs v && not (among (stripped n cs .noted) v)) n x (low x h) (and-both (named cs x) (not (among (stripped n cs .noted) x)) h (rw f))
 
 -- the last listed is such a one
 pub last-of : (n : ℕ) (cs : List (List Literal)) → Below n cs → LastOf n cs (last (listed n cs (stripped n cs .noted)))
@@ -176,7 +180,7 @@ last-none n x b cs low bare lo full =
     let u = names-some d (z .0) (z .1) in
     let k = less-of x c (z .0) (u .0) (subst (λ (e : List Literal). names-as e (z .0) (u .0) ≡ true) (sym (w .2)) (u .1)) in
     clash (occurs-in ds c (z .0) (u .0) (w .1) (k .0))
-    (off (z .0) (l .1 (z .0) (named-by cs c (z .0) here (names-of c (z .0) (u .0) (k .0)))) (k .1) (u .0)))
+    (off (z .0) (l .1 (z .0) (named-by cs c (z .0) here (named-as c (z .0) (u .0) (k .0)))) (k .1) (u .0)))
     lo)
     (λ (f : eqb (y .0) x ≡ false).
     let u = names-some c (y .0) (y .2) in

@@ -1,21 +1,21 @@
 -- Laws of stripping: the order in which it goes, what it leaves, and what it notes.
-use Prim.Native.Nat.{ℕ, zero, suc, _+_, _≤_, _<_}
-use mathlib.Core.Path.{_≡_, refl, sym, _∙_, ap, subst}
-use mathlib.Core.Bool.{Bool, true, false, not, _&&_, _||_, cond}
-use mathlib.Core.List.{List, [], _∷_, _++_, map, List·Memᴰ, List·Memᴰ·head, List·Memᴰ·tail, List·Memᴰ·cases-cons, List·Memᴰ·not-nil, Sublistᴰ, Sublistᴰ·slnil, Sublistᴰ·cons, Sublistᴰ·cons-cons, Sublistᴰ·refl, Sublistᴰ·trans}
+use Prim.Native.Nat.{ℕ, zero, suc, _≤_, _<_}
+use mathlib.Core.Path.{_≡_, refl, sym, _∙_, subst}
+use mathlib.Core.Bool.{Bool, true, false, cond}
+use mathlib.Core.List.{List, [], _∷_, map, List·Memᴰ, List·Memᴰ·head, List·Memᴰ·tail, List·Memᴰ·cases-cons, List·Memᴰ·not-nil, Sublistᴰ, Sublistᴰ·slnil, Sublistᴰ·cons, Sublistᴰ·cons-cons, Sublistᴰ·refl, Sublistᴰ·trans}
 use mathlib.Core.Logic.{_⊎_, inl, inr, ⊎-elim}
 use native.Mathlib.Omega.{arith}
 use lib.Dec.{eqb, ltb}
 use borrow.Author.Tests.{eqb-true, eqb-false, ltb-true, ltb-false}
-use Rattle.lists.proofs.SublistLaws.{Within, sub-within, no-elements}
-use Rattle.matching.proofs.Counting.{look, clash, or-l, or-r, count, count-le, count-except}
+use Rattle.lists.proofs.SublistLaws.{Within, sub-within}
+use Rattle.matching.proofs.Counting.{look, clash, or-l, or-r, count, count-except}
 use Rattle.formula.specs.Format.{Literal, names, names-as}
 use Rattle.splitting.specs.Nodes.{less, occurs, named, lowest-with}
 use Rattle.splitting.specs.Stripping.{pure, not-naming, Stripped, note, strip, stripped}
 use Rattle.splitting.specs.Choosing.{among, last}
 use Rattle.splitting.proofs.Terms.{Below, NonePure}
-use Rattle.splitting.proofs.ClauseLaws.{names-of, names-some, names-none, occurs-some, occurs-in, occurs-within, occurs-less, named-some, named-in, named-by, named-within, not-pure, pure-not, pure-ways, pure-named, other-way, outside}
-use Rattle.splitting.proofs.CountLaws.{count-drop}
+use Rattle.splitting.proofs.ClauseLaws.{names-some, names-none, occurs-in, occurs-within, occurs-less, named-some, named-within, pure-named, outside}
+use Rattle.splitting.proofs.CountLaws.{count-le, count-drop}
 use Rattle.splitting.proofs.SearchLaws.{lowest-some, lowest-none, among-here, among-more, among-cases, among-none, last-among}
 
 -- ── The clauses that do not name a variable ───────────────────────────────────────────────────────────────────────────

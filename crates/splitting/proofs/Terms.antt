@@ -5,10 +5,10 @@ use mathlib.Core.Bool.{Bool, true, false}
 use mathlib.Core.List.{List, map, List·Memᴰ}
 use Rattle.matching.specs.Matched.{Matched}
 use Rattle.formula.specs.Format.{Literal, names-as, ClauseOver}
+use Rattle.formula.specs.Masked.{variables}
 use Rattle.splitting.specs.declared.Choice.{Choice}
 use Rattle.splitting.specs.Nodes.{named}
 use Rattle.splitting.specs.Stripping.{pure, stripped}
-use Rattle.splitting.specs.Choosing.{variables}
 
 -- every named variable is below n
 abbrev pub Below : ℕ → List (List Literal) → Type 0

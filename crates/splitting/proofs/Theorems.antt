@@ -1,26 +1,30 @@
 -- What is proved of the choice of the next variable (01, 'Which switch is settled next'), over lists of clauses. The words are in Terms.
-use Prim.Native.Nat.{ℕ, suc, _+_, _*_, _≤_, _<_}
-use mathlib.Core.Path.{_≡_, refl, sym, _∙_, ap, subst}
-use mathlib.Core.Bool.{Bool, true, false, not, _&&_}
-use mathlib.Core.List.{List, [], _∷_, _++_, map, List·Memᴰ, List·Memᴰ·head, List·Memᴰ·not-nil, Sublistᴰ}
-use mathlib.Core.Logic.{_⊎_, inl, inr, ⊎-elim, _↔_}
+use Prim.Native.Nat.{ℕ, suc, _*_, _≤_, _<_}
+use mathlib.Core.Path.{_≡_, refl}
+use mathlib.Core.Bool.{Bool, true, false}
+use mathlib.Core.List.{List, [], _∷_, _++_, map, List·Memᴰ·head, List·Memᴰ·not-nil, Sublistᴰ}
+use mathlib.Core.Logic.{_↔_}
 use native.Mathlib.Omega.{arith}
 use lib.ListN.{length}
-use lib.Dec.{ltb}
-use borrow.Author.Tests.{ltb-true, lt-ltb, not-true}
 use Rattle.lists.specs.Every.{Every}
-use Rattle.lists.proofs.EveryLaws.{every-element}
 use Rattle.masks.specs.Mask.{bit, full}
-use Rattle.masks.proofs.BitLaws.{bit-full}
 use Rattle.matching.specs.Matched.{Matched}
-use Rattle.matching.proofs.Counting.{look, and-i, and-r}
+use Rattle.matching.specs.Search.{expansions}
 use Rattle.formula.specs.Format.{Literal, names, ClauseOver}
 use Rattle.formula.specs.Models.{Model}
+use Rattle.formula.specs.Masked.{variables}
 use Rattle.splitting.specs.Nodes.{assign, remaining, named}
-use Rattle.splitting.specs.Stripping.{pure, stripped}
-use Rattle.splitting.specs.Choosing.{variables, trial, first-passing, candidates, among, listed, last, emptied, by-remaining, unassigned-of, choice}
-use Rattle.splitting.proofs.Terms.{Below, NonePure, Sound, Satisfies, Trail, Agrees, opened}
-use Rattle.splitting.proofs.ClauseLaws.{named-by, named-within}
+use Rattle.splitting.specs.Stripping.{stripped}
+use Rattle.splitting.specs.Choosing.{trial, first-passing, candidates, among, listed, last, emptied, unassigned-of, choice}
+use Rattle.splitting.proofs.Terms.{Below, NonePure, Sound, Trail, Agrees, opened}
+use Rattle.splitting.proofs.ClauseLaws.{named-by}
+use Rattle.splitting.proofs.StrippingLaws.{left-sub}
+use Rattle.splitting.proofs.MatchedLaws.{splits}
+use Rattle.splitting.proofs.SoundLaws.{noted-some, last-of, last-named, last-none, emptied-unsatisfied, sound-satisfies}
+use Rattle.splitting.proofs.TrialLaws.{passes-matched, matched-passes, candidates-named, named-candidates, candidates-length}
+use Rattle.splitting.proofs.NodeLaws.{below-remaining}
+use Rattle.splitting.proofs.ModelLaws.{mask, mask-model, model-satisfies}
+use Rattle.splitting.proofs.ChoiceLaws.{chosen-open}
 use Rattle.splitting.proofs.StrippingLaws as stripping
 use Rattle.splitting.proofs.NodeLaws as nodes
 use Rattle.splitting.proofs.MatchedLaws as matchings

@@ -1,39 +1,42 @@
 -- Laws of trails: how many variables they have, and what satisfies the clauses at their nodes.
-use Prim.Native.Nat.{ℕ, zero, suc, _+_, _≤_, _<_}
-use mathlib.Core.Path.{_≡_, refl, sym, _∙_, ap, subst}
-use mathlib.Core.Bool.{Bool, true, false, not, _&&_, _||_}
-use mathlib.Core.List.{List, [], _∷_, List·Memᴰ, List·Memᴰ·head}
-use mathlib.Core.Logic.{_⊎_, inl, inr, ⊎-elim}
+use Prim.Native.Nat.{ℕ, _<_}
+use mathlib.Core.Path.{_≡_, refl, sym, _∙_}
+use mathlib.Core.Bool.{true, false}
+use mathlib.Core.List.{List, [], _∷_}
+use mathlib.Core.Logic.{⊎-elim}
 use native.Mathlib.Omega.{arith}
 use lib.ListN.{length}
 use lib.Dec.{eqb}
-use borrow.Author.Tests.{eqb-true, eq-eqb, not-true}
+use borrow.Author.Tests.{eqb-true, eq-eqb}
 use Rattle.lists.proofs.SublistLaws.{no-elements}
-use Rattle.matching.proofs.Counting.{look, clash, and-l, and-r, or-e, or-l, or-r, count, count-except, except, except-i, except-of, except-ne}
-use Rattle.formula.specs.Format.{Literal, names, names-as, distinct, ClauseOver}
-use Rattle.splitting.specs.Nodes.{remaining, named}
-use Rattle.splitting.proofs.Terms.{Below, Sound, Satisfies, Trail}
-use Rattle.splitting.proofs.ClauseLaws.{names-of, named-by}
-use Rattle.splitting.proofs.CountLaws.{count-sub, count-missing, count-full, count-none}
+use Rattle.lists.proofs.TestLaws.{or-cases}
+use Rattle.matching.proofs.Counting.{clash, or-l, or-r, count, count-except, except, except-i, except-ne}
+use Rattle.formula.specs.Format.{Literal, names}
+use Rattle.formula.proofs.ClauseLaws.{named-as}
+use Rattle.formula.proofs.FormatLaws.{distinct-rest}
+use Rattle.splitting.specs.Nodes.{remaining, less}
+use Rattle.splitting.proofs.Terms.{Below, Sound, Trail}
+use Rattle.splitting.proofs.ClauseLaws.{named-by}
+use Rattle.splitting.proofs.CountLaws.{except-of, count-sub, count-missing, count-full, count-none}
 use Rattle.splitting.proofs.NodeLaws.{named-remaining, below-remaining}
 use Rattle.splitting.proofs.SoundLaws.{sound-satisfies}
 
 -- a trail has as many variables as literals
 pub trail-count : (n : ℕ) (t : List Literal) → Trail n t → count (names t) n ≡ length t
-unfolding names distinct
+unfolding names
 trail-count n [] T = count-none (names []) n (λ i. refl)
 trail-count n (l ∷ t) T =
     let x = l .variable in
-    let off : names t x ≡ false = not-true (names t x) (and-l (not (names t x)) (distinct t) (T .once)) in
+    let r = distinct-rest l t (T .once) in
     let here = or-l (eqb x x) (names t x) (eq-eqb x x refl) in
-    let rest = trail-count n t (record { below = T .below .1; once = and-r (not (names t x)) (distinct t) (T .once) }) in
+    let rest = trail-count n t (record { below = T .below .1; once = r .1 }) in
     let less = count-sub (except (names (l ∷ t)) x) (names t) n (λ i h.
     ⊎-elim
     (λ e. absurd (except-ne (names (l ∷ t)) x i h (sym (eqb-true x i e))))
     (λ k. k)
-    (or-e (eqb x i) (names t i) (except-of (names (l ∷ t)) x i h))) in
+    (or-cases (eqb x i) (names t i) (except-of (names (l ∷ t)) x i h))) in
     let more = count-sub (names t) (except (names (l ∷ t)) x) n (λ i h.
-    except-i (names (l ∷ t)) x i (or-r (eqb x i) (names t i) h) (λ e. clash h (rw e off))) in
+    except-i (names (l ∷ t)) x i (or-r (eqb x i) (names t i) h) (λ e. clash h (rw e (r .0)))) in
     omega (arith, rest, less, more, count-except (names (l ∷ t)) x n (T .below .0) here)
 
 -- a trail of fewer than n variables lacks one
@@ -50,5 +53,5 @@ full-none n t cs low T h S =
     let w = sound-satisfies n (remaining t cs) S in
     no-elements (remaining t cs) (λ c m.
     let x = w .1 c m in
-    let nm = named-by (remaining t cs) c (x .0) m (names-of c (x .0) (w .0 (x .0)) (x .1)) in
+    let nm = named-by (remaining t cs) c (x .0) m (named-as c (x .0) (w .0 (x .0)) (x .1)) in
     clash (trail-full n t T h (x .0) (below-remaining n t cs low (x .0) nm)) (named-remaining t cs (x .0) nm .1))

@@ -1,26 +1,30 @@
 -- Laws of trials: what they decide and what they cost, and the first candidate that passes.
-use Prim.Native.Nat.{ℕ, zero, suc, _+_, _*_, _≤_, _<_, _^_}
-use mathlib.Core.Path.{_≡_, refl, sym, _∙_, ap, subst}
-use mathlib.Core.Bool.{Bool, true, false, not, _&&_, _||_}
-use mathlib.Core.List.{List, [], _∷_, map, List·Memᴰ}
-use mathlib.Core.Logic.{_⊎_, inl, inr, ⊎-elim}
-use native.Mathlib.Nat.{suc-mul, mul-le-mul, mul-le-mul-right}
+use Prim.Native.Nat.{ℕ, suc, _+_, _*_, _≤_, _<_}
+use mathlib.Core.Path.{_≡_, refl, sym, subst}
+use mathlib.Core.Bool.{Bool, true, false}
+use mathlib.Core.List.{List, [], _∷_, map}
+use mathlib.Core.Logic.{⊎-elim}
+use native.Mathlib.Nat.{suc-mul, mul-le-mul}
 use native.Mathlib.Omega.{arith}
 use lib.ListN.{length, getD, length-map}
 use Rattle.lists.proofs.SublistLaws.{getD-element}
-use Rattle.matching.specs.Matched.{Matches, Matched, Words}
-use Rattle.matching.specs.Search.{Outcome, success, failure, outcome}
-use Rattle.matching.proofs.Counting.{look, clash}
-use Rattle.matching.proofs.Theorems.{success-matches, matched-success, success-cost, failure-cost}
-use Rattle.formula.specs.Format.{Literal, names}
+use Rattle.lists.proofs.EveryLaws.{every-of}
+use Rattle.matching.specs.Matched.{Matched, Words}
+use Rattle.matching.specs.Search.{succeeds, expansions}
+use Rattle.matching.proofs.Counting.{clash}
+use Rattle.matching.proofs.Theorems.{outcome-cost}
+use Rattle.formula.specs.Format.{Literal}
+use Rattle.formula.specs.Masked.{variables}
+use Rattle.formula.proofs.ClauseLaws.{variables-lt, named-as}
 use Rattle.splitting.specs.declared.Choice.{Choice}
 use Rattle.splitting.specs.Nodes.{assign, named}
-use Rattle.splitting.specs.Choosing.{variables, matched, succeeds, expansions-of, Trial, trial, both-open, first-passing, candidates, among}
+use Rattle.splitting.specs.Choosing.{matched, Trial, trial, both-open, first-passing, candidates, among}
 use Rattle.splitting.proofs.Terms.{Below}
-use Rattle.splitting.proofs.ClauseLaws.{variables-lt, named-by}
+use Rattle.splitting.proofs.ClauseLaws.{named-by, literal-names}
 use Rattle.splitting.proofs.SearchLaws.{among-here, among-more, among-cases, among-none, upward-of, upward-in, upward-length}
 use Rattle.splitting.proofs.NodeLaws.{below-assign, length-assign}
 use Rattle.splitting.proofs.MatchedLaws.{variables-at}
+use Rattle.matching.proofs.Theorems as theorems
 
 -- ── One matching ──────────────────────────────────────────────────────────────────────────────────────────────────────
 
@@ -28,30 +32,29 @@ use Rattle.splitting.proofs.MatchedLaws.{variables-at}
 words : (n : ℕ) (cs : List (List Literal)) → n ≤ 64 → Below n cs → Words (map variables cs)
 words n cs fits low i h =
     let k = length-map cs variables in
-    rw (variables-at cs i) (variables-lt 64 (getD cs i []) (λ v t. let l = low v (named-by cs (getD cs i []) v (getD-element cs i [] (omega arith)) t) in omega arith))
+    let c = getD cs i [] in
+    rw (variables-at cs i)
+    (variables-lt 64 c (every-of (λ (l : Literal). l .variable < 64) c (λ l m.
+    let b = low (l .variable) (named-by cs c (l .variable) (getD-element cs i [] (omega arith)) (named-as c (l .variable) (l .positive) (literal-names c l m))) in
+    omega arith)))
 
-pub succeeds-matched : (n : ℕ) (cs : List (List Literal)) → n ≤ 64 → Below n cs → succeeds (matched cs) ≡ true → Matched (map variables cs)
+-- a matching is found exactly where there is one
+succeeds-matched : (n : ℕ) (cs : List (List Literal)) → n ≤ 64 → Below n cs → succeeds (matched cs) ≡ true → Matched (map variables cs)
 unfolding matched
-succeeds-matched n cs fits low = go (outcome (map variables cs)) refl
-  where
-    go : (o : Outcome) → outcome (map variables cs) ≡ o → succeeds o ≡ true → Matched (map variables cs)
-    go (success vs e) q t = (vs, success-matches (map variables cs) vs e (words n cs fits low) q)
-    go (failure taken e) q t = clash t refl
+succeeds-matched n cs fits low t = theorems.succeeds-matched (map variables cs) (words n cs fits low) t
 
-pub matched-succeeds : (n : ℕ) (cs : List (List Literal)) → n ≤ 64 → Below n cs → Matched (map variables cs) → succeeds (matched cs) ≡ true
+matched-succeeds : (n : ℕ) (cs : List (List Literal)) → n ≤ 64 → Below n cs → Matched (map variables cs) → succeeds (matched cs) ≡ true
 unfolding matched
-matched-succeeds n cs fits low M = let w = matched-success (map variables cs) (words n cs fits low) M in ap succeeds (w .2)
+matched-succeeds n cs fits low M = theorems.matched-succeeds (map variables cs) (words n cs fits low) M
 
 -- twice the expansions are at most m (m + 1)
-pub matched-cost : (n m : ℕ) (cs : List (List Literal)) → n ≤ 64 → Below n cs → length cs ≤ m → 2 * expansions-of (matched cs) ≤ m * suc m
+matched-cost : (n m : ℕ) (cs : List (List Literal)) → n ≤ 64 → Below n cs → length cs ≤ m → 2 * expansions (matched cs) ≤ m * suc m
 unfolding matched
-matched-cost n m cs fits low few = go (outcome (map variables cs)) refl
-  where
-    k : length (map variables cs) * (length (map variables cs) + 1) ≤ m * suc m
-    k = let h = length-map cs variables in mul-le-mul (omega arith) (omega arith)
-    go : (o : Outcome) → outcome (map variables cs) ≡ o → 2 * expansions-of o ≤ m * suc m
-    go (success vs e) q = let c = success-cost (map variables cs) vs e (words n cs fits low) q in omega (arith, k, c)
-    go (failure taken e) q = let c = failure-cost (map variables cs) taken e (words n cs fits low) q in omega (arith, k, c)
+matched-cost n m cs fits low few =
+    let h = length-map cs variables in
+    let k : length (map variables cs) * (length (map variables cs) + 1) ≤ m * suc m = mul-le-mul (omega arith) (omega arith) in
+    let c = theorems.outcome-cost (map variables cs) (words n cs fits low) in
+    omega arith
 
 -- ── One trial ─────────────────────────────────────────────────────────────────────────────────────────────────────────
 
@@ -61,9 +64,9 @@ tried cs v s =
     elim s [
       true ↦ record {
         passes = succeeds (matched (assign v true cs));
-        cost = expansions-of (matched (assign v false cs)) + expansions-of (matched (assign v true cs));
+        cost = expansions (matched (assign v false cs)) + expansions (matched (assign v true cs));
       }
-    | false ↦ record { passes = false; cost = expansions-of (matched (assign v false cs)) }
+    | false ↦ record { passes = false; cost = expansions (matched (assign v false cs)) }
     ]
 
 -- a trial that passes leaves the clauses matched for both values
@@ -93,7 +96,7 @@ pub trial-cost : (n m : ℕ) (cs : List (List Literal)) (v : ℕ) → n ≤ 64 �
 unfolding trial
 trial-cost n m cs v fits low few = go (succeeds (matched (assign v false cs)))
   where
-    each : (b : Bool) → 2 * expansions-of (matched (assign v b cs)) ≤ m * suc m
+    each : (b : Bool) → 2 * expansions (matched (assign v b cs)) ≤ m * suc m
     each b = matched-cost n m (assign v b cs) fits (below-assign n v b cs low) (let l = length-assign v b cs in omega arith)
     go : (s : Bool) → tried cs v s .cost ≤ m * suc m
     go true = omega (arith, each false, each true)

@@ -3,31 +3,19 @@ use Prim.Native.Nat.{ℕ, _+_}
 use mathlib.Core.Bool.{Bool, true, false, not, cond, _&&_, _||_}
 use mathlib.Core.List.{List, [], _∷_, _++_, map}
 use lib.Dec.{eqb}
-use Rattle.masks.specs.Mask.{bit, with}
-use Rattle.matching.specs.Search.{Outcome, success, failure, outcome}
+use Rattle.masks.specs.Mask.{bit}
+use Rattle.matching.specs.Search.{Outcome, outcome, succeeds, expansions}
 use Rattle.formula.specs.Format.{Literal, names}
+use Rattle.formula.specs.Masked.{variables}
 use Rattle.splitting.specs.declared.Choice.{Choice}
 use Rattle.splitting.specs.Nodes.{assign, remaining, named, lowest-with, upward}
 use Rattle.splitting.specs.Stripping.{Stripped, stripped}
 
 -- ---- a trial
 
--- the variables that a clause names, as a mask
-unfoldable pub variables : List Literal → ℕ
-variables [] = 0
-variables (l ∷ c) = with (variables c) (l .variable)
-
 -- the clauses are matched (01: paired) from nothing
 unfoldable pub matched : List (List Literal) → Outcome
 matched cs = outcome (map variables cs)
-
-abbrev pub succeeds : Outcome → Bool
-succeeds (success v e) = true
-succeeds (failure m e) = false
-
-abbrev pub expansions-of : Outcome → ℕ
-expansions-of (success v e) = e
-expansions-of (failure m e) = e
 
 -- both succeed, and the expansions of what was tried
 pub record Trial : Type 0 where
@@ -40,9 +28,9 @@ trial cs v =
     elim (succeeds (matched (assign v false cs))) [
       true ↦ record {
         passes = succeeds (matched (assign v true cs));
-        cost = expansions-of (matched (assign v false cs)) + expansions-of (matched (assign v true cs));
+        cost = expansions (matched (assign v false cs)) + expansions (matched (assign v true cs));
       }
-    | false ↦ record { passes = false; cost = expansions-of (matched (assign v false cs)) }
+    | false ↦ record { passes = false; cost = expansions (matched (assign v false cs)) }
     ]
 
 -- ---- the choice

@@ -9,9 +9,6 @@ use Rattle.formula.proofs.CheckLaws.{clauses-hold-more, clauses-hold-fa
 use borrow.Author.Needs.{needs}
 use Rattle.formula.proofs.all_hold.Statement.{statement}
 use Rattle.formula.proofs.all_hold.Tie as tie
-use Rattle.formula.proofs.all_hold.Reads as reads
-use Rattle.formula.proofs.all_hold.Lts as lts
-use Rattle.formula.proofs.holds.Reads as holds-reads
 
 abbrev Inv-loop : tie.InvT-loop
 Inv-loop assignment f i₀ i = (i ≤ f .count) × (clauses-hold assignment (f .clauses) i ≡ true)
@@ -19,40 +16,31 @@ Inv-loop assignment f i₀ i = (i ≤ f .count) × (clauses-hold assignment (f .
 abbrev μ-loop : tie.MeasureT-loop
 μ-loop assignment f i₀ i = f .count - i
 
--- src/lib.rt:354:5
 loop-holds : tie.Need-loop-holds Inv-loop μ-loop
 unfolding clauses-hold
 loop-holds c = (search needs, refl)
 
--- src/lib.rt:355:19
 mul-holds : tie.Need-mul-holds Inv-loop μ-loop
 mul-holds c = search needs
 
--- src/lib.rt:355:19
 element-copy-out-holds : tie.Need-element-copy-out-holds Inv-loop μ-loop
 element-copy-out-holds c = search needs
 
--- src/lib.rt:355:13
 holds-requires : tie.Need-holds-requires Inv-loop μ-loop
 holds-requires c κs = search needs
 
--- src/lib.rt:356:13
 returns : tie.Need-returns Inv-loop μ-loop
 returns c = sym (clauses-hold-fails _ _ (c .before .before .before .before .loop .i) _ (c .before .before .before .loop-test .taken) (sym (c .before .holds .ensures) ∙ not-true _ (c .if1 .taken)))
 
--- src/lib.rt:358:9
 add-i : tie.Need-add-i Inv-loop μ-loop
 add-i c = search needs
 
--- src/lib.rt:354:5
 loop-less : tie.Need-loop-less Inv-loop μ-loop
 loop-less c = search needs
 
--- src/lib.rt:354:5
 loop-again : tie.Need-loop-again Inv-loop μ-loop
 loop-again c = (search needs, clauses-hold-more _ _ (c .before .before .before .before .loop .i) (c .before .before .before .before .loop .inv .1) (sym (c .before .holds .ensures) ∙ not-false _ (c .if1 .left)))
 
--- src/lib.rt:349:1
 returns-2 : tie.Need-returns-2 Inv-loop μ-loop
 returns-2 c = let e : c .before .loop .i ≡ c .before .before .args .t1 .count = omega arith in sym (rw e at (c .before .loop .inv .1))
 

@@ -1,7 +1,7 @@
 -- `formula::decode` meets its contract. The loop keeps `Reads`: what is left to read gives what the whole gives.
 use borrow.Author.Needs.{needs}
 use native.Mathlib.Omega.{arith}
-use mathlib.Core.Path.{_≡_, sym, ap, _∙_}
+use mathlib.Core.Path.{sym, ap, _∙_}
 use Prim.Native.Nat.{_-_}
 use lib.ListN.{length}
 use Rattle.formula.specs.InnerReader.{Reads}
@@ -9,12 +9,6 @@ use Rattle.formula.specs.Masked.{held, decoded}
 use Rattle.formula.proofs.ReaderLaws.{reads-start, whole, Turn, turn-next, turn-finished, turn-stopped}
 use Rattle.formula.proofs.decode.Statement.{statement}
 use Rattle.formula.proofs.decode.Tie as tie
-use Rattle.formula.proofs.decode.Reads as reads
-use Rattle.formula.proofs.decode.Lts as lts
-use Rattle.formula.proofs.empty_clause.Reads as empty-clause-reads
-use Rattle.formula.proofs.no_clauses.Reads as no-clauses-reads
-use Rattle.formula.proofs.read_record.Reads as read-record-reads
-use Rattle.formula.proofs.refuse.Reads as refuse-reads
 
 abbrev Inv-loop : tie.InvT-loop
 Inv-loop input clauses₀ reader₀ clauses reader = Reads input reader clauses
@@ -26,68 +20,52 @@ abbrev μ-loop : tie.MeasureT-loop
 turn : (c : tie.After-after Inv-loop μ-loop) → Turn (c .before .before .before .before .before .before .before .args .input .now) (c .before .before .before .loop .reader) (c .before .before .before .loop .clauses) (c .after .given .0 .0)
 turn c = turn-next (whole _ _ _ (c .before .before .before .loop .inv)) (sym (c .before .before .read-record .ensures) ∙ c .after .given .1)
 
--- src/lib.rt:266:23
 no-clauses-requires : tie.Need-no-clauses-requires Inv-loop μ-loop
 no-clauses-requires c κs = search needs
 
--- src/lib.rt:271:18
 empty-clause-requires : tie.Need-empty-clause-requires Inv-loop μ-loop
 empty-clause-requires c κs = search needs
 
--- src/lib.rt:273:5
 loop-holds : tie.Need-loop-holds Inv-loop μ-loop
 loop-holds c = rw (c .before .no-clauses .ensures, c .empty-clause .ensures) (reads-start (c .before .before .before .args .input .now))
 
--- src/lib.rt:274:15
 read-record-requires : tie.Need-read-record-requires Inv-loop μ-loop
 read-record-requires c κs = rw (c .loop .inv .is) (c .loop .inv .small)
 
--- src/lib.rt:275:25
 enum-known-after : tie.Need-enum-known-after Inv-loop μ-loop
 enum-known-after c = search needs
 
--- src/lib.rt:279:21
 mul-clauses : tie.Need-mul-clauses Inv-loop μ-loop
 mul-clauses c = omega (arith, turn (c .before .before .before .before .before) .stored (c .before .if1 .taken) .0)
 
--- src/lib.rt:279:21
 array-set-from-clauses : tie.Need-array-set-from-clauses Inv-loop μ-loop
 array-set-from-clauses c = turn (c .before .before .before .before .before) .stored (c .before .if1 .taken) .0
 
--- src/lib.rt:273:5
 loop-less : tie.Need-loop-less Inv-loop μ-loop
 loop-less c = omega (arith, turn (c .before .before .before .before .before))
 
--- src/lib.rt:273:5
 loop-again : tie.Need-loop-again Inv-loop μ-loop
 loop-again c = turn (c .before .before .before .before .before) .stored (c .before .if1 .taken) .1
 
--- src/lib.rt:273:5
 loop-less-2 : tie.Need-loop-less-2 Inv-loop μ-loop
 loop-less-2 c = omega (arith, turn (c .before .before .before .before))
 
--- src/lib.rt:273:5
 loop-again-2 : tie.Need-loop-again-2 Inv-loop μ-loop
 loop-again-2 c = turn (c .before .before .before .before) .kept (c .if1 .left)
 
--- src/lib.rt:287:21
 enum-told : tie.Need-enum-told Inv-loop μ-loop
 enum-told c = search needs
 
--- src/lib.rt:289:17
 returns : tie.Need-returns Inv-loop μ-loop
 unfolding decoded
 returns c = sym (turn-finished (whole _ _ _ (c .before .before .before .loop .inv)) (sym (c .before .before .read-record .ensures) ∙ c .enum-told .given .1))
 
--- src/lib.rt:294:28
 enum-known-refusal : tie.Need-enum-known-refusal Inv-loop μ-loop
 enum-known-refusal c = search needs
 
--- src/lib.rt:295:17
 refuse-requires : tie.Need-refuse-requires Inv-loop μ-loop
 refuse-requires c κs = search needs
 
--- src/lib.rt:295:17
 returns-2 : tie.Need-returns-2 Inv-loop μ-loop
 unfolding decoded
 returns-2 c = c .refuse .ensures ∙ ap held (sym (turn-stopped (whole _ _ _ (c .before .before .before .before .before .loop .inv)) (sym (c .before .before .before .before .read-record .ensures) ∙ c .before .before .refusal .given .1)))

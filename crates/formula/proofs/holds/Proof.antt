@@ -3,24 +3,16 @@ use mathlib.Core.Path.{sym, _∙_}
 use borrow.Author.Needs.{needs}
 use Rattle.formula.proofs.holds.Statement.{statement}
 use Rattle.formula.proofs.holds.Tie as tie
-use Rattle.formula.proofs.holds.Reads as reads
-use Rattle.formula.proofs.holds.Lts as lts
-use Rattle.masks.proofs.meets.Reads as meets-reads
-use Rattle.masks.proofs.minus.Reads as minus-reads
 
--- src/lib.rt:345:5
 meets-requires : tie.Need-meets-requires
 meets-requires c κs = search needs
 
--- src/lib.rt:345:45
 minus-requires : tie.Need-minus-requires
 minus-requires c κs = search needs
 
--- src/lib.rt:342:1
 returns : tie.Need-returns
 returns c = c .if1 .taken ∙ rw (sym (c .before .meets .ensures) ∙ c .if1 .taken)
 
--- src/lib.rt:342:1
 returns-2 : tie.Need-returns-2
 returns-2 c = rw (sym (c .before .before .meets .ensures) ∙ c .before .if1 .left, c .minus .ensures)
 

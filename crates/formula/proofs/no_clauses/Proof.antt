@@ -3,10 +3,7 @@ use mathlib.Core.Path.{refl}
 use Rattle.lists.specs.Padded.{padded}
 use Rattle.formula.proofs.no_clauses.Statement.{statement}
 use Rattle.formula.proofs.no_clauses.Tie as tie
-use Rattle.formula.proofs.no_clauses.Reads as reads
-use Rattle.formula.proofs.no_clauses.Lts as lts
 
--- src/lib.rt:92:1
 returns : tie.Need-returns
 unfolding padded
 returns c = refl

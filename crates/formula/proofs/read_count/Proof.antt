@@ -5,51 +5,38 @@ use Rattle.formula.proofs.OneTo.{one-to-zero, one-to-above, one-to-with
 use borrow.Author.Needs.{needs}
 use Rattle.formula.proofs.read_count.Statement.{statement}
 use Rattle.formula.proofs.read_count.Tie as tie
-use Rattle.formula.proofs.read_count.Reads as reads
-use Rattle.formula.proofs.read_count.Lts as lts
-use Rattle.formula.proofs.wide.Reads as wide-reads
 
--- src/lib.rt:126:9
 returns : tie.Need-returns
 unfolding count-event
 returns c = simp (ne-eqb _ _ (c .if1 .taken))
 
--- src/lib.rt:128:23
 add-if2 : tie.Need-add-if2
 add-if2 c = search needs
 
--- src/lib.rt:129:9
 returns-2 : tie.Need-returns-2
 unfolding count-event
 returns-2 c = simp (eq-eqb _ _ (c .before .if1 .left), le-ltb _ _ (c .if2 .taken))
 
--- src/lib.rt:131:24
 add-wide : tie.Need-add-wide
 add-wide c = search needs
 
--- src/lib.rt:131:18
 shared-slice-read-wide : tie.Need-shared-slice-read-wide
 shared-slice-read-wide c = search needs
 
--- src/lib.rt:131:9
 wide-requires : tie.Need-wide-requires
 wide-requires c κs = search needs
 
--- src/lib.rt:133:9
 returns-3 : tie.Need-returns-3
 unfolding count-event
 returns-3 c = simp (eq-eqb _ _ (c .before .before .before .before .if1 .left), lt-ltb _ _ (c .before .before .before .if2 .left), one-to-zero 48 _ _ (c .before .wide .ensures) (c .if3 .taken))
 
--- src/lib.rt:136:9
 returns-4 : tie.Need-returns-4
 unfolding count-event
 returns-4 c = simp (eq-eqb _ _ (c .before .before .before .before .before .if1 .left), lt-ltb _ _ (c .before .before .before .before .if2 .left), one-to-above 48 _ _ (c .before .before .wide .ensures) (c .if4 .taken))
 
--- src/lib.rt:140:13
 add-t9 : tie.Need-add-t9
 add-t9 c = search needs
 
--- src/lib.rt:120:1
 returns-5 : tie.Need-returns-5
 unfolding count-event
 returns-5 c = simp (eq-eqb _ _ (c .before .before .before .before .before .before .if1 .left), lt-ltb _ _ (c .before .before .before .before .before .if2 .left), one-to-within 48 _ _ (c .before .before .before .wide .ensures) (c .before .before .if3 .left) (c .before .if4 .left), c .before .before .before .wide .ensures)

@@ -4,33 +4,25 @@ use Rattle.formula.specs.InnerReader.{finish-event}
 use borrow.Author.Needs.{needs}
 use Rattle.formula.proofs.read_finish.Statement.{statement}
 use Rattle.formula.proofs.read_finish.Tie as tie
-use Rattle.formula.proofs.read_finish.Reads as reads
-use Rattle.formula.proofs.read_finish.Lts as lts
 
--- src/lib.rt:213:9
 returns : tie.Need-returns
 unfolding finish-event
 returns c = simp (eq-eqb _ _ (c .if1 .taken))
 
--- src/lib.rt:217:9
 returns-2 : tie.Need-returns-2
 unfolding finish-event
 returns-2 c = simp (ne-eqb _ _ (c .before .before .before .if1 .left), ne-eqb _ _ (c .if2 .taken))
 
--- src/lib.rt:219:8
 add-if3 : tie.Need-add-if3
 add-if3 c = search needs
 
--- src/lib.rt:220:53
 add-t11 : tie.Need-add-t11
 add-t11 c = search needs
 
--- src/lib.rt:220:9
 returns-3 : tie.Need-returns-3
 unfolding finish-event
 returns-3 c = simp (ne-eqb _ _ (c .before .before .before .before .if1 .left), eq-eqb _ _ (c .before .if2 .left), lt-ltb _ _ (c .if3 .taken))
 
--- src/lib.rt:207:1
 returns-4 : tie.Need-returns-4
 unfolding finish-event
 returns-4 c = simp (ne-eqb _ _ (c .before .before .before .before .if1 .left), eq-eqb _ _ (c .before .if2 .left), le-ltb _ _ (c .if3 .left))

@@ -6,56 +6,41 @@ use Rattle.formula.proofs.OneTo.{one-to-zero, one-to-above, one-to-with
 use borrow.Author.Needs.{needs}
 use Rattle.formula.proofs.read_literal.Statement.{statement}
 use Rattle.formula.proofs.read_literal.Tie as tie
-use Rattle.formula.proofs.read_literal.Reads as reads
-use Rattle.formula.proofs.read_literal.Lts as lts
-use Rattle.formula.proofs.read_variable.Reads as read-variable-reads
-use Rattle.formula.proofs.wide.Reads as wide-reads
 
--- src/lib.rt:171:9
 returns : tie.Need-returns
 unfolding literal-event
 returns c = simp (eq-eqb _ _ (c .if1 .taken))
 
--- src/lib.rt:173:23
 add-if2 : tie.Need-add-if2
 add-if2 c = search needs
 
--- src/lib.rt:174:9
 returns-2 : tie.Need-returns-2
 unfolding literal-event
 returns-2 c = simp (ne-eqb _ _ (c .before .if1 .left), le-ltb _ _ (c .if2 .taken))
 
--- src/lib.rt:176:24
 add-wide : tie.Need-add-wide
 add-wide c = search needs
 
--- src/lib.rt:176:18
 shared-slice-read-wide : tie.Need-shared-slice-read-wide
 shared-slice-read-wide c = search needs
 
--- src/lib.rt:176:9
 wide-requires : tie.Need-wide-requires
 wide-requires c κs = search needs
 
--- src/lib.rt:178:9
 returns-3 : tie.Need-returns-3
 unfolding literal-event
 returns-3 c = simp (ne-eqb _ _ (c .before .before .before .before .if1 .left), lt-ltb _ _ (c .before .before .before .if2 .left), one-to-zero (c .before .before .before .before .before .before .args .r .variables) _ _ (c .before .wide .ensures) (c .if3 .taken))
 
--- src/lib.rt:181:9
 returns-4 : tie.Need-returns-4
 unfolding literal-event
 returns-4 c = simp (ne-eqb _ _ (c .before .before .before .before .before .before .if1 .left), lt-ltb _ _ (c .before .before .before .before .before .if2 .left), one-to-above (c .before .before .before .before .before .before .before .before .args .r .variables) _ _ (c .before .before .before .wide .ensures) (c .if4 .taken))
 
--- src/lib.rt:183:22
 sub-read-variable : tie.Need-sub-read-variable
 sub-read-variable c = search needs
 
--- src/lib.rt:183:5
 read-variable-requires : tie.Need-read-variable-requires
 read-variable-requires c κs = search needs
 
--- src/lib.rt:165:1
 returns-5 : tie.Need-returns-5
 unfolding literal-event
 returns-5 c = c .read-variable .ensures ∙ simp (ne-eqb _ _ (c .before .before .before .before .before .before .before .if1 .left), lt-ltb _ _ (c .before .before .before .before .before .before .if2 .left), one-to-within (c .before .before .before .before .before .before .before .before .before .args .r .variables) _ _ (c .before .before .before .before .wide .ensures) (c .before .before .before .if3 .left) (c .before .if4 .left), c .before .before .before .before .wide .ensures)

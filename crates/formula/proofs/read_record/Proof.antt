@@ -6,73 +6,53 @@ use Rattle.formula.proofs.KindLaws.{kind-of-other}
 use borrow.Author.Needs.{needs}
 use Rattle.formula.proofs.read_record.Statement.{statement}
 use Rattle.formula.proofs.read_record.Tie as tie
-use Rattle.formula.proofs.read_record.Reads as reads
-use Rattle.formula.proofs.read_record.Lts as lts
-use Rattle.formula.proofs.read_count.Reads as read-count-reads
-use Rattle.formula.proofs.read_end.Reads as read-end-reads
-use Rattle.formula.proofs.read_finish.Reads as read-finish-reads
-use Rattle.formula.proofs.read_literal.Reads as read-literal-reads
 
--- src/lib.rt:232:9
 returns : tie.Need-returns
 unfolding record-event
 returns c = simp (le-ltb _ _ (c .if1 .taken))
 
--- src/lib.rt:234:16
 shared-slice-read-kind : tie.Need-shared-slice-read-kind
 shared-slice-read-kind c = search needs
 
--- src/lib.rt:236:14
 read-count-requires : tie.Need-read-count-requires
 read-count-requires c κs = search needs
 
--- src/lib.rt:237:14
 read-literal-requires : tie.Need-read-literal-requires
 read-literal-requires c κs = search needs
 
--- src/lib.rt:238:14
 read-literal-requires-2 : tie.Need-read-literal-requires-2
 read-literal-requires-2 c κs = search needs
 
--- src/lib.rt:239:14
 read-end-requires : tie.Need-read-end-requires
 read-end-requires c κs = search needs
 
--- src/lib.rt:240:14
 read-finish-requires : tie.Need-read-finish-requires
 read-finish-requires c κs = search needs
 
--- src/lib.rt:226:1
 returns-2 : tie.Need-returns-2
 unfolding record-event
 returns-2 c = c .read-count .ensures ∙ simp (lt-ltb _ _ (c .before .before .before .if1 .left), c .before .match .keys1)
 
--- src/lib.rt:226:1
 returns-3 : tie.Need-returns-3
 unfolding record-event
 returns-3 c = c .read-literal .ensures ∙ simp (lt-ltb _ _ (c .before .before .before .if1 .left), c .before .match .keys2)
 
--- src/lib.rt:226:1
 returns-4 : tie.Need-returns-4
 unfolding record-event
 returns-4 c = c .read-literal2 .ensures ∙ simp (lt-ltb _ _ (c .before .before .before .if1 .left), c .before .match .keys3)
 
--- src/lib.rt:226:1
 returns-5 : tie.Need-returns-5
 unfolding record-event
 returns-5 c = c .read-end .ensures ∙ simp (lt-ltb _ _ (c .before .before .before .if1 .left), c .before .match .keys4)
 
--- src/lib.rt:226:1
 returns-6 : tie.Need-returns-6
 unfolding record-event
 returns-6 c = c .read-finish .ensures ∙ simp (lt-ltb _ _ (c .before .before .before .if1 .left), c .before .match .keys5)
 
--- src/lib.rt:226:1
 returns-7 : tie.Need-returns-7
 unfolding record-event
 returns-7 c = simp (lt-ltb _ _ (c .before .before .if1 .left), c .match .keys6)
 
--- src/lib.rt:226:1
 returns-8 : tie.Need-returns-8
 unfolding record-event
 returns-8 c = let r = c .match .rest in simp (lt-ltb _ _ (c .before .before .if1 .left), kind-of-other _ (r .0 .0 .0 .0 .0 .1) (r .0 .0 .0 .0 .1) (r .0 .0 .0 .1) (r .0 .0 .1) (r .0 .1))

@@ -4,29 +4,20 @@ use Rattle.formula.specs.InnerReader.{variable-event}
 use borrow.Author.Needs.{needs}
 use Rattle.formula.proofs.read_variable.Statement.{statement}
 use Rattle.formula.proofs.read_variable.Tie as tie
-use Rattle.formula.proofs.read_variable.Reads as reads
-use Rattle.formula.proofs.read_variable.Lts as lts
-use Rattle.formula.proofs.add_literal.Reads as add-literal-reads
-use Rattle.masks.proofs.member.Reads as member-reads
 
--- src/lib.rt:153:8
 member-requires : tie.Need-member-requires
 member-requires c κs = search needs
 
--- src/lib.rt:154:9
 returns : tie.Need-returns
 unfolding variable-event
 returns c = simp (sym (c .before .member .ensures) ∙ c .if1 .taken)
 
--- src/lib.rt:157:13
 add-t8 : tie.Need-add-t8
 add-t8 c = search needs
 
--- src/lib.rt:160:18
 add-literal-requires : tie.Need-add-literal-requires
 add-literal-requires c κs = search needs
 
--- src/lib.rt:148:1
 returns-2 : tie.Need-returns-2
 unfolding variable-event
 returns-2 c = simp (sym (c .before .before .before .member .ensures) ∙ c .before .before .if1 .left, c .add-literal .ensures)

@@ -1,0 +1,20 @@
+-- Laws of `agrees`: from the answers that were compared.
+use Prim.Native.Nat.{ℕ, _-_}
+use mathlib.Core.List.{List}
+use mathlib.Core.Path.{_≡_}
+use lib.ListN.{take, drop}
+use Rattle.formula.specs.Check.{checked}
+use Rattle.formula.specs.Check.{Answer as Values}
+use Rattle.cases.specs.declared.answers.Answer.{Answer}
+use Rattle.cases.specs.declared.corpus.Vector.{Vector}
+use Rattle.cases.specs.Answers.{written, expected, same, agrees}
+use Rattle.cases.specs.Corpus.{eight-bytes}
+
+pub compared :
+    (s : List ℕ) (v : Vector) (wanted got : Answer) (values : Values) (assignment : ℕ) →
+    wanted ≡ expected s (v .end) →
+    got ≡ written values →
+    values ≡ checked (take (v .end - v .start) (drop (v .start) s)) assignment →
+    assignment ≡ eight-bytes s (v .end) → same wanted got ≡ agrees s v
+unfolding agrees
+compared s v wanted got values assignment w g e a = rw (w, g, e, a)

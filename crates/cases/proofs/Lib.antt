@@ -1,0 +1,4 @@
+pub mod AgreeLaws
+pub mod FrameLaws
+pub mod RunLaws
+pub mod TotalsLaws

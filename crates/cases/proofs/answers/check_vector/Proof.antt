@@ -1,0 +1,67 @@
+-- `check_vector`: the comparison is that of `agrees`, since each side is what its function ensures.
+use mathlib.Core.Path.{sym, _∙_}
+use Rattle.cases.proofs.AgreeLaws.{compared}
+use borrow.Author.Needs.{needs}
+use Rattle.cases.proofs.answers.check_vector.Statement.{statement}
+use Rattle.cases.proofs.answers.check_vector.Tie as tie
+
+expected-at-requires : tie.Need-expected-at-requires
+expected-at-requires c κs = search needs
+
+sub-check : tie.Need-sub-check
+sub-check c = search needs
+
+part-check-start : tie.Need-part-check-start
+part-check-start c = search needs
+
+part-check-end : tie.Need-part-check-end
+part-check-end c = search needs
+
+eight-bytes-requires : tie.Need-eight-bytes-requires
+eight-bytes-requires c κs = search needs
+
+check-requires : tie.Need-check-requires
+check-requires c κs = search needs
+
+answer-of-requires : tie.Need-answer-of-requires
+answer-of-requires c κs = search needs
+
+equal-requires : tie.Need-equal-requires
+equal-requires c κs = search needs
+
+returns : tie.Need-returns
+returns c =
+    sym (c .if1 .taken) ∙ c .before .equal .ensures
+    ∙ compared _ _ _ _ _ _
+    (c .before .before .before .before .before .before .expected-at .ensures)
+    (c .before .before .answer-of .ensures)
+    (c .before .before .before .check .ensures)
+    (c .before .before .before .before .eight-bytes .ensures)
+
+difference-requires : tie.Need-difference-requires
+difference-requires c κs = search needs
+
+returns-2 : tie.Need-returns-2
+returns-2 c =
+    sym (c .before .if1 .left) ∙ c .before .before .equal .ensures
+    ∙ compared _ _ _ _ _ _
+    (c .before .before .before .before .before .before .before .expected-at .ensures)
+    (c .before .before .before .answer-of .ensures)
+    (c .before .before .before .before .check .ensures)
+    (c .before .before .before .before .before .eight-bytes .ensures)
+
+pub check-vector-spec : {M : Type 1} → statement M
+check-vector-spec =
+    tie.close
+    (tie.spec
+    expected-at-requires
+    sub-check
+    part-check-start
+    part-check-end
+    eight-bytes-requires
+    check-requires
+    answer-of-requires
+    equal-requires
+    returns
+    difference-requires
+    returns-2)

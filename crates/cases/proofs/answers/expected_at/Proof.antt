@@ -1,0 +1,45 @@
+-- `expected_at`: the three fields, each as its reader gives it.
+use borrow.Author.Needs.{needs}
+use Rattle.cases.proofs.answers.expected_at.Statement.{statement}
+use Rattle.cases.proofs.answers.expected_at.Tie as tie
+
+add-wide : tie.Need-add-wide
+add-wide c = search needs
+
+shared-slice-read-wide : tie.Need-shared-slice-read-wide
+shared-slice-read-wide c = search needs
+
+wide-requires : tie.Need-wide-requires
+wide-requires c κs = search needs
+
+add-wide-2 : tie.Need-add-wide-2
+add-wide-2 c = search needs
+
+shared-slice-read-wide-2 : tie.Need-shared-slice-read-wide-2
+shared-slice-read-wide-2 c = search needs
+
+wide-requires-2 : tie.Need-wide-requires-2
+wide-requires-2 c κs = search needs
+
+add-two-bytes : tie.Need-add-two-bytes
+add-two-bytes c = search needs
+
+two-bytes-requires : tie.Need-two-bytes-requires
+two-bytes-requires c κs = search needs
+
+returns : tie.Need-returns
+returns c = rw (c .before .before .before .wide .ensures .0, c .before .wide2 .ensures .0, c .two-bytes .ensures .0)
+
+pub expected-at-spec : {M : Type 1} → statement M
+expected-at-spec =
+    tie.close
+    (tie.spec
+    add-wide
+    shared-slice-read-wide
+    wide-requires
+    add-wide-2
+    shared-slice-read-wide-2
+    wide-requires-2
+    add-two-bytes
+    two-bytes-requires
+    returns)

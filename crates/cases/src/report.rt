@@ -1,0 +1,63 @@
+// The lines that the program prints.
+use crate::answers::Answer;
+use crate::totals::Totals;
+use libc::STDOUT_FILENO;
+
+fn text(t: &[u8]) {
+    io::write_all(STDOUT_FILENO, t);
+}
+
+fn number(n: u64) {
+    io::print_decimal(STDOUT_FILENO, n);
+}
+
+fn says(n: u64) {
+    match n {
+        0 => text(b"no"),
+        1 => text(b"yes"),
+        2 => text(b"refused"),
+        _ => text(b"unknown"),
+    }
+}
+
+fn answer(a: Answer) {
+    says(a.says);
+    text(b" ");
+    number(a.number);
+    text(b" ");
+    number(a.place);
+}
+
+// A vector whose answer is not the expected one.
+pub fn difference(vector: u64, wanted: Answer, got: Answer) {
+    text(b"vector ");
+    number(vector);
+    text(b": expected ");
+    answer(wanted);
+    text(b", got ");
+    answer(got);
+    text(b"\n");
+}
+
+// A file that is not there.
+pub fn unopened(name: &[u8]) {
+    text(name);
+    text(b": not opened\n");
+}
+
+// A file whose vector at an offset runs past its end.
+pub fn broken(name: &[u8], at: usize) {
+    text(name);
+    text(b": broken at ");
+    number(at as u64);
+    text(b"\n");
+}
+
+pub fn summary(name: &[u8], t: Totals) {
+    text(name);
+    text(b": ");
+    number(t.vectors);
+    text(b" vectors, ");
+    number(t.differences);
+    text(b" differences\n");
+}

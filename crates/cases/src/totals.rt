@@ -1,0 +1,46 @@
+// How many vectors were run, and how many answers differed.
+ghost use Prim.Native.Nat.{_+_, _<_, _≤_, _^_};
+ghost use mathlib.Core.Path.{_≡_};
+ghost use Rattle.cases.specs.Totals.{nothing, counted, added};
+
+pub struct Totals {
+    pub vectors: u64,
+    pub differences: u64,
+}
+
+pub fn none() -> Totals
+    ensures { λ r. ⌜ r ≡ nothing ⌝ }
+{
+    Totals {
+        vectors: 0,
+        differences: 0,
+    }
+}
+
+// One vector more, whose answer is the expected one or differs.
+pub fn count(t: Totals, agrees: bool) -> Totals
+    requires { ⌜ (t .vectors + 1 < 2 ^ 64) × (t .differences + 1 < 2 ^ 64) ⌝ }
+    ensures { λ r. ⌜ r ≡ counted t agrees ⌝ }
+{
+    if agrees {
+        Totals {
+            vectors: t.vectors + 1,
+            differences: t.differences,
+        }
+    } else {
+        Totals {
+            vectors: t.vectors + 1,
+            differences: t.differences + 1,
+        }
+    }
+}
+
+pub fn sum(a: Totals, b: Totals) -> Totals
+    requires { ⌜ (a .vectors + b .vectors < 2 ^ 64) × (a .differences + b .differences < 2 ^ 64) ⌝ }
+    ensures { λ r. ⌜ r ≡ added a b ⌝ }
+{
+    Totals {
+        vectors: a.vectors + b.vectors,
+        differences: a.differences + b.differences,
+    }
+}

@@ -1,0 +1,169 @@
+-- The masks of a written clause: what they name, their two sides, and that they fit.
+use Prim.Native.Nat.{ℕ, _^_, _<_}
+use mathlib.Core.Bool.{Bool, true, false, _&&_, _||_, Bool·beq, true≢false, or-assoc, or-comm, or-false, or-true, and-false, and-true}
+use mathlib.Core.List.{List, [], _∷_, _++_}
+use mathlib.Core.Logic.{_⊎_, inl, inr, ⊎-elim}
+use mathlib.Core.Path.{_≡_, refl, sym, ap, _∙_}
+use lib.Bits.{or-lt}
+use lib.Dec.{eqb}
+use lib.Pow.{pow-pos}
+use borrow.Author.Tests.{eqb-true, eq-eqb, ne-eqb}
+use Rattle.lists.specs.Every.{Every}
+use Rattle.lists.proofs.TestLaws.{and-left, and-right, or-cases, or-swap, eqb-comm}
+use Rattle.masks.specs.Mask.{bit}
+use Rattle.masks.proofs.BitLaws.{bit-or, bit-pow, bit-with, bit-none, with-lt, mask-ext}
+use Rattle.masks.proofs.MeetLaws.{apart-of}
+use Rattle.masks.proofs.MembersLaws.{member-some}
+use Rattle.formula.specs.declared.Clause.{Clause}
+use Rattle.formula.specs.Decode.{none-yet}
+use Rattle.formula.specs.Format.{Literal, names, names-as, distinct, ClauseOver}
+use Rattle.formula.specs.Masked.{no-clause, named, with-literal, with-literals, variables, clause-of, side, ClauseFits}
+use Rattle.formula.proofs.FormatLaws.{distinct-rest}
+
+-- ---- what the masks name
+
+-- one literal more at the end
+pub with-literals-last : (c : Clause) (ls : List Literal) (l : Literal)
+    → with-literals c (ls ++ (l ∷ [])) ≡ with-literal (with-literals c ls) (l .variable) (l .positive)
+unfolding with-literals
+with-literals-last c [] l = refl
+with-literals-last c (k ∷ ls) l = with-literals-last (with-literal c (k .variable) (k .positive)) ls l
+
+-- a literal more names its variable and what was named
+pub with-literal-names : (c : Clause) (v : ℕ) (sign : Bool) (i : ℕ) → bit (named (with-literal c v sign)) i ≡ bit (named c) i || eqb i v
+with-literal-names c v true i =
+    simp (bit-or, bit-pow) (or-swap (bit (c .positive) i) (bit (c .negative) i) (eqb i v))
+with-literal-names c v false i =
+    simp (bit-or, bit-pow) (sym (or-assoc (bit (c .positive) i) (bit (c .negative) i) (eqb i v)))
+
+-- the masks name v if they named it before, or a literal does
+with-literals-names : (c : Clause) (ls : List Literal) (v : ℕ) → bit (named (with-literals c ls)) v ≡ bit (named c) v || names ls v
+unfolding with-literals names
+with-literals-names c [] v = sym (or-false (bit (named c) v))
+with-literals-names c (l ∷ ls) v =
+    with-literals-names (with-literal c (l .variable) (l .positive)) ls v
+    ∙ ap (λ (b : Bool). b || names ls v)
+    (with-literal-names c (l .variable) (l .positive) v ∙ ap (λ (b : Bool). bit (named c) v || b) (eqb-comm v (l .variable)))
+    ∙ or-assoc (bit (named c) v) (eqb (l .variable) v) (names ls v)
+
+-- the masks of a clause name what its literals name
+pub clause-names : (c : List Literal) (v : ℕ) → bit (named (clause-of c)) v ≡ names c v
+clause-names c v =
+    let e : bit (named no-clause) v ≡ false = bit-none v in
+    with-literals-names no-clause c v ∙ rw e
+
+-- and are empty only where there is no literal
+pub clause-empty : (c : List Literal) → eqb (named (clause-of c)) 0 ≡ none-yet c
+unfolding with-literals names
+clause-empty [] = refl
+clause-empty (l ∷ c) =
+    let here : names (l ∷ c) (l .variable) ≡ true = rw (eq-eqb (l .variable) (l .variable) refl) in
+    ne-eqb (named (clause-of (l ∷ c))) 0 (member-some (named (clause-of (l ∷ c))) (l .variable) (clause-names (l ∷ c) (l .variable) ∙ here))
+
+-- the mask of all its variables has the variables that the clause names
+pub variables-bit : (c : List Literal) (v : ℕ) → bit (variables c) v ≡ names c v
+unfolding variables names
+variables-bit [] v = bit-none v
+variables-bit (l ∷ c) v = bit-with (variables c) (l .variable) v ∙ rw (variables-bit c v, eqb-comm v (l .variable)) (or-comm (names c v) (eqb (l .variable) v))
+
+-- and is a mask of n digits for a clause over n variables
+pub variables-lt : (n : ℕ) (c : List Literal) → Every (λ l. l .variable < n) c → variables c < 2 ^ n
+unfolding variables
+variables-lt n [] e = pow-pos n
+variables-lt n (l ∷ c) e = with-lt n (variables c) (l .variable) (variables-lt n c (e .1)) (e .0)
+
+-- ---- the two sides
+
+with-literal-side : (c : Clause) (v : ℕ) (s sign : Bool) (i : ℕ)
+    → bit (side (with-literal c v s) sign) i ≡ bit (side c sign) i || eqb v i && Bool·beq s sign
+with-literal-side c v true true i = bit-with (c .positive) v i ∙ rw (eqb-comm i v, and-true (eqb v i))
+with-literal-side c v true false i = rw (and-false (eqb v i)) (sym (or-false (bit (c .negative) i)))
+with-literal-side c v false true i = rw (and-false (eqb v i)) (sym (or-false (bit (c .positive) i)))
+with-literal-side c v false false i = bit-with (c .negative) v i ∙ rw (eqb-comm i v, and-true (eqb v i))
+
+with-literals-side : (c : Clause) (ls : List Literal) (sign : Bool) (i : ℕ) → bit (side (with-literals c ls) sign) i ≡ bit (side c sign) i || names-as ls i sign
+unfolding with-literals names-as
+with-literals-side c [] sign i = sym (or-false (bit (side c sign) i))
+with-literals-side c (l ∷ ls) sign i =
+    with-literals-side (with-literal c (l .variable) (l .positive)) ls sign i
+    ∙ ap (λ (b : Bool). b || names-as ls i sign) (with-literal-side c (l .variable) (l .positive) sign i)
+    ∙ or-assoc (bit (side c sign) i) (eqb (l .variable) i && Bool·beq (l .positive) sign) (names-as ls i sign)
+
+empty-side : (sign : Bool) (i : ℕ) → bit (side no-clause sign) i ≡ false
+empty-side true i = bit-none i
+empty-side false i = bit-none i
+
+-- a side of a clause has the variables that the clause names that way
+pub clause-side : (c : List Literal) (sign : Bool) (i : ℕ) → bit (side (clause-of c) sign) i ≡ names-as c i sign
+clause-side c sign i = with-literals-side no-clause c sign i ∙ rw (empty-side sign i)
+
+-- ---- the masks fit
+
+with-literal-below : (n : ℕ) (c : Clause) (v : ℕ) (s : Bool) → v < n → ((sign : Bool) → side c sign < 2 ^ n) → (sign : Bool) → side (with-literal c v s) sign < 2 ^ n
+with-literal-below n c v true l h true = with-lt n (c .positive) v (h true) l
+with-literal-below n c v true l h false = h false
+with-literal-below n c v false l h true = h true
+with-literal-below n c v false l h false = with-lt n (c .negative) v (h false) l
+
+with-literals-below : (n : ℕ) (c : Clause) (ls : List Literal) → Every (λ l. l .variable < n) ls → ((sign : Bool) → side c sign < 2 ^ n)
+    → (sign : Bool) → side (with-literals c ls) sign < 2 ^ n
+unfolding with-literals
+with-literals-below n c [] e h = h
+with-literals-below n c (l ∷ ls) e h = with-literals-below n (with-literal c (l .variable) (l .positive)) ls (e .1) (with-literal-below n c (l .variable) (l .positive) (e .0) h)
+
+empty-below : (n : ℕ) (sign : Bool) → side no-clause sign < 2 ^ n
+empty-below n true = pow-pos n
+empty-below n false = pow-pos n
+
+-- what is named one way is named
+pub named-as : (c : List Literal) (v : ℕ) (sign : Bool) → names-as c v sign ≡ true → names c v ≡ true
+unfolding names names-as
+named-as [] v sign e = e
+named-as (l ∷ c) v sign e =
+    ⊎-elim
+    (λ (h : eqb (l .variable) v && Bool·beq (l .positive) sign ≡ true). rw (and-left (eqb (l .variable) v) (Bool·beq (l .positive) sign) h))
+    (λ (h : names-as c v sign ≡ true). rw (named-as c v sign h) (or-true (eqb (l .variable) v)))
+    (or-cases (eqb (l .variable) v && Bool·beq (l .positive) sign) (names-as c v sign) e)
+
+one-sign : (b : Bool) → Bool·beq b true ≡ true → Bool·beq b false ≡ true → ⊥
+one-sign true p q = true≢false (sym q)
+one-sign false p q = true≢false (sym p)
+
+-- a clause that names no variable twice names none both ways
+one-way : (c : List Literal) (v : ℕ) → distinct c ≡ true → names-as c v true ≡ true → names-as c v false ≡ true → ⊥
+unfolding names-as
+one-way [] v d p q = true≢false (sym p)
+one-way (l ∷ c) v d p q =
+    go (or-cases (is true) (names-as c v true) p) (or-cases (is false) (names-as c v false) q) (one-way c v (distinct-rest l c d .1))
+  where
+    is : Bool → Bool
+    is sign = eqb (l .variable) v && Bool·beq (l .positive) sign
+
+    clash : (s t : Bool) → is s ≡ true → names-as c v t ≡ true → ⊥
+    clash s t h k =
+        true≢false
+        (sym (named-as c v t k) ∙ ap (names c) (sym (eqb-true (l .variable) v (and-left (eqb (l .variable) v) (Bool·beq (l .positive) s) h))) ∙ distinct-rest l c d .0)
+
+    go : (is true ≡ true) ⊎ (names-as c v true ≡ true) → (is false ≡ true) ⊎ (names-as c v false ≡ true)
+        → (names-as c v true ≡ true → names-as c v false ≡ true → ⊥) → ⊥
+    go (inl h) (inl k) ih = one-sign (l .positive) (and-right (eqb (l .variable) v) (Bool·beq (l .positive) true) h) (and-right (eqb (l .variable) v) (Bool·beq (l .positive) false) k)
+    go (inl h) (inr k) ih = clash true false h k
+    go (inr h) (inl k) ih = clash false true k h
+    go (inr h) (inr k) ih = ih h k
+
+-- the masks of a clause over n variables fit
+pub clause-fits : {n : ℕ} {c : List Literal} → ClauseOver n c → ClauseFits n (clause-of c)
+clause-fits {n} {c} o =
+    let b = with-literals-below n no-clause c (o .below) (empty-below n) in
+    record { below = b; apart = apart-of n ((clause-of c) .positive) ((clause-of c) .negative) (b true) (λ i l e. go i e (bit ((clause-of c) .negative) i) refl) }
+  where
+    go : (i : ℕ) → bit ((clause-of c) .positive) i ≡ true → (t : Bool) → bit ((clause-of c) .negative) i ≡ t → t ≡ false
+    go i e true f = absurd (one-way c i (o .once) (sym (clause-side c true i) ∙ e) (sym (clause-side c false i) ∙ f))
+    go i e false f = refl
+
+-- the variables of a clause are those that its masks name
+pub variables-named : {n : ℕ} {c : List Literal} → ClauseOver n c → variables c ≡ named (clause-of c)
+variables-named {n} {c} o =
+    let f = clause-fits o in
+    mask-ext n (variables c) (named (clause-of c)) (variables-lt n c (o .below)) (or-lt n ((clause-of c) .positive) ((clause-of c) .negative) (f .below true) (f .below false))
+    (λ i l. variables-bit c i ∙ sym (clause-names c i))

@@ -1,0 +1,2 @@
+pub mod InnerGather
+pub mod Judge
