@@ -1,3 +1,4 @@
 pub mod Cases
 pub mod RestLaws
 pub mod PositionLaws
+pub mod AgreeLaws
