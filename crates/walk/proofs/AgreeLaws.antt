@@ -7,6 +7,7 @@ use mathlib.Core.Path.{_≡_, refl, sym, ap, _∙_, subst}
 use native.Mathlib.Nat.{sub-zero}
 use native.Mathlib.Omega.{arith}
 use lib.ListN.{length, take, drop}
+use Rattle.lists.proofs.DropLaws.{drop-next, take-next, drop-none, take-none}
 use Rattle.formula.specs.Format.{Literal}
 use Rattle.walk.specs.Plain.{Entry, assign, undo, model, end}
 use Rattle.walk.specs.Checkpoints.{Behind, past, past-all}
@@ -15,31 +16,6 @@ use Rattle.walk.specs.InnerStack.{Stack, empty, push, depth, trail-of, T
 use Rattle.walk.specs.InnerMachine.{Position, down, full, back, over, Next, nothing, hands, ends, steps, next, Resumed, halted, stepped, onward, resume}
 use Rattle.walk.proofs.RestLaws.{seen, Quiet, walk, node, up, rest, Replayed, Ok, Live, Kind, Goes, Step, step}
 use Rattle.walk.proofs.PositionLaws.{behind-of, past-next, Lands, lands}
-
-module _ {A : Type 0} where
-  drop-next : (k : ℕ) (l : List A) {e : A} {r : List A} → drop k l ≡ e ∷ r → drop (suc k) l ≡ r
-  drop-next zero [] p = cc
-  drop-next zero (x ∷ l) p = cc
-  drop-next (suc k) [] p = cc
-  drop-next (suc k) (x ∷ l) p = drop-next k l p
-
-  take-next : (k : ℕ) (l : List A) {e : A} {r : List A} → drop k l ≡ e ∷ r → take (suc k) l ≡ take k l ++ (e ∷ [])
-  take-next zero [] p = cc
-  take-next zero (x ∷ l) p = cc
-  take-next (suc k) [] p = cc
-  take-next (suc k) (x ∷ l) p = ap {B = List A} (λ r. x ∷ r) (take-next k l p)
-
-  drop-none : (k : ℕ) (l : List A) → drop k l ≡ [] → drop (suc k) l ≡ []
-  drop-none zero [] e = refl
-  drop-none zero (x ∷ l) e = cc
-  drop-none (suc k) [] e = refl
-  drop-none (suc k) (x ∷ l) e = drop-none k l e
-
-  take-none : (k : ℕ) (l : List A) → drop k l ≡ [] → take (suc k) l ≡ take k l
-  take-none zero [] e = refl
-  take-none zero (x ∷ l) e = cc
-  take-none (suc k) [] e = refl
-  take-none (suc k) (x ∷ l) e = ap {B = List A} (λ r. x ∷ r) (take-none k l e)
 
 past-append : (p : Behind) (a b : List Entry) → past-all p (a ++ b) ≡ past-all (past-all p a) b
 unfolding past-all

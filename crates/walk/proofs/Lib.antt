@@ -2,3 +2,4 @@ pub mod Cases
 pub mod RestLaws
 pub mod PositionLaws
 pub mod AgreeLaws
+pub mod ListingLaws
