@@ -3,3 +3,4 @@ pub mod RestLaws
 pub mod PositionLaws
 pub mod AgreeLaws
 pub mod ListingLaws
+pub mod CallLaws
