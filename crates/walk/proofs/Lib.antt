@@ -4,3 +4,5 @@ pub mod PositionLaws
 pub mod AgreeLaws
 pub mod ListingLaws
 pub mod CallLaws
+pub mod PartingLaws
+pub mod PaceLaws

@@ -33,11 +33,19 @@ pub record Result : Type 0 where
   pub expansions : ℕ
   pub checkpoint : Checkpoint
 
+abbrev pub kind-of : Answer → Kind
+kind-of (found a) = says-model
+kind-of spent = says-spent
+kind-of ended = says-ended
+
 -- 'In spent and ended the set-up is 0.'
+abbrev pub model-of : Answer → ℕ
+model-of (found a) = a
+model-of spent = 0
+model-of ended = 0
+
 abbrev pub answered : Answer → ℕ → ℕ → Checkpoint → Result
-answered (found a) s e c = record { kind = says-model; model = a; number = 0; place = 0; steps = s; expansions = e; checkpoint = c }
-answered spent s e c = record { kind = says-spent; model = 0; number = 0; place = 0; steps = s; expansions = e; checkpoint = c }
-answered ended s e c = record { kind = says-ended; model = 0; number = 0; place = 0; steps = s; expansions = e; checkpoint = c }
+answered a s e c = record { kind = kind-of a; model = model-of a; number = 0; place = 0; steps = s; expansions = e; checkpoint = c }
 
 -- 'A refusal carries its own number and place, and otherwise zeros: the marker comes back as handed in, set-up 0, moves 0, reaches 0.'
 abbrev pub refusing : Refusal → Checkpoint → Result
