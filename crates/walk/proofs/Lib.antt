@@ -6,3 +6,4 @@ pub mod ListingLaws
 pub mod CallLaws
 pub mod PartingLaws
 pub mod PaceLaws
+pub mod MetLaws
