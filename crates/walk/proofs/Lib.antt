@@ -7,3 +7,5 @@ pub mod CallLaws
 pub mod PartingLaws
 pub mod PaceLaws
 pub mod MetLaws
+pub mod TestLaws
+pub mod ByteLaws
