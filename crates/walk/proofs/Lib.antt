@@ -9,3 +9,6 @@ pub mod PaceLaws
 pub mod MetLaws
 pub mod TestLaws
 pub mod ByteLaws
+pub mod AcceptLaws
+pub mod AssignmentLaws
+pub mod TreeLaws
