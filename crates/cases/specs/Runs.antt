@@ -14,7 +14,7 @@ use Rattle.cases.specs.declared.totals.Totals.{Totals}
 use Rattle.cases.specs.Checking.{check-agrees}
 use Rattle.cases.specs.Corpus.{framed}
 use Rattle.cases.specs.Judging.{judge-agrees}
-use Rattle.cases.specs.Totals.{nothing, counted}
+use Rattle.cases.specs.Totals.{counted}
 
 -- the size of the fields of an act's vector
 abbrev pub size-of : Act → ℕ
@@ -38,12 +38,14 @@ run-from (suc k) act s at t =
     ])
     (record { at = at; totals = t })
 
-unfoldable pub run-of : Act → List ℕ → Run
-run-of act s = run-from (length s) act s 0 nothing
+-- all vectors, counted on from totals
+unfoldable pub run-of : Act → List ℕ → Totals → Run
+run-of act s t = run-from (length s) act s 0 t
 
--- the totals of a file: those of some bytes, since no contract can say which a file has; each count is at most 65,536
-pub record OfFile (act : Act) (t : Totals) : Type 0 where
+-- the totals t and, in r, those after a file: after some bytes, since no contract can say which a file has; each count grows by 65,536
+-- at most
+pub record AfterFile (act : Act) (t r : Totals) : Type 0 where
   pub bytes : List ℕ
-  pub totals : t ≡ run-of act bytes .totals
-  pub vectors : t .vectors ≤ 65536
-  pub differences : t .differences ≤ 65536
+  pub totals : r ≡ run-of act bytes t .totals
+  pub vectors : r .vectors ≤ t .vectors + 65536
+  pub differences : r .differences ≤ t .differences + 65536

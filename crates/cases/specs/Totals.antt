@@ -3,12 +3,6 @@ use Prim.Native.Nat.{_+_}
 use mathlib.Core.Bool.{Bool, true, false}
 use Rattle.cases.specs.declared.totals.Totals.{Totals}
 
-abbrev pub nothing : Totals
-nothing = record { vectors = 0; differences = 0 }
-
 abbrev pub counted : Totals → Bool → Totals
 counted t true = record { vectors = t .vectors + 1; differences = t .differences }
 counted t false = record { vectors = t .vectors + 1; differences = t .differences + 1 }
-
-abbrev pub added : Totals → Totals → Totals
-added a b = record { vectors = a .vectors + b .vectors; differences = a .differences + b .differences }

@@ -40,8 +40,8 @@ fn filled(fill: u8) -> [u8; 256]
     [fill; 256]
 }
 
-// Judges an input, with a buffer of the given length.
-fn run_judge(input: &[u8], size: usize, fill: u8) -> Judged
+// Judges an input, with a filled buffer of the given size.
+fn judge_filled(input: &[u8], size: usize, fill: u8) -> Judged
     requires { ⌜ size ≤ 256 ⌝ }
     ensures { λ r. ⌜ r ≡ judged (now (input .entry)) size fill ⌝ }
 {
@@ -96,7 +96,7 @@ pub fn judge_vector(bytes: &[u8], v: Vector) -> bool
     let wanted = expected_at(bytes, end);
     let size = wide(bytes[end + 6]) as usize;
     let fill = bytes[end + 7];
-    let got = run_judge(&bytes[start..end], size, fill);
+    let got = judge_filled(&bytes[start..end], size, fill);
     let answer = got.answer;
     let array = got.array;
     let wrong = first_wrong(bytes, end + 8, fill, array);
@@ -105,7 +105,11 @@ pub fn judge_vector(bytes: &[u8], v: Vector) -> bool
     }
     report::difference(v.number, wanted, answer);
     if wrong < 256 {
-        report::wrong_byte(wrong, wanted_byte(bytes, end + 8, fill, wrong), array[wrong]);
+        report::wrong_byte(
+            wrong,
+            wanted_byte(bytes, end + 8, fill, wrong),
+            array[wrong],
+        );
     }
     false
 }

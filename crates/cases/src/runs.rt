@@ -1,5 +1,5 @@
 // The vectors of a file, each by its act.
-ghost use Prim.Native.Nat.{_+_, _≤_};
+ghost use Prim.Native.Nat.{_+_, _<_, _≤_, _^_};
 ghost use mathlib.Core.Path.{_≡_};
 ghost use lib.ListN.{length};
 ghost use Rattle.cases.specs.Runs.{size-of, agrees, run-of};
@@ -24,7 +24,7 @@ pub struct Run {
 
 // The size of the fields of an act's vector: the expected answer, and the act's own.
 fn fields_of(act: Act) -> usize
-    ensures { λ r. ⌜ r ≡ size-of act ⌝ }
+    ensures { λ r. ⌜ (r ≡ size-of act) × (r ≤ 104) ⌝ }
 {
     match act {
         Act::Check => 14,
@@ -43,14 +43,15 @@ fn vector_agrees(bytes: &[u8], v: Vector, act: Act) -> bool
     }
 }
 
-// All vectors of a file, up to one that runs past its end.
-pub fn run_all(bytes: &[u8], act: Act) -> Run
-    ensures { λ r. ⌜ r ≡ run-of act (now (bytes .entry)) ⌝ }
-    ensures { λ r. ⌜ (r .totals .vectors ≤ length (now (bytes .entry))) × (r .totals .differences ≤ length (now (bytes .entry))) ⌝ }
+// All vectors of a file, up to one that runs past its end, counted on from the totals so far.
+pub fn run_all(bytes: &[u8], act: Act, t: Totals) -> Run
+    requires { ⌜ (t .vectors + length (now bytes) < 2 ^ 64) × (t .differences + length (now bytes) < 2 ^ 64) ⌝ }
+    ensures { λ r. ⌜ r ≡ run-of act (now (bytes .entry)) t ⌝ }
+    ensures { λ r. ⌜ (r .totals .vectors ≤ t .vectors + length (now (bytes .entry))) × (r .totals .differences ≤ t .differences + length (now (bytes .entry))) ⌝ }
 {
     let fields = fields_of(act);
     let mut at: usize = 0;
-    let mut counts = totals::none();
+    let mut counts = t;
     while at < bytes.len() {
         match frame(bytes, at, fields) {
             Framed::Broken => {
