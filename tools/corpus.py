@@ -69,7 +69,8 @@ def check_vector(number, v):
 def judge_vector(number, v):
     length, fill, after = v['slate_len'], v['slate_fill'], bytes.fromhex(v['slate'])
     assert len(after) == length and all(b == fill for b in after[WRITTEN:])
-    answer = answer_of(REFUSED, *v['refusal']) if v['refusal'] else answer_of(MATCHED, n=v['n'], m=v['m'])
+    says, refusal = (REFUSED, v['refusal']) if v['refusal'] else (MATCHED, (0, 0))
+    answer = answer_of(says, *refusal, v['n'], v['m'])
     return coded(number, bytes.fromhex(v['sheet']), answer, judge_fields(length, fill, after[:WRITTEN]))
 
 

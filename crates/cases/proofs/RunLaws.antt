@@ -15,7 +15,9 @@ use Rattle.cases.specs.Totals.{counted}
 use Rattle.cases.proofs.FrameLaws.{within}
 
 -- at the end of the bytes, and at a vector that runs past it, a run stops
-run-done : (k : ℕ) (act : Act) (s : List ℕ) (at : ℕ) (t : Totals) → length s ≤ at → run-from k act s at t ≡ record { at = at; totals = t }
+run-done :
+    (k : ℕ) (act : Act) (s : List ℕ) (at : ℕ) (t : Totals) →
+    length s ≤ at → run-from k act s at t ≡ record { at = at; totals = t }
 unfolding run-from
 run-done zero act s at t h = refl
 run-done (suc k) act s at t h = rw (le-ltb _ _ h)
@@ -30,7 +32,8 @@ run-broken (suc k) act s at t h e = rw (lt-ltb _ _ h, e)
 run-whole :
     (k : ℕ) (act : Act) (s : List ℕ) (at : ℕ) (t : Totals) (v : Vector) →
     at < length s →
-    framed s at (size-of act) ≡ Whole v → run-from (suc k) act s at t ≡ run-from k act s (v .end + size-of act) (counted t (agrees act s v))
+    framed s at (size-of act) ≡ Whole v →
+    run-from (suc k) act s at t ≡ run-from k act s (v .end + size-of act) (counted t (agrees act s v))
 unfolding run-from
 run-whole k act s at t v h e = rw (lt-ltb _ _ h, e)
 
@@ -62,5 +65,6 @@ module _ (act : Act) (s : List ℕ) (first : Totals) (at : ℕ) (t : Totals) (p 
       record { fuel = k; enough = omega arith; rest = sym (run-whole k act s at t v h e) ∙ r }
 
   pub stands-next :
-      (v : Vector) → at < length s → framed s at (size-of act) ≡ Whole v → Stands act s first (v .end + size-of act) (counted t (agrees act s v))
+      (v : Vector) →
+      at < length s → framed s at (size-of act) ≡ Whole v → Stands act s first (v .end + size-of act) (counted t (agrees act s v))
   stands-next v h e = step (p .fuel) v (p .enough) (p .rest) h e

@@ -1,5 +1,5 @@
 -- The vectors of a file, each by its act.
-use Prim.Native.Nat.{ℕ, zero, suc, _+_, _≤_}
+use Prim.Native.Nat.{ℕ, zero, suc, _+_}
 use mathlib.Core.Bool.{Bool, cond}
 use mathlib.Core.List.{List}
 use mathlib.Core.Path.{_≡_}
@@ -14,7 +14,7 @@ use Rattle.cases.specs.declared.totals.Totals.{Totals}
 use Rattle.cases.specs.Checking.{check-agrees}
 use Rattle.cases.specs.Corpus.{framed}
 use Rattle.cases.specs.Judging.{judge-agrees}
-use Rattle.cases.specs.Totals.{counted}
+use Rattle.cases.specs.Totals.{counted, Grown}
 
 -- the size of the fields of an act's vector
 abbrev pub size-of : Act → ℕ
@@ -42,10 +42,8 @@ run-from (suc k) act s at t =
 unfoldable pub run-of : Act → List ℕ → Totals → Run
 run-of act s t = run-from (length s) act s 0 t
 
--- the totals t and, in r, those after a file: after some bytes, since no contract can say which a file has; each count grows by 65,536
--- at most
+-- from t to r by a file: by some bytes, since no contract can say which a file has
 pub record AfterFile (act : Act) (t r : Totals) : Type 0 where
   pub bytes : List ℕ
   pub totals : r ≡ run-of act bytes t .totals
-  pub vectors : r .vectors ≤ t .vectors + 65536
-  pub differences : r .differences ≤ t .differences + 65536
+  pub grown : Grown 65536 t r

@@ -1,5 +1,5 @@
 // The vectors of judge: each answer and the lent buffer compared with the expected ones.
-ghost use Prim.Native.Nat.{_+_, _<_, _≤_};
+ghost use Prim.Native.Nat.{_+_, _≤_};
 ghost use mathlib.Core.Path.{_≡_};
 ghost use lib.ListN.{length, replicate};
 ghost use Rattle.matched.specs.Judge.{values};

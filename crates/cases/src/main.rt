@@ -16,15 +16,15 @@ mod report;
 mod runs;
 mod totals;
 
-ghost use Prim.Native.Nat.{_+_, _<_, _^_};
 ghost use Rattle.cases.specs.Runs.{AfterFile};
+ghost use Rattle.cases.specs.Totals.{Room};
 use runs::Act;
 use runs::run_all;
 use totals::Totals;
 
 // The vectors of one file, counted on from the totals so far.
 fn run_file(t: Totals, name: &[u8], act: Act) -> Totals
-    requires { ⌜ (t .vectors + 65536 < 2 ^ 64) × (t .differences + 65536 < 2 ^ 64) ⌝ }
+    requires { ⌜ Room 65536 t ⌝ }
     ensures { λ r. ⌜ AfterFile act t r ⌝ }
 {
     let file = os::open_read(name);

@@ -1,8 +1,9 @@
 // The vectors of a file, each by its act.
-ghost use Prim.Native.Nat.{_+_, _<_, _≤_, _^_};
+ghost use Prim.Native.Nat.{_+_, _≤_};
 ghost use mathlib.Core.Path.{_≡_};
 ghost use lib.ListN.{length};
 ghost use Rattle.cases.specs.Runs.{size-of, agrees, run-of};
+ghost use Rattle.cases.specs.Totals.{Room, Grown};
 use crate::checking::check_vector;
 use crate::corpus::Framed;
 use crate::corpus::Vector;
@@ -45,9 +46,9 @@ fn vector_agrees(bytes: &[u8], v: Vector, act: Act) -> bool
 
 // All vectors of a file, up to one that runs past its end, counted on from the totals so far.
 pub fn run_all(bytes: &[u8], act: Act, t: Totals) -> Run
-    requires { ⌜ (t .vectors + length (now bytes) < 2 ^ 64) × (t .differences + length (now bytes) < 2 ^ 64) ⌝ }
+    requires { ⌜ Room (length (now bytes)) t ⌝ }
     ensures { λ r. ⌜ r ≡ run-of act (now (bytes .entry)) t ⌝ }
-    ensures { λ r. ⌜ (r .totals .vectors ≤ t .vectors + length (now (bytes .entry))) × (r .totals .differences ≤ t .differences + length (now (bytes .entry))) ⌝ }
+    ensures { λ r. ⌜ Grown (length (now (bytes .entry))) t (r .totals) ⌝ }
 {
     let fields = fields_of(act);
     let mut at: usize = 0;

@@ -1,7 +1,6 @@
 // How many vectors were run, and how many answers differed.
-ghost use Prim.Native.Nat.{_+_, _<_, _^_};
 ghost use mathlib.Core.Path.{_≡_};
-ghost use Rattle.cases.specs.Totals.{counted};
+ghost use Rattle.cases.specs.Totals.{counted, Room};
 
 pub struct Totals {
     pub vectors: u64,
@@ -19,7 +18,7 @@ pub fn none() -> Totals
 
 // One vector more, whose answer is the expected one or differs.
 pub fn count(t: Totals, agrees: bool) -> Totals
-    requires { ⌜ (t .vectors + 1 < 2 ^ 64) × (t .differences + 1 < 2 ^ 64) ⌝ }
+    requires { ⌜ Room 1 t ⌝ }
     ensures { λ r. ⌜ r ≡ counted t agrees ⌝ }
 {
     if agrees {

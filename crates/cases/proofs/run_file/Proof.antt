@@ -16,7 +16,7 @@ unopened-requires c κs = search needs
 
 returns : tie.Need-returns
 unfolding run-from run-of
-returns c = record { bytes = []; totals = refl; vectors = omega arith; differences = omega arith }
+returns c = record { bytes = []; totals = refl; grown = record { vectors = omega arith; differences = omega arith } }
 
 large-buffer-requires : tie.Need-large-buffer-requires
 large-buffer-requires c κs = search needs
@@ -45,7 +45,11 @@ broken-requires c κs = search needs
 returns-2 : tie.Need-returns-2
 returns-2 c =
     let r = c .before .before .before .run-all in
-    record { bytes = _; totals = ap (λ (x : Run). x .totals) (r .ensures .0); vectors = omega arith; differences = omega arith }
+    record {
+      bytes = _;
+      totals = ap (λ (x : Run). x .totals) (r .ensures .0);
+      grown = record { vectors = omega arith; differences = omega arith };
+    }
 
 pub run-file-spec : {M : Type 1} → statement M
 run-file-spec =

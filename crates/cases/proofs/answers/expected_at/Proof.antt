@@ -44,7 +44,13 @@ wide-requires-4 c κs = search needs
 
 returns : tie.Need-returns
 returns c =
-    rw (c .before .before .before .before .before .before .before .wide .ensures .0, c .before .before .before .before .before .wide2 .ensures .0, c .before .before .before .before .two-bytes .ensures .0, c .before .before .wide3 .ensures .0, c .wide4 .ensures .0)
+    rw (
+      c .before .before .before .before .before .before .before .wide .ensures .0,
+      c .before .before .before .before .before .wide2 .ensures .0,
+      c .before .before .before .before .two-bytes .ensures .0,
+      c .before .before .wide3 .ensures .0,
+      c .wide4 .ensures .0,
+    )
 
 pub expected-at-spec : {M : Type 1} → statement M
 expected-at-spec =

@@ -6,7 +6,12 @@ use borrow.Author.Needs.{needs}
 use Rattle.cases.proofs.checking.check_vector.Statement.{statement}
 use Rattle.cases.proofs.checking.check_vector.Tie as tie
 
-told : (c : tie.After-equal) → c .equal .result ≡ check-agrees (c .before .before .before .before .before .before .before .args .bytes .now) (c .before .before .before .before .before .before .before .args .v)
+-- what the comparison gives
+told :
+    (c : tie.After-equal) →
+    c .equal .result ≡
+    check-agrees (c .before .before .before .before .before .before .before .args .bytes .now)
+    (c .before .before .before .before .before .before .before .args .v)
 told c =
     c .equal .ensures
     ∙ compared _ _ _ _ _ _

@@ -27,7 +27,8 @@ wanted-byte-requires c κs = search needs
 returns : tie.Need-returns Inv-loop μ-loop
 returns c =
     let l = c .before .before .before .loop in
-    sym (wrong-here _ _ _ _ 256 _ (c .before .before .loop-test .taken) (λ e. c .if1 .taken (e ∙ sym (c .before .wanted-byte .ensures)))) ∙ l .inv .1
+    sym (wrong-here _ _ _ _ 256 _ (c .before .before .loop-test .taken)
+    (λ e. c .if1 .taken (e ∙ sym (c .before .wanted-byte .ensures)))) ∙ l .inv .1
 
 add-i : tie.Need-add-i Inv-loop μ-loop
 add-i c = search needs
@@ -39,7 +40,8 @@ loop-again : tie.Need-loop-again Inv-loop μ-loop
 loop-again c =
     let l = c .before .before .before .loop in (
       omega arith,
-      sym (right-here _ _ _ _ 256 _ (c .before .before .loop-test .taken) (c .if1 .left ∙ c .before .wanted-byte .ensures)) ∙ l .inv .1,
+      sym (right-here _ _ _ _ 256 _ (c .before .before .loop-test .taken)
+          (c .if1 .left ∙ c .before .wanted-byte .ensures)) ∙ l .inv .1,
     )
 
 returns-2 : tie.Need-returns-2 Inv-loop μ-loop

@@ -16,7 +16,8 @@ array-borrow-prefix-array c = search needs
 
 slice-aggregate-find-matching : tie.Need-slice-aggregate-find-matching
 slice-aggregate-find-matching c =
-    let l : length (c .before .filled .result) ≡ 256 = rw (c .before .filled .ensures) (length-replicate 256 (c .before .before .before .args .fill)) in
+    let l : length (c .before .filled .result) ≡ 256 =
+    rw (c .before .filled .ensures) (length-replicate 256 (c .before .before .before .args .fill)) in
     sym (length-take-le _ _ (omega arith))
 
 find-matching-requires : tie.Need-find-matching-requires
@@ -28,7 +29,8 @@ answer-of-requires c κs = search needs
 returns : tie.Need-returns
 returns c =
     let m = c .before .before in
-    judged-of _ _ _ _ _ _ _ (m .before .before .filled .ensures) (c .answer-of .ensures) (m .find-matching .ensures .0) (m .find-matching .ensures .1)
+    judged-of _ _ _ _ _ _ _ (m .before .before .filled .ensures) (c .answer-of .ensures)
+    (m .find-matching .ensures .0) (m .find-matching .ensures .1)
 
 pub judge-filled-spec : {M : Type 1} → statement M
 judge-filled-spec =

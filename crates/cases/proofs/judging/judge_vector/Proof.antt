@@ -6,7 +6,12 @@ use Rattle.cases.proofs.JudgingLaws.{compared}
 use Rattle.cases.proofs.judging.judge_vector.Statement.{statement}
 use Rattle.cases.proofs.judging.judge_vector.Tie as tie
 
-told : (c : tie.After-agree) → c .agree .result ≡ judge-agrees (c .before .before .before .before .before .before .before .before .before .before .before .args .bytes .now) (c .before .before .before .before .before .before .before .before .before .before .before .args .v)
+-- what the comparison gives
+told :
+    (c : tie.After-agree) →
+    c .agree .result ≡
+    judge-agrees (c .before .before .before .before .before .before .before .before .before .before .before .args .bytes .now)
+    (c .before .before .before .before .before .before .before .before .before .before .before .args .v)
 told c =
     c .agree .ensures
     ∙ compared _ _ _ _ _ _
