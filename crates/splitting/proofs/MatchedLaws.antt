@@ -42,9 +42,11 @@ sub-matched s M = sub-sets-matched (sub-map variables s) M
 
 -- ── Matchings by position ─────────────────────────────────────────────────────────────────────────────────────────────
 
+-- the clause at a position
 abbrev pub at : List (List Literal) → ℕ → List Literal
 at cs i = getD cs i []
 
+-- and its mask
 pub variables-at : (cs : List (List Literal)) (i : ℕ) → getD (map variables cs) i 0 ≡ variables (at cs i)
 unfolding variables
 variables-at cs i = List·getD-map variables cs i []
@@ -54,7 +56,7 @@ pub matches-names : (cs : List (List Literal)) (vs : List ℕ) → Matches (map 
 matches-names cs vs M i l =
     sym (variables-bit (at cs i) (getD vs i 0)) ∙ (let h = length-map cs variables in rw (variables-at cs i) at (M .named i (omega arith)))
 
-pub matches-apart : (cs : List (List Literal)) (vs : List ℕ) → Matches (map variables cs) vs
+matches-apart : (cs : List (List Literal)) (vs : List ℕ) → Matches (map variables cs) vs
     → (i j : ℕ) → i < length cs → j < length cs → getD vs i 0 ≡ getD vs j 0 → i ≡ j
 matches-apart cs vs M i j l k = let h = length-map cs variables in M .distinct i j (omega arith) (omega arith)
 

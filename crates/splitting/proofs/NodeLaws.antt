@@ -101,9 +101,11 @@ named-assign v b cs w t =
     let l = less-of v (c .0) w (s .0) (subst (λ (k : List Literal). names-as k w (s .0) ≡ true) (c .2) (d .2)) in
     (named-in cs w (s .0) (occurs-in cs (c .0) w (s .0) (c .1) (l .0)), l .1)
 
+-- an assignment names no new variable
 pub below-assign : (n v : ℕ) (b : Bool) (cs : List (List Literal)) → Below n cs → Below n (assign v b cs)
 below-assign n v b cs low w t = low w (named-assign v b cs w t .0)
 
+-- and makes no new clause
 pub length-assign : (v : ℕ) (b : Bool) (cs : List (List Literal)) → length (assign v b cs) ≤ length cs
 unfolding assign
 length-assign v b [] = omega arith
@@ -115,6 +117,7 @@ length-assign v b (c ∷ cs) = go (names-as c v b) (length-assign v b cs)
 
 -- ── Empty clauses ─────────────────────────────────────────────────────────────────────────────────────────────────────
 
+-- where a clause is emptied, the list has the empty one
 pub emptied-some : (cs : List (List Literal)) → emptied cs ≡ true → List·Memᴰ {A = List Literal} [] cs
 unfolding emptied
 emptied-some [] t = clash t refl
@@ -150,9 +153,11 @@ named-remaining (l ∷ t) cs w h =
     let e = ne-eqb (l .variable) w (λ q. a .1 (sym q)) in
     (a .0, rw e (r .1))
 
+-- a node names no new variable
 pub below-remaining : (n : ℕ) (t : List Literal) (cs : List (List Literal)) → Below n cs → Below n (remaining t cs)
 below-remaining n t cs low w h = low w (named-remaining t cs w h .0)
 
+-- and has no new clause
 pub length-remaining : (t : List Literal) (cs : List (List Literal)) → length (remaining t cs) ≤ length cs
 unfolding remaining
 length-remaining [] cs = omega arith

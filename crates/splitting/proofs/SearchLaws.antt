@@ -54,22 +54,27 @@ lowest-found f n i l t =
 
 -- ── Lists of variables ────────────────────────────────────────────────────────────────────────────────────────────────
 
+-- the first is on the list
 pub among-here : (x : ℕ) (l : List ℕ) → among (x ∷ l) x ≡ true
 unfolding among
 among-here x l = or-l (eqb x x) (among l x) (eq-eqb x x refl)
 
+-- what is on the rest is on the list
 pub among-more : (x y : ℕ) (l : List ℕ) → among l x ≡ true → among (y ∷ l) x ≡ true
 unfolding among
 among-more x y l t = or-r (eqb y x) (among l x) t
 
+-- what is on the list is the first or on the rest
 pub among-cases : (x y : ℕ) (l : List ℕ) → among (y ∷ l) x ≡ true → (x ≡ y) ⊎ (among l x ≡ true)
 unfolding among
 among-cases x y l t = ⊎-elim (λ e. inl (sym (eqb-true y x e))) (λ r. inr r) (or-cases (eqb y x) (among l x) t)
 
+-- nothing is on the empty list
 pub among-none : {C : Type 0} (x : ℕ) → among [] x ≡ true → C
 unfolding among
 among-none x t = clash t refl
 
+-- what is on two lists is on one of them
 pub among-append : (l r : List ℕ) (x : ℕ) → among (l ++ r) x ≡ true → (among l x ≡ true) ⊎ (among r x ≡ true)
 among-append [] r x t = inr t
 among-append (y ∷ l) r x t =
@@ -78,11 +83,13 @@ among-append (y ∷ l) r x t =
     (λ m. ⊎-elim (λ u. inl (among-more x y l u)) (λ u. inr u) (among-append l r x m))
     (among-cases x y (l ++ r) t)
 
+-- and the other way round
 pub among-left : (l r : List ℕ) (x : ℕ) → among l x ≡ true → among (l ++ r) x ≡ true
 among-left [] r x t = among-none x t
 among-left (y ∷ l) r x t =
     ⊎-elim (λ (e : x ≡ y). rw e (among-here y (l ++ r))) (λ m. among-more x y (l ++ r) (among-left l r x m)) (among-cases x y l t)
 
+-- and the other way round
 pub among-right : (l r : List ℕ) (x : ℕ) → among r x ≡ true → among (l ++ r) x ≡ true
 among-right [] r x t = t
 among-right (y ∷ l) r x t = among-more x y (l ++ r) (among-right l r x t)
@@ -137,5 +144,6 @@ upward-of f n x t = let w = upward-from-of f 0 n x t in (omega (arith, w .1), w 
 pub upward-in : (f : ℕ → Bool) (n x : ℕ) → x < n → f x ≡ true → among (upward f n) x ≡ true
 upward-in f n x l t = upward-from-in f 0 n x (omega arith) (omega arith) t
 
+-- it has at most n
 pub upward-length : (f : ℕ → Bool) (n : ℕ) → length (upward f n) ≤ n
 upward-length f n = upward-from-length f 0 n

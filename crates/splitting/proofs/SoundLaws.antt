@@ -41,7 +41,7 @@ sound-satisfies n cs S = let w = matched-satisfies (stripped n cs .left) S in le
 -- ── Something is left ─────────────────────────────────────────────────────────────────────────────────────────────────
 
 -- What is left after x = b, seen as clauses before it, lies in what was left before, if x is named there.
-pub left-origin : (n x : ℕ) (b : Bool) (cs : List (List Literal)) → Below n cs → named (stripped n cs .left) x ≡ true
+left-origin : (n x : ℕ) (b : Bool) (cs : List (List Literal)) → Below n cs → named (stripped n cs .left) x ≡ true
     → Sublistᴰ (stripped n (assign x b cs) .left) (assign x b (stripped n cs .left))
 left-origin n x b cs low at = rw (O .left) (assign-sub x b (left-keeps n ds cs (O .sub) clear) (O .unsatisfied))
   where

@@ -20,7 +20,7 @@ use Rattle.splitting.proofs.SearchLaws.{lowest-some, lowest-none, among
 
 -- ── The clauses that do not name a variable ───────────────────────────────────────────────────────────────────────────
 
-pub not-naming-sub : (x : ℕ) (cs : List (List Literal)) → Sublistᴰ (not-naming x cs) cs
+not-naming-sub : (x : ℕ) (cs : List (List Literal)) → Sublistᴰ (not-naming x cs) cs
 unfolding not-naming
 not-naming-sub x [] = Sublistᴰ·slnil
 not-naming-sub x (c ∷ cs) = go (names c x) (not-naming-sub x cs)
@@ -30,7 +30,7 @@ not-naming-sub x (c ∷ cs) = go (names c x) (not-naming-sub x cs)
     go false s = Sublistᴰ·cons-cons refl s
 
 -- none of them names it
-pub not-naming-off : (x : ℕ) (cs : List (List Literal)) (s : Bool) → occurs (not-naming x cs) x s ≡ false
+not-naming-off : (x : ℕ) (cs : List (List Literal)) (s : Bool) → occurs (not-naming x cs) x s ≡ false
 unfolding not-naming occurs
 not-naming-off x [] s = refl
 not-naming-off x (c ∷ cs) s = go (names c x) refl (not-naming-off x cs s)
@@ -40,7 +40,7 @@ not-naming-off x (c ∷ cs) s = go (names c x) refl (not-naming-off x cs s)
     go false e r = rw (names-none c x e s) r
 
 -- they are the greatest sub-list that does not
-pub not-naming-greatest : (x : ℕ) {ds cs : List (List Literal)} → Sublistᴰ ds cs → ((s : Bool) → occurs ds x s ≡ false) → Sublistᴰ ds (not-naming x cs)
+not-naming-greatest : (x : ℕ) {ds cs : List (List Literal)} → Sublistᴰ ds cs → ((s : Bool) → occurs ds x s ≡ false) → Sublistᴰ ds (not-naming x cs)
 unfolding not-naming occurs
 not-naming-greatest x Sublistᴰ·slnil off = Sublistᴰ·slnil
 not-naming-greatest x (Sublistᴰ·cons {a = c} {l₁ = ds} {l₂ = cs} s) off = go (names c x) (not-naming-greatest x s off)
@@ -74,7 +74,7 @@ unnamed ds x c d off =
     ⊎-elim (λ h. let w = names-some c x h in clash (occurs-in ds c x (w .0) d (w .1)) (off (w .0))) (λ f. f) (look (names c x))
 
 -- fewer variables are named
-falls : (n x : ℕ) (cs : List (List Literal)) → x < n → pure cs x ≡ true → count (named (not-naming x cs)) n < count (named cs) n
+pub falls : (n x : ℕ) (cs : List (List Literal)) → x < n → pure cs x ≡ true → count (named (not-naming x cs)) n < count (named cs) n
 falls n x cs l t =
     count-drop (named (not-naming x cs)) (named cs) n x
     (λ v. named-within (not-naming x cs) cs v (sub-within (not-naming-sub x cs)))
@@ -111,6 +111,7 @@ module _ (n : ℕ) (P : List (List Literal) → List ℕ → List (List Literal)
 
 -- ── What is left ──────────────────────────────────────────────────────────────────────────────────────────────────────
 
+-- a sub-list is left
 pub left-sub : (n : ℕ) (cs : List (List Literal)) → Sublistᴰ (stripped n cs .left) cs
 left-sub n =
     strip-ind n (λ cs l left. Sublistᴰ left cs) (λ cs _. Sublistᴰ·refl cs) (λ cs left l x _ _ s. Sublistᴰ·trans s (not-naming-sub x cs))
@@ -151,6 +152,7 @@ left-greatest n ds cs s np = left-keeps n ds cs s (none-noted n ds np cs (sub-wi
 
 -- ── What is noted ─────────────────────────────────────────────────────────────────────────────────────────────────────
 
+-- a noted variable is named
 pub noted-named : (n : ℕ) (cs : List (List Literal)) (y : ℕ) → among (stripped n cs .noted) y ≡ true → named cs y ≡ true
 noted-named n =
     strip-ind n (λ cs l left. (y : ℕ) → among l y ≡ true → named cs y ≡ true)

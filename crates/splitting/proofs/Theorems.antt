@@ -147,8 +147,12 @@ pub open-means : (n : ℕ) (cs : List (List Literal)) (t : List Literal) → n �
     × ((b : Bool) → (opened (choice n (full n) cs t) b ≡ true) ↔ ((a : ℕ) × Model n cs a × Agrees (bit a) t × (bit a (choice n (full n) cs t .variable) ≡ b)))
 open-means n cs t fits over T short S =
     let low = nodes.clauses-below n cs over in
-    let w = opens.choice-new n cs t fits low T S short in
-    (w .0, w .1, λ b. (opens.open-model n cs t fits low T S short b, λ m. opens.model-open n cs t fits low T S b (m .0) (m .1) (m .2) (m .3)))
+    let w = opens.full-new n cs t fits low S T short in
+    (w .0, w .1, λ b. (opens.open-model n (full n) cs t fits low S T w b, λ m. opens.model-open n (full n) cs t b (m .0) (m .1) (m .2) (m .3)))
+
+-- So some value is open at every sound node.
+pub some-open : (n settle : ℕ) (cs : List (List Literal)) (t : List Literal) → Sound n (remaining t cs) → (b : Bool) × (opened (choice n settle cs t) b ≡ true)
+some-open n settle cs t S = opens.some-open n settle cs t S
 
 -- One choice makes at most n × m × (m + 1) expansions, m the formula's clauses.
 pub choice-cost : (n settle : ℕ) (cs : List (List Literal)) (t : List Literal) → n ≤ 64 → Below n cs

@@ -94,7 +94,7 @@ matched-passes n cs v fits low M =
     let decided : (b : Bool) → succeeds (matched (assign v b cs)) ≡ true = λ b. matched-succeeds n (assign v b cs) fits (below-assign n v b cs low) (M b) in
     subst (λ s. tried cs v s .passes ≡ true) (sym (decided false)) (decided true)
 
-pub trial-cost : (n m : ℕ) (cs : List (List Literal)) (v : ℕ) → n ≤ 64 → Below n cs → length cs ≤ m → trial cs v .cost ≤ m * suc m
+trial-cost : (n m : ℕ) (cs : List (List Literal)) (v : ℕ) → n ≤ 64 → Below n cs → length cs ≤ m → trial cs v .cost ≤ m * suc m
 unfolding trial
 trial-cost n m cs v fits low few = go (succeeds (matched (assign v false cs)))
   where
