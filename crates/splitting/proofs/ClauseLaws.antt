@@ -14,7 +14,7 @@ use Rattle.formula.proofs.ClauseLaws.{named-as}
 use Rattle.splitting.specs.Nodes.{less, occurs, named}
 use Rattle.splitting.specs.Stripping.{pure}
 
--- ── One clause ────────────────────────────────────────────────────────────────────────────────────────────────────────
+-- ── One clause ───────────────────────────────────────────────────────────────────────────────────────────────────────
 
 -- a literal names its variable
 pub literal-names : (c : List Literal) (l : Literal) → List·Memᴰ l c → names-as c (l .variable) (l .positive) ≡ true
@@ -73,7 +73,7 @@ names-some (l ∷ c) v t =
 pub names-none : (c : List Literal) (v : ℕ) → names c v ≡ false → (s : Bool) → names-as c v s ≡ false
 names-none c v f s = ⊎-elim (λ t. clash (named-as c v s t) f) (λ e. e) (look (names-as c v s))
 
--- ── A clause less a variable ──────────────────────────────────────────────────────────────────────────────────────────
+-- ── A clause less a variable ─────────────────────────────────────────────────────────────────────────────────────────
 
 less-self : (x : ℕ) (c : List Literal) (s : Bool) → names-as (less x c) x s ≡ false
 unfolding less names-as
@@ -99,7 +99,7 @@ less-of x c y s t =
     let ne : y ≡ x → ⊥ = λ e. clash t (subst (λ z. names-as (less x c) z s ≡ false) (sym e) (less-self x c s)) in
     (sym (less-other x c y s ne) ∙ t, ne)
 
--- ── A list of clauses ─────────────────────────────────────────────────────────────────────────────────────────────────
+-- ── A list of clauses ────────────────────────────────────────────────────────────────────────────────────────────────
 
 -- what occurs is named by some clause
 pub occurs-some : (cs : List (List Literal)) (v : ℕ) (s : Bool) → occurs cs v s ≡ true → (c : List Literal) × List·Memᴰ c cs × (names-as c v s ≡ true)
@@ -160,7 +160,7 @@ named-by cs c v m t = let w = names-some c v t in named-in cs v (w .0) (occurs-i
 pub named-within : (ds cs : List (List Literal)) (v : ℕ) → Within ds cs → named ds v ≡ true → named cs v ≡ true
 named-within ds cs v w t = let s = named-some ds v t in named-in cs v (s .0) (occurs-within ds cs v (s .0) w (s .1))
 
--- ── Pure variables ────────────────────────────────────────────────────────────────────────────────────────────────────
+-- ── Pure variables ───────────────────────────────────────────────────────────────────────────────────────────────────
 
 -- a variable that is not pure occurs both ways or not at all
 pub not-pure : (cs : List (List Literal)) (v : ℕ) → pure cs v ≡ false → occurs cs v true ≡ occurs cs v false

@@ -29,7 +29,7 @@ use Rattle.splitting.proofs.StrippingLaws.{not-naming-in, strip-ind}
 use Rattle.splitting.proofs.NodeLaws.{assign-in, assign-of, named-assign, named-remaining}
 use Rattle.splitting.proofs.MatchedLaws.{matches-names}
 
--- ── Assigning ─────────────────────────────────────────────────────────────────────────────────────────────────────────
+-- ── Assigning ────────────────────────────────────────────────────────────────────────────────────────────────────────
 
 -- what satisfies the clauses satisfies what an assignment leaves of them, if it has the value
 pub satisfies-assign : (a : ℕ → Bool) (v : ℕ) (b : Bool) (cs : List (List Literal)) → Satisfies a cs → a v ≡ b → Satisfies a (assign v b cs)
@@ -129,7 +129,7 @@ given-satisfies a v b cs sat =
     (satisfies-same a (under (given v b) a) (assign v b cs) (λ w h. sym (given-other v b a w (named-assign v b cs w h .1))) sat)
     (given-same v b a)
 
--- ── Stripping ─────────────────────────────────────────────────────────────────────────────────────────────────────────
+-- ── Stripping ────────────────────────────────────────────────────────────────────────────────────────────────────────
 
 -- a pure variable gets the value that it is named with
 pure-satisfies : (cs : List (List Literal)) (x : ℕ) (s : Bool) (a : ℕ → Bool) → occurs cs x (not s) ≡ false → Satisfies a (not-naming x cs) → Satisfies (under (given x s) a) cs
@@ -154,7 +154,7 @@ left-satisfies n a =
     let s = pure-ways cs x p in
     (under (given x (s .0)) (w .0), pure-satisfies cs x (s .0) (w .0) (s .2) (w .1)))
 
--- ── Matchings ─────────────────────────────────────────────────────────────────────────────────────────────────────────
+-- ── Matchings ────────────────────────────────────────────────────────────────────────────────────────────────────────
 
 -- matched clauses can be satisfied: each by its own variable
 pub matched-satisfies : (cs : List (List Literal)) → Matched (map variables cs) → (a : ℕ → Bool) × Satisfies a cs
@@ -181,7 +181,7 @@ matched-satisfies cs (vs, M) = (λ x. names-as (getD cs (owner vs x - 1) []) x t
         own c v false t =
             ⊎-elim (λ (h : names-as c v true ≡ true). rw h h) (λ (f : names-as c v true ≡ false). rw f t) (look (names-as c v true))
 
--- ── Models ────────────────────────────────────────────────────────────────────────────────────────────────────────────
+-- ── Models ───────────────────────────────────────────────────────────────────────────────────────────────────────────
 
 -- the mask of the variables below n that a makes true
 unfoldable pub mask : ℕ → (ℕ → Bool) → ℕ

@@ -17,7 +17,7 @@ use Rattle.splitting.specs.Choosing.{emptied}
 use Rattle.splitting.proofs.Terms.{Below}
 use Rattle.splitting.proofs.ClauseLaws.{literal-names, names-literal, less-of, occurs-some, occurs-in, named-some, named-in}
 
--- ── One assignment ────────────────────────────────────────────────────────────────────────────────────────────────────
+-- ── One assignment ───────────────────────────────────────────────────────────────────────────────────────────────────
 
 -- a clause that v = b does not satisfy leaves what is left of it
 pub assign-in : (v : ℕ) (b : Bool) (cs : List (List Literal)) (c : List Literal) → List·Memᴰ c cs → names-as c v b ≡ false → List·Memᴰ (less v c) (assign v b cs)
@@ -115,7 +115,7 @@ length-assign v b (c ∷ cs) = go (names-as c v b) (length-assign v b cs)
     go true h = omega arith
     go false h = omega arith
 
--- ── Empty clauses ─────────────────────────────────────────────────────────────────────────────────────────────────────
+-- ── Empty clauses ────────────────────────────────────────────────────────────────────────────────────────────────────
 
 -- where a clause is emptied, the list has the empty one
 pub emptied-some : (cs : List (List Literal)) → emptied cs ≡ true → List·Memᴰ {A = List Literal} [] cs
@@ -135,7 +135,7 @@ emptied-none ((l ∷ d) ∷ cs) f c m =
     first : (l : Literal) (d : List Literal) → names (l ∷ d) (l .variable) ≡ true
     first l d = named-as (l ∷ d) (l .variable) (l .positive) (literal-names (l ∷ d) l (List·Memᴰ·head refl))
 
--- ── Trails ────────────────────────────────────────────────────────────────────────────────────────────────────────────
+-- ── Trails ───────────────────────────────────────────────────────────────────────────────────────────────────────────
 
 -- one more assignment
 pub remaining-snoc : (t : List Literal) (l : Literal) (cs : List (List Literal)) → remaining (t ++ (l ∷ [])) cs ≡ assign (l .variable) (l .positive) (remaining t cs)
@@ -163,7 +163,7 @@ unfolding remaining
 length-remaining [] cs = omega arith
 length-remaining (l ∷ t) cs = omega (arith, length-remaining t (assign (l .variable) (l .positive) cs), length-assign (l .variable) (l .positive) cs)
 
--- ── Formulas ──────────────────────────────────────────────────────────────────────────────────────────────────────────
+-- ── Formulas ─────────────────────────────────────────────────────────────────────────────────────────────────────────
 
 -- a formula over n variables names only those below n
 pub clauses-below : (n : ℕ) (cs : List (List Literal)) → Every (ClauseOver n) cs → Below n cs

@@ -14,7 +14,7 @@ use Rattle.matching.proofs.Counting.{look, clash, or-l, or-r}
 use Rattle.splitting.specs.Nodes.{first-from, lowest-with, upward-from, upward}
 use Rattle.splitting.specs.Choosing.{among, last}
 
--- ── The lowest ────────────────────────────────────────────────────────────────────────────────────────────────────────
+-- ── The lowest ───────────────────────────────────────────────────────────────────────────────────────────────────────
 
 first-some : (f : ℕ → Bool) (v k : ℕ) → first-from f v k < v + k → f (first-from f v k) ≡ true
 unfolding first-from
@@ -52,7 +52,7 @@ lowest-found f n i l t =
     (λ h. clash t (lowest-none f n (ltb-false (lowest-with f n) n h) i l))
     (look (ltb (lowest-with f n) n))
 
--- ── Lists of variables ────────────────────────────────────────────────────────────────────────────────────────────────
+-- ── Lists of variables ───────────────────────────────────────────────────────────────────────────────────────────────
 
 -- the first is on the list
 pub among-here : (x : ℕ) (l : List ℕ) → among (x ∷ l) x ≡ true
@@ -107,7 +107,7 @@ last-append [] x r = refl
 last-append (y ∷ []) x r = refl
 last-append (y ∷ (z ∷ l)) x r = last-append (z ∷ l) x r
 
--- ── Upward ────────────────────────────────────────────────────────────────────────────────────────────────────────────
+-- ── Upward ───────────────────────────────────────────────────────────────────────────────────────────────────────────
 
 upward-from-of : (f : ℕ → Bool) (v k x : ℕ) → among (upward-from f v k) x ≡ true → (v ≤ x) × (x < v + k) × (f x ≡ true)
 unfolding upward-from

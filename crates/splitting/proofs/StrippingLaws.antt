@@ -18,7 +18,7 @@ use Rattle.splitting.proofs.ClauseLaws.{names-some, names-none, occurs-
 use Rattle.splitting.proofs.CountLaws.{count-le, count-drop}
 use Rattle.splitting.proofs.SearchLaws.{lowest-some, lowest-none, among-here, among-more, among-cases, among-none, last-among}
 
--- ── The clauses that do not name a variable ───────────────────────────────────────────────────────────────────────────
+-- ── The clauses that do not name a variable ──────────────────────────────────────────────────────────────────────────
 
 not-naming-sub : (x : ℕ) (cs : List (List Literal)) → Sublistᴰ (not-naming x cs) cs
 unfolding not-naming
@@ -82,7 +82,7 @@ falls n x cs l t =
     (pure-named cs x t)
     (⊎-elim (λ h. let w = named-some (not-naming x cs) x h in clash (w .1) (not-naming-off x cs (w .0))) (λ f. f) (look (named (not-naming x cs) x)))
 
--- ── Induction along the stripping ─────────────────────────────────────────────────────────────────────────────────────
+-- ── Induction along the stripping ────────────────────────────────────────────────────────────────────────────────────
 
 abbrev Of : (List (List Literal) → List ℕ → List (List Literal) → Type 0) → List (List Literal) → Stripped → Type 0
 Of P cs s = P cs (s .noted) (s .left)
@@ -109,7 +109,7 @@ module _ (n : ℕ) (P : List (List Literal) → List ℕ → List (List Literal)
   pub strip-ind : (cs : List (List Literal)) → P cs (stripped n cs .noted) (stripped n cs .left)
   strip-ind cs = strip-from n cs (count-le (named cs) n)
 
--- ── What is left ──────────────────────────────────────────────────────────────────────────────────────────────────────
+-- ── What is left ─────────────────────────────────────────────────────────────────────────────────────────────────────
 
 -- a sub-list is left
 pub left-sub : (n : ℕ) (cs : List (List Literal)) → Sublistᴰ (stripped n cs .left) cs
@@ -150,7 +150,7 @@ left-keeps n ds cs s off =
 pub left-greatest : (n : ℕ) (ds cs : List (List Literal)) → Sublistᴰ ds cs → NonePure ds → Sublistᴰ ds (stripped n cs .left)
 left-greatest n ds cs s np = left-keeps n ds cs s (none-noted n ds np cs (sub-within s))
 
--- ── What is noted ─────────────────────────────────────────────────────────────────────────────────────────────────────
+-- ── What is noted ────────────────────────────────────────────────────────────────────────────────────────────────────
 
 -- a noted variable is named
 pub noted-named : (n : ℕ) (cs : List (List Literal)) (y : ℕ) → among (stripped n cs .noted) y ≡ true → named cs y ≡ true
@@ -172,7 +172,7 @@ unnoted-left n cs c =
     (λ cs left l x _ _ rec m off. rec (not-naming-in x cs c m (off x (among-here x l))) (λ y t. off y (among-more y x l t)))
     cs
 
--- ── Lemma 4.5 of the source ───────────────────────────────────────────────────────────────────────────────────────────
+-- ── Lemma 4.5 of the source ──────────────────────────────────────────────────────────────────────────────────────────
 
 -- where x stands in the rest of a list, if it is the last or stands nowhere
 tail-case : (x y : ℕ) (l : List ℕ) → (among (y ∷ l) x ≡ false) ⊎ (last (y ∷ l) ≡ x) → (among l x ≡ false) ⊎ (last l ≡ x)

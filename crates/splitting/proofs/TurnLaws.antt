@@ -19,8 +19,8 @@ use Rattle.splitting.proofs.StrippingLaws.{falls}
 abbrev turn : ℕ → ℕ → List (List Literal) → Bool → Stripped
 turn k n cs b =
     elim b [
-      true ↦ note (lowest-with (pure cs) n) (strip k n (not-naming (lowest-with (pure cs) n) cs))
-    | false ↦ record { noted = []; left = cs }
+      | true ↦ note (lowest-with (pure cs) n) (strip k n (not-naming (lowest-with (pure cs) n) cs))
+      | false ↦ record { noted = []; left = cs }
     ]
 
 strip-next : (k n : ℕ) (cs : List (List Literal)) → lowest-with (pure cs) n < n
