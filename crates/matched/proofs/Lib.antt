@@ -1,2 +1,4 @@
+pub mod Demands
 pub mod GatherLaws
 pub mod JudgeLaws
+pub mod PairingLaws

@@ -1,2 +1,3 @@
 pub mod InnerGather
 pub mod Judge
+pub mod Pairing

@@ -44,7 +44,7 @@ pub record Violator (sets taken : List ℕ) : Type 0 where
   pub tight : suc (size (union (chosen (marks (length sets) taken) sets))) ≡ length taken
   pub critical : (i : ℕ) → i < length taken → Matched (chosen (set (marks (length sets) taken) (at taken i) 0) sets)
 
-words-chosen : (marks sets : List ℕ) → Words sets → Words (chosen marks sets)
+pub words-chosen : (marks sets : List ℕ) → Words sets → Words (chosen marks sets)
 words-chosen marks sets W i h = let w = chosen-from marks sets i h in rw (w .4) (W (w .0) (w .2))
 
 -- a violator is not matched

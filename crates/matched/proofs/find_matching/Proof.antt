@@ -6,43 +6,31 @@ use Rattle.matched.specs.Judge.{Judged}
 use Rattle.matched.proofs.JudgeLaws.{judge-accepted, judge-refused, judge-short}
 use Rattle.matched.proofs.find_matching.Statement.{statement}
 use Rattle.matched.proofs.find_matching.Tie as tie
-use Rattle.matched.proofs.find_matching.Reads as reads
-use Rattle.matched.proofs.find_matching.Lts as lts
-use Rattle.formula.proofs.decode.Reads as decode-reads
-use Rattle.matched.proofs.judge_formula.Reads as judge-formula-reads
 
 accepted : (c : tie.After-f) → Accepts (c .before .before .before .before .before .before .before .args .input .now) (c .before .before .before .decode .result .formula)
 accepted c = decoded-accepted _ _ (c .before .before .before .decode .ensures) (c .before .enum-told .given .1)
 
--- src/lib.rt:72:9
 returns : tie.Need-returns
 returns c = let e = judge-short (c .before .before .before .args .input .now) (c .before .before .before .args .buffer .now) (c .if1 .taken) in (ap (λ (j : Judged). j .answer) (sym e), ap (λ (j : Judged). j .buffer) (sym e))
 
--- src/lib.rt:74:9
 decode-requires : tie.Need-decode-requires
 decode-requires c κs = search needs
 
--- src/lib.rt:77:26
 enum-known-outcome : tie.Need-enum-known-outcome
 enum-known-outcome c = search needs
 
--- src/lib.rt:79:17
 enum-told : tie.Need-enum-told
 enum-told c = search needs
 
--- src/lib.rt:80:13
 judge-formula-requires : tie.Need-judge-formula-requires
 judge-formula-requires c κs = (accepted (c .before) .fits, search needs)
 
--- src/lib.rt:67:1
 returns-2 : tie.Need-returns-2
 returns-2 c = let e = judge-refused (c .before .before .before .before .before .before .before .args .input .now) (c .before .before .before .before .before .before .before .args .buffer .now) _ (c .before .before .before .before .if1 .left) (decoded-refused _ _ _ (c .before .before .before .decode .ensures) (c .before .outcome .given .1)) in (ap (λ (j : Judged). j .answer) (sym e), ap (λ (j : Judged). j .buffer) (sym e))
 
--- src/lib.rt:67:1
 same-length : tie.Need-same-length
 same-length c = search needs
 
--- src/lib.rt:67:1
 returns-3 : tie.Need-returns-3
 returns-3 c = let e = judge-accepted (c .before .before .before .before .before .before .before .before .before .before .before .args .input .now) (c .before .before .before .before .before .before .before .before .before .before .before .args .buffer .now) _ (c .before .before .before .before .before .before .before .before .if1 .left) (accepted (c .before .before .before .before)) in (c .before .before .judge-formula .ensures .0 ∙ ap (λ (j : Judged). j .answer) (sym e), c .before .before .judge-formula .ensures .1 ∙ ap (λ (j : Judged). j .buffer) (sym e))
 

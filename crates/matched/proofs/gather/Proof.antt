@@ -10,8 +10,6 @@ use Rattle.matched.specs.InnerGather.{sets-of}
 use Rattle.matched.proofs.GatherLaws.{padded-tabulated}
 use Rattle.matched.proofs.gather.Statement.{statement}
 use Rattle.matched.proofs.gather.Tie as tie
-use Rattle.matched.proofs.gather.Reads as reads
-use Rattle.matched.proofs.gather.Lts as lts
 
 abbrev Inv-loop : tie.InvT-loop
 Inv-loop f sets₀ i₀ sets i = (i ≤ f .count) × (sets ≡ padded 96 0 (sets-of (f .clauses) i))
@@ -19,40 +17,31 @@ Inv-loop f sets₀ i₀ sets i = (i ≤ f .count) × (sets ≡ padded 96 0 (sets
 abbrev μ-loop : tie.MeasureT-loop
 μ-loop f sets₀ i₀ sets i = f .count - i
 
--- src/lib.rt:26:5
 loop-holds : tie.Need-loop-holds Inv-loop μ-loop
 unfolding padded tabulated
 loop-holds c = (search needs, refl)
 
--- src/lib.rt:27:17
 mul-c : tie.Need-mul-c Inv-loop μ-loop
 mul-c c = search needs
 
--- src/lib.rt:27:17
 element-copy-out-c : tie.Need-element-copy-out-c Inv-loop μ-loop
 element-copy-out-c c = search needs
 
--- src/lib.rt:28:9
 mul-sets : tie.Need-mul-sets Inv-loop μ-loop
 mul-sets c = search needs
 
--- src/lib.rt:28:9
 array-write-sets : tie.Need-array-write-sets Inv-loop μ-loop
 array-write-sets c = search needs
 
--- src/lib.rt:29:9
 add-i : tie.Need-add-i Inv-loop μ-loop
 add-i c = search needs
 
--- src/lib.rt:26:5
 loop-less : tie.Need-loop-less Inv-loop μ-loop
 loop-less c = search needs
 
--- src/lib.rt:26:5
 loop-again : tie.Need-loop-again Inv-loop μ-loop
 loop-again c = let v = c .before .before .before .loop in (search needs, padded-tabulated _ (v .i) 96 0 (v .sets) (v .inv .1) (omega arith))
 
--- src/lib.rt:21:1
 returns : tie.Need-returns Inv-loop μ-loop
 returns c = let e : c .before .loop .i ≡ c .before .before .args .t1 .count = omega arith in rw e at (c .before .loop .inv .1)
 

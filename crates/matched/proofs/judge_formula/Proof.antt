@@ -11,11 +11,6 @@ use Rattle.matched.specs.Judge.{Judged}
 use Rattle.matched.proofs.JudgeLaws.{sets-clauses, sets-taken, complete-written, failed-written}
 use Rattle.matched.proofs.judge_formula.Statement.{statement}
 use Rattle.matched.proofs.judge_formula.Tie as tie
-use Rattle.matched.proofs.judge_formula.Reads as reads
-use Rattle.matched.proofs.judge_formula.Lts as lts
-use Rattle.matched.proofs.gather.Reads as gather-reads
-use Rattle.matched.proofs.write.Reads as write-reads
-use Rattle.matching.proofs.match_sets.Reads as match-sets-reads
 
 -- the matching is that of the formula's sets
 matching : (c : tie.After-match-sets) → c .match-sets .result ≡ packed (c .before .before .before .before .args .f .count) (outcome (sets-of (c .before .before .before .before .args .f .clauses) (c .before .before .before .before .args .f .count)))
@@ -24,35 +19,27 @@ matching c =
     ∙ ap (λ l. packed (c .before .before .before .before .args .f .count) (outcome l))
     (ap (take (c .before .before .before .before .args .f .count)) (c .before .before .gather .ensures) ∙ sets-taken (c .before .before .before .before .args .f) (c .before .before .before .before .pre .0))
 
--- src/lib.rt:54:16
 gather-requires : tie.Need-gather-requires
 gather-requires c κs = search needs
 
--- src/lib.rt:55:9
 match-sets-requires : tie.Need-match-sets-requires
 match-sets-requires c κs = rw (c .before .gather .ensures) (sets-clauses (c .before .before .before .args .f) (c .before .before .before .pre .0))
 
--- src/lib.rt:58:9
 write-requires : tie.Need-write-requires
 write-requires c κs = let w = complete-written (c .before .before .before .before .before .before .before .args .f) (c .before .before .before .before .before .before .before .pre .0) _ (matching (c .before .before .before)) (c .before .if1 .taken) in (c .before .before .before .before .before .before .before .pre .0 .few, search needs, w .small)
 
--- src/lib.rt:59:9
 same-length : tie.Need-same-length
 same-length c = search needs
 
--- src/lib.rt:59:9
 returns : tie.Need-returns
 returns c = let w = complete-written (c .before .before .before .before .before .before .before .before .before .before .args .f) (c .before .before .before .before .before .before .before .before .before .before .pre .0) _ (matching (c .before .before .before .before .before .before)) (c .before .before .before .before .if1 .taken) in (ap (λ (j : Judged). j .answer) (sym (w .judged _)), c .before .before .write .ensures ∙ ap (λ (j : Judged). j .buffer) (sym (w .judged _)))
 
--- src/lib.rt:61:5
 write-requires-2 : tie.Need-write-requires-2
 write-requires-2 c κs = let w = failed-written (c .before .before .before .before .before .before .before .args .f) (c .before .before .before .before .before .before .before .pre .0) _ (matching (c .before .before .before)) (c .before .if1 .left) in (c .before .before .before .before .before .before .before .pre .0 .few, search needs, w .small)
 
--- src/lib.rt:48:1
 same-length-2 : tie.Need-same-length-2
 same-length-2 c = search needs
 
--- src/lib.rt:48:1
 returns-2 : tie.Need-returns-2
 returns-2 c = let w = failed-written (c .before .before .before .before .before .before .before .before .before .before .args .f) (c .before .before .before .before .before .before .before .before .before .before .pre .0) _ (matching (c .before .before .before .before .before .before)) (c .before .before .before .before .if1 .left) in (ap (λ (j : Judged). j .answer) (sym (w .judged _)), c .before .before .write2 .ensures ∙ ap (λ (j : Judged). j .buffer) (sym (w .judged _)))
 

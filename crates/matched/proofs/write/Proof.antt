@@ -12,8 +12,6 @@ use Rattle.matched.specs.InnerGather.{raised}
 use Rattle.matched.proofs.GatherLaws.{over-tabulated}
 use Rattle.matched.proofs.write.Statement.{statement}
 use Rattle.matched.proofs.write.Tie as tie
-use Rattle.matched.proofs.write.Reads as reads
-use Rattle.matched.proofs.write.Lts as lts
 
 abbrev Inv-loop : tie.InvT-loop
 Inv-loop n k buffer₀ table i₀ buffer i = (i ≤ n) × (length buffer ≡ length buffer₀) × (buffer ≡ over (raised k table i) buffer₀)
@@ -21,40 +19,31 @@ Inv-loop n k buffer₀ table i₀ buffer i = (i ≤ n) × (length buffer ≡ len
 abbrev μ-loop : tie.MeasureT-loop
 μ-loop n k buffer₀ table i₀ buffer i = n - i
 
--- src/lib.rt:40:5
 loop-holds : tie.Need-loop-holds Inv-loop μ-loop
 unfolding tabulated
 loop-holds c = (search needs, refl, refl)
 
--- src/lib.rt:41:21
 array-read-buffer : tie.Need-array-read-buffer Inv-loop μ-loop
 array-read-buffer c = search needs
 
--- src/lib.rt:41:21
 add-buffer : tie.Need-add-buffer Inv-loop μ-loop
 add-buffer c = omega (arith, c .before .before .pre .2 (c .before .loop .i) (c .loop-test .taken))
 
--- src/lib.rt:41:9
 slice-write-buffer : tie.Need-slice-write-buffer Inv-loop μ-loop
 slice-write-buffer c = omega arith
 
--- src/lib.rt:42:9
 add-i : tie.Need-add-i Inv-loop μ-loop
 add-i c = search needs
 
--- src/lib.rt:40:5
 loop-less : tie.Need-loop-less Inv-loop μ-loop
 loop-less c = search needs
 
--- src/lib.rt:40:5
 loop-again : tie.Need-loop-again Inv-loop μ-loop
 loop-again c = let v = c .before .loop in (search needs, simp length-set (v .inv .1), over-tabulated _ (v .i) (c .before .before .args .buffer .now) (v .buffer) (v .inv .2) (omega arith))
 
--- src/lib.rt:35:1
 same-length : tie.Need-same-length Inv-loop μ-loop
 same-length c = c .before .loop .inv .1
 
--- src/lib.rt:35:1
 returns : tie.Need-returns Inv-loop μ-loop
 returns c = let e : c .before .loop .i ≡ c .before .before .args .n = omega arith in rw e at (c .before .loop .inv .2)
 
