@@ -116,7 +116,7 @@ empty-below n true = pow-pos n
 empty-below n false = pow-pos n
 
 -- what is named one way is named
-named-as : (c : List Literal) (v : ℕ) (sign : Bool) → names-as c v sign ≡ true → names c v ≡ true
+pub named-as : (c : List Literal) (v : ℕ) (sign : Bool) → names-as c v sign ≡ true → names c v ≡ true
 unfolding names names-as
 named-as [] v sign e = e
 named-as (l ∷ c) v sign e =

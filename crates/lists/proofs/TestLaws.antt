@@ -1,6 +1,6 @@
 -- Laws of tests: what a conjunction or a disjunction that holds says of its parts, and equality of numbers.
 use Prim.Native.Nat.{ℕ}
-use mathlib.Core.Bool.{Bool, true, false, _&&_, _||_}
+use mathlib.Core.Bool.{Bool, true, false, not, _&&_, _||_}
 use mathlib.Core.Logic.{_⊎_, inl, inr}
 use mathlib.Core.Path.{_≡_, refl, sym, _∙_}
 use native.Mathlib.Decide.{ℕ-discrete}
@@ -40,3 +40,10 @@ eqb-comm a b = go (ℕ-discrete a b)
     go : Dec (a ≡ b) → eqb a b ≡ eqb b a
     go (yes e) = rw e
     go (no n) = ne-eqb a b n ∙ sym (ne-eqb b a (λ e. n (sym e)))
+
+-- what holds of a sign and of the other one holds of both
+pub both-signs : (P : Bool → Type 0) (s : Bool) → P s → P (not s) → (t : Bool) → P t
+both-signs P true p q true = p
+both-signs P true p q false = q
+both-signs P false p q true = q
+both-signs P false p q false = p

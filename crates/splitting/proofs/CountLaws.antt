@@ -1,0 +1,53 @@
+-- Laws of counting: smaller sets, and sets that miss a number or have them all.
+use Prim.Native.Nat.{ℕ, zero, suc, _≤_, _<_}
+use mathlib.Core.Path.{_≡_, refl}
+use mathlib.Core.Bool.{Bool, true, false, not}
+use mathlib.Core.Logic.{⊎-elim}
+use native.Mathlib.Omega.{arith}
+use lib.Dec.{eqb}
+use Rattle.lists.proofs.TestLaws.{and-left}
+use Rattle.matching.proofs.Counting.{look, clash, below-cases, count, count-all, count-except, except, except-i, pigeon}
+
+-- what is in a set without a is in the set
+pub except-of : (f : ℕ → Bool) (a i : ℕ) → except f a i ≡ true → f i ≡ true
+unfolding except
+except-of f a i e = and-left (f i) (not (eqb i a)) e
+
+-- a smaller set does not count more
+pub count-sub : (f g : ℕ → Bool) (n : ℕ) → ((i : ℕ) → f i ≡ true → g i ≡ true) → count f n ≤ count g n
+count-sub f g n sub = pigeon f n g n (λ i. i) (λ i l t. (l, sub i t)) (λ i j _ _ _ _ e. e)
+
+-- below n there are at most n
+pub count-le : (f : ℕ → Bool) (n : ℕ) → count f n ≤ n
+count-le f n = omega (arith, count-sub f (λ _. true) n (λ i _. refl), count-all n)
+
+-- without a it counts less
+pub count-drop : (f g : ℕ → Bool) (n a : ℕ) → ((i : ℕ) → f i ≡ true → g i ≡ true) → a < n → g a ≡ true → f a ≡ false → count f n < count g n
+count-drop f g n a sub l t off =
+    omega (arith, count-except g a n l t, count-sub f (except g a) n (λ i h. except-i g a i (sub i h) (λ e. clash h (rw e off))))
+
+-- what counts less than all misses one
+pub count-missing : (f : ℕ → Bool) (n : ℕ) → count f n < n → (i : ℕ) × (i < n) × (f i ≡ false)
+unfolding count
+count-missing f zero h = absurd (omega arith)
+count-missing f (suc n) h =
+    ⊎-elim
+    (λ (t : f n ≡ true). let w = count-missing f n (let z = (rw t at h) in omega arith) in (w .0, omega (arith, w .1), w .2))
+    (λ (e : f n ≡ false). (n, omega arith, e))
+    (look (f n))
+
+-- what counts all misses none
+pub count-full : (f : ℕ → Bool) (n : ℕ) → count f n ≡ n → (i : ℕ) → i < n → f i ≡ true
+unfolding count
+count-full f zero h i l = absurd (omega arith)
+count-full f (suc n) h i l =
+    ⊎-elim
+    (λ (t : f n ≡ true). ⊎-elim (λ (e : i ≡ n). rw e t) (λ (k : i < n). count-full f n (let z = (rw t at h) in omega arith) i k) (below-cases l))
+    (λ (e : f n ≡ false). let q = count-le f n in let z = (rw e at h) in absurd (omega arith))
+    (look (f n))
+
+-- nothing counts nothing
+pub count-none : (f : ℕ → Bool) (n : ℕ) → ((i : ℕ) → f i ≡ false) → count f n ≡ 0
+unfolding count
+count-none f zero none = refl
+count-none f (suc n) none = let e = count-none f n none in rw (none n) (omega arith)

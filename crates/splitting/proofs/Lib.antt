@@ -1,0 +1,16 @@
+pub mod Terms
+pub mod ClauseLaws
+pub mod CountLaws
+pub mod SearchLaws
+pub mod StrippingLaws
+pub mod TurnLaws
+pub mod NodeLaws
+pub mod CoreLaws
+pub mod MatchedLaws
+pub mod ModelLaws
+pub mod SoundLaws
+pub mod TrialLaws
+pub mod ChoiceLaws
+pub mod TrailLaws
+pub mod OpenLaws
+pub mod Theorems

@@ -1,0 +1,95 @@
+-- 01, 'Which switch is settled next': the choice at a node of a formula of n variables.
+use Prim.Native.Nat.{ℕ, _+_}
+use mathlib.Core.Bool.{Bool, true, false, not, cond, _&&_, _||_}
+use mathlib.Core.List.{List, [], _∷_, _++_, map}
+use lib.Dec.{eqb}
+use Rattle.masks.specs.Mask.{bit}
+use Rattle.matching.specs.Search.{Outcome, outcome, succeeds, expansions}
+use Rattle.formula.specs.Format.{Literal, names}
+use Rattle.formula.specs.Masked.{variables}
+use Rattle.splitting.specs.declared.Choice.{Choice}
+use Rattle.splitting.specs.Nodes.{assign, remaining, named, lowest-with, upward}
+use Rattle.splitting.specs.Stripping.{Stripped, stripped}
+
+-- ---- a trial
+
+-- the clauses are matched (01: paired) from nothing
+unfoldable pub matched : List (List Literal) → Outcome
+matched cs = outcome (map variables cs)
+
+-- both succeed, and the expansions of what was tried
+pub record Trial : Type 0 where
+  pub passes : Bool
+  pub cost : ℕ
+
+-- 'A trial pairs the left rules with the switch off, and if that succeeds, with it on.'
+unfoldable pub trial : List (List Literal) → ℕ → Trial
+trial cs v =
+    elim (succeeds (matched (assign v false cs))) [
+      | true ↦ record {
+        passes = succeeds (matched (assign v true cs));
+        cost = expansions (matched (assign v false cs)) + expansions (matched (assign v true cs));
+      }
+      | false ↦ record { passes = false; cost = expansions (matched (assign v false cs)) }
+    ]
+
+-- ---- the choice
+
+-- a variable of which both values are open
+abbrev pub both-open : ℕ → ℕ → Choice
+both-open v e = record { variable = v; false_open = true; true_open = true; expansions = e }
+
+-- 'The first switch for which both succeed is chosen. Both values are open.' The expansions are those of all trials made, failed
+-- ones too.
+unfoldable pub first-passing : List (List Literal) → List ℕ → ℕ → Choice
+first-passing cs [] e = both-open 0 e
+first-passing cs (v ∷ vs) e =
+    elim (trial cs v .passes) [ true ↦ both-open v (e + trial cs v .cost) | false ↦ first-passing cs vs (e + trial cs v .cost) ]
+
+-- 'Something is left: try its switches upward.'
+unfoldable pub candidates : ℕ → List (List Literal) → List ℕ
+candidates n left = upward (named left) n
+
+-- v is on the list
+unfoldable pub among : List ℕ → ℕ → Bool
+among [] v = false
+among (x ∷ l) v = eqb x v || among l v
+
+-- 'list the noted switches in order, then the other switches named at this place, upward'
+unfoldable pub listed : ℕ → List (List Literal) → List ℕ → List ℕ
+listed n cs noted = noted ++ upward (λ v. named cs v && not (among noted v)) n
+
+-- the last of a list, or 0
+unfoldable pub last : List ℕ → ℕ
+last [] = 0
+last (x ∷ []) = x
+last (x ∷ (y ∷ l)) = last (y ∷ l)
+
+-- some clause is empty
+unfoldable pub emptied : List (List Literal) → Bool
+emptied [] = false
+emptied ([] ∷ cs) = true
+emptied ((l ∷ c) ∷ cs) = emptied cs
+
+-- 'The last in that list is chosen. A value is open if it empties no rule'
+unfoldable pub last-listed : List (List Literal) → ℕ → Choice
+last-listed cs v =
+    record { variable = v; false_open = not (emptied (assign v false cs)); true_open = not (emptied (assign v true cs)); expansions = 0 }
+
+-- clauses remain: by whether stripping leaves some
+abbrev pub by-left : ℕ → List (List Literal) → List ℕ → List (List Literal) → Choice
+by-left n cs noted [] = last-listed cs (last (listed n cs noted))
+by-left n cs noted (c ∷ left) = first-passing (c ∷ left) (candidates n (c ∷ left)) 0
+
+-- 'No rule remains: the lowest unsettled switch is chosen, both values open.'
+abbrev pub by-remaining : ℕ → (ℕ → Bool) → List (List Literal) → Choice
+by-remaining n unassigned [] = both-open (lowest-with unassigned n) 0
+by-remaining n unassigned (c ∷ cs) = by-left n (c ∷ cs) (stripped n (c ∷ cs) .noted) (stripped n (c ∷ cs) .left)
+
+-- the variables of the mask that are to be assigned and that the trail has not
+abbrev pub unassigned-of : ℕ → List Literal → ℕ → Bool
+unassigned-of settle t v = bit settle v && not (names t v)
+
+-- the choice at the node of the trail t; `settle` has the variables that a model covers
+unfoldable pub choice : ℕ → ℕ → List (List Literal) → List Literal → Choice
+choice n settle cs t = by-remaining n (unassigned-of settle t) (remaining t cs)

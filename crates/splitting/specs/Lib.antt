@@ -1,0 +1,4 @@
+pub mod Nodes
+pub mod Stripping
+pub mod Choosing
+pub mod Cases
