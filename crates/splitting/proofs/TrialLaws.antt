@@ -12,7 +12,6 @@ use Rattle.lists.proofs.EveryLaws.{every-of}
 use Rattle.matching.specs.Matched.{Matched, Words}
 use Rattle.matching.specs.Search.{succeeds, expansions}
 use Rattle.matching.proofs.Counting.{clash}
-use Rattle.matching.proofs.Theorems.{outcome-cost}
 use Rattle.formula.specs.Format.{Literal}
 use Rattle.formula.specs.Masked.{variables}
 use Rattle.formula.proofs.ClauseLaws.{variables-lt, named-as}
@@ -26,7 +25,7 @@ use Rattle.splitting.proofs.NodeLaws.{below-assign, length-assign}
 use Rattle.splitting.proofs.MatchedLaws.{variables-at}
 use Rattle.matching.proofs.Theorems as theorems
 
--- ── One matching ──────────────────────────────────────────────────────────────────────────────────────────────────────
+-- ── One matching ─────────────────────────────────────────────────────────────────────────────────────────────────────
 
 -- the masks are below 2 ^ 64
 words : (n : ℕ) (cs : List (List Literal)) → n ≤ 64 → Below n cs → Words (map variables cs)
@@ -56,17 +55,17 @@ matched-cost n m cs fits low few =
     let c = theorems.outcome-cost (map variables cs) (words n cs fits low) in
     omega arith
 
--- ── One trial ─────────────────────────────────────────────────────────────────────────────────────────────────────────
+-- ── One trial ────────────────────────────────────────────────────────────────────────────────────────────────────────
 
 -- a trial, by whether v = false succeeds
 abbrev tried : List (List Literal) → ℕ → Bool → Trial
 tried cs v s =
     elim s [
-      true ↦ record {
+      | true ↦ record {
         passes = succeeds (matched (assign v true cs));
         cost = expansions (matched (assign v false cs)) + expansions (matched (assign v true cs));
       }
-    | false ↦ record { passes = false; cost = expansions (matched (assign v false cs)) }
+      | false ↦ record { passes = false; cost = expansions (matched (assign v false cs)) }
     ]
 
 -- a trial that passes leaves the clauses matched for both values
@@ -77,9 +76,11 @@ passes-matched n cs v fits low t = go (succeeds (matched (assign v false cs))) r
   where
     decided : (b : Bool) → succeeds (matched (assign v b cs)) ≡ true → Matched (map variables (assign v b cs))
     decided b h = succeeds-matched n (assign v b cs) fits (below-assign n v b cs low) h
+
     both : succeeds (matched (assign v false cs)) ≡ true → succeeds (matched (assign v true cs)) ≡ true → (b : Bool) → Matched (map variables (assign v b cs))
     both e f false = decided false e
     both e f true = decided true f
+
     go : (s : Bool) → succeeds (matched (assign v false cs)) ≡ s → tried cs v s .passes ≡ true → (b : Bool) → Matched (map variables (assign v b cs))
     go true e t = both e t
     go false e t = clash t refl
@@ -92,17 +93,18 @@ matched-passes n cs v fits low M =
     let decided : (b : Bool) → succeeds (matched (assign v b cs)) ≡ true = λ b. matched-succeeds n (assign v b cs) fits (below-assign n v b cs low) (M b) in
     subst (λ s. tried cs v s .passes ≡ true) (sym (decided false)) (decided true)
 
-pub trial-cost : (n m : ℕ) (cs : List (List Literal)) (v : ℕ) → n ≤ 64 → Below n cs → length cs ≤ m → trial cs v .cost ≤ m * suc m
+trial-cost : (n m : ℕ) (cs : List (List Literal)) (v : ℕ) → n ≤ 64 → Below n cs → length cs ≤ m → trial cs v .cost ≤ m * suc m
 unfolding trial
 trial-cost n m cs v fits low few = go (succeeds (matched (assign v false cs)))
   where
     each : (b : Bool) → 2 * expansions (matched (assign v b cs)) ≤ m * suc m
     each b = matched-cost n m (assign v b cs) fits (below-assign n v b cs low) (let l = length-assign v b cs in omega arith)
+
     go : (s : Bool) → tried cs v s .cost ≤ m * suc m
     go true = omega (arith, each false, each true)
     go false = omega (arith, each false)
 
--- ── The candidates ────────────────────────────────────────────────────────────────────────────────────────────────────
+-- ── The candidates ───────────────────────────────────────────────────────────────────────────────────────────────────
 
 -- The candidates are exactly the variables that the left clauses name, whatever their order.
 pub candidates-named : (n : ℕ) (left : List (List Literal)) (v : ℕ) → among (candidates n left) v ≡ true → named left v ≡ true
@@ -118,7 +120,7 @@ pub candidates-length : (n : ℕ) (left : List (List Literal)) → length (candi
 unfolding candidates
 candidates-length n left = upward-length (named left) n
 
--- ── The first that passes ─────────────────────────────────────────────────────────────────────────────────────────────
+-- ── The first that passes ────────────────────────────────────────────────────────────────────────────────────────────
 
 -- the choice, by whether the trial of the first passes
 abbrev chosen : List (List Literal) → List ℕ → ℕ → ℕ → Bool → Choice
@@ -133,8 +135,9 @@ first-passes cs (x ∷ vs) e v m t = go (λ k. first-passes cs vs (e + trial cs 
   where
     Ok : ℕ → Type 0
     Ok w = (among (x ∷ vs) w ≡ true) × (trial cs w .passes ≡ true)
+
     go : (among vs v ≡ true
-          → (among vs (first-passing cs vs (e + trial cs x .cost) .variable) ≡ true) × (trial cs (first-passing cs vs (e + trial cs x .cost) .variable) .passes ≡ true))
+        → (among vs (first-passing cs vs (e + trial cs x .cost) .variable) ≡ true) × (trial cs (first-passing cs vs (e + trial cs x .cost) .variable) .passes ≡ true))
         → (p : Bool) → trial cs x .passes ≡ p → Ok (chosen cs vs e x p .variable)
     go rec true h = (among-here x vs, h)
     go rec false h =
@@ -151,6 +154,7 @@ first-open cs (x ∷ vs) e = go (first-open cs vs (e + trial cs x .cost)) (trial
   where
     Ok : Choice → Type 0
     Ok c = (c .false_open ≡ true) × (c .true_open ≡ true)
+
     go : Ok (first-passing cs vs (e + trial cs x .cost)) → (p : Bool)
         → Ok (chosen cs vs e x p)
     go rec true = (refl, refl)
