@@ -12,3 +12,4 @@ pub mod ByteLaws
 pub mod AcceptLaws
 pub mod AssignmentLaws
 pub mod TreeLaws
+pub mod FormulaLaws
