@@ -1,5 +1,5 @@
 -- The walk calls on a readable, matched input: no call is refused, and the calls are those of the plain machine.
-use Prim.Native.Nat.{ℕ, zero, suc, _+_, _*_, _≤_, _<_}
+use Prim.Native.Nat.{ℕ, zero, suc, _+_, _*_, _-_, _≤_, _<_}
 use mathlib.Core.Bool.{Bool, true, false, cond, true≢false}
 use mathlib.Core.List.{List, [], _∷_, _++_, map, List·Memᴰ, List·Memᴰ·cases-cons, List·Memᴰ·not-nil, List·Memᴰ·append-cases, List·Memᴰ·eq-of-singleton}
 use mathlib.Core.Logic.{_⊎_, inl, inr, ⊎-elim, _↔_}
@@ -34,8 +34,9 @@ use Rattle.walk.proofs.PositionLaws.{behind-of}
 use Rattle.walk.proofs.AgreeLaws.{behind-after, At, at-start, at-every, Same, call-same}
 use Rattle.walk.proofs.ListingLaws.{Agrees, walk-lists, walk-distinct, node-model}
 use Rattle.walk.proofs.CallLaws.{call-effect, resumes, last-position, results, brought-first, brought-all, never-spent}
-use Rattle.walk.proofs.PaceLaws.{step-cheap, pace}
-use Rattle.walk.proofs.MetLaws.{down-quiet, all-got}
+use Rattle.walk.proofs.CostLaws.{walk-cheap}
+use Rattle.walk.proofs.PaceLaws.{pace}
+use Rattle.walk.proofs.MetLaws.{down-quiet, down-spent, all-got}
 use Rattle.walk.proofs.AcceptLaws.{stack-replayed, shown-accepted, call-shown, Stopped, accepted-stopped, stopped-accepted}
 use Rattle.walk.proofs.ByteLaws.{Below}
 use Rattle.walk.proofs.TreeLaws.{walk-same, agrees-trail, trail-below, live, splits, cheap}
@@ -49,12 +50,14 @@ matched-success {n} {cs} Z M = at (outcome (map variables cs)) refl (matched-suc
     at (failure taken e) q t = absurd (true≢false (sym t ∙ ap succeeds q))
 
 module _ (n : ℕ) (cs : List (List Literal)) where
-  -- the checkpoint for the entries behind is that of the position
+  -- the mode and the trail behind k entries, and their checkpoint, are those of the position
+  at-behind : {k : ℕ} {p : Position} → At (tree n cs) k p → behind n cs k ≡ behind-of p
+  unfolding behind behind-after
+  at-behind {k} a = ap (λ (l : List Entry). past-all (record { mode = 0; trail = [] }) (take k l)) (walk-same n cs) ∙ a .shown
+
   at-checkpoint : {k : ℕ} {p : Position} → At (tree n cs) k p → checkpoint-after n cs k ≡ shown p
-  unfolding checkpoint-after behind behind-after
-  at-checkpoint {k} {p} a =
-      ap (λ (b : Behind). checkpoint-of (b .mode) (b .trail))
-        (ap (λ (l : List Entry). past-all (record { mode = 0; trail = [] }) (take k l)) (walk-same n cs) ∙ a .shown)
+  unfolding checkpoint-after
+  at-checkpoint a = ap (λ (b : Behind). checkpoint-of (b .mode) (b .trail)) (at-behind a)
 
   rest-start : rest (tree n cs) (down empty) ≡ plain-walk n cs
   unfolding rest node up walk
@@ -200,14 +203,59 @@ module _ (s : List ℕ) (n : ℕ) (cs : List (List Literal)) (reads : decode s �
 
   -- behind every entry the assigned variables stand as in some model
   pub behind-model : (k : ℕ) → (a : ℕ) × Model n cs a × terms.Agrees (bit a) (behind n cs k .trail)
-  unfolding behind behind-after
-  behind-model k = {! !}
+  behind-model k =
+      let x = at-every (tree n cs) alive k in
+      let t = stack-of (x .0) in
+      let r = stack-replayed (tree n cs) (x .0) (x .1 .fine) in
+      let d = replayed-depth (tree n cs) (stack-of (x .0)) r in
+      let w = node-model (tree n cs) (Model n cs) (splits n cs sized M) alive (n - depth (stack-of (x .0))) (stack-of (x .0)) r (omega arith) in
+      (w .0, w .1, rw (at-behind n cs (x .1)) (agrees-trail (w .0) (stack-of (x .0)) (w .2)))
 
   -- the pace over all calls together
   pub calls-paced : (bs : List ℕ) → Paced n (n * length cs * (length cs + 1)) (gaps (walk-calls s start bs))
-  calls-paced bs = rw (calls-results bs) (pace (tree n cs) alive (n * length cs * (length cs + 1)) (λ t r h. cheap n cs sized M t) bs)
+  calls-paced bs = rw (calls-results bs) (pace (tree n cs) alive (n * length cs * (length cs + 1)) (cheap n cs sized M) bs)
 
   -- 96 steps are enough
+  not-spent : (a : Answer) → (kind-of a ≡ says-spent → ⊥) → (kind-of a ≡ says-model) ⊎ (kind-of a ≡ says-ended)
+  not-spent (found a) h = inl refl
+  not-spent spent h = absurd (h refl)
+  not-spent ended h = inr refl
+
   pub calls-ample : (bs : List ℕ) (b : ℕ) → 96 ≤ b
       → (walk-call s (last-checkpoint s start bs) b .kind ≡ says-model) ⊎ (walk-call s (last-checkpoint s start bs) b .kind ≡ says-ended)
-  calls-ample bs b h = {! !}
+  calls-ample bs b h =
+      let a = standing-at bs in
+      rw (last-plain bs, at-checkpoint n cs a, call-goes b (standing bs) (a .fine) (standing-quiet bs))
+        (not-spent (resume (tree n cs) b (standing bs) .answer) (never-spent (tree n cs) alive b (standing bs) (a .fine) (omega (arith, small))))
+
+  -- the test passes exactly the checkpoints that the walk has
+  accepted-has : (c : Checkpoint) → length (c .bytes) ≡ 48 → accepts (tree n cs) c ≡ true → Has n cs c
+  accepted-has c h e =
+      let w = accepted-stopped (tree n cs) alive small low c h e in
+      let g = all-got (tree n cs) alive (w .position) (w .fine) (w .quiet) in
+      (g .0, at-checkpoint n cs (standing-at (g .0)) ∙ ap shown (g .1) ∙ w .shows)
+
+  has-accepted : (c : Checkpoint) → Has n cs c → accepts (tree n cs) c ≡ true
+  has-accepted c w =
+      let a = standing-at (w .0) in
+      stopped-accepted (tree n cs) alive small low c
+        (record { position = standing (w .0); fine = a .fine; quiet = standing-quiet (w .0); shows = sym (at-checkpoint n cs a) ∙ w .1 })
+
+  -- so 11 is given exactly for the others
+  pub foreign : (c : Checkpoint) (b : ℕ) → (Has n cs c → ⊥) → length (c .bytes) ≡ 48 → walk-call s c b ≡ refusing (ForeignCheckpoint 0) c
+  foreign c b f h = at (accepts (tree n cs) c) refl
+    where
+      at : (x : Bool) → accepts (tree n cs) c ≡ x → walk-call s c b ≡ refusing (ForeignCheckpoint 0) c
+      at true e = absurd (f (accepted-has c h e))
+      at false e = call-is c b ∙ ap (λ (x : Bool). cond x (call-from (tree n cs) c b) (refusing (ForeignCheckpoint 0) c)) e
+
+  pub has-number : (c : Checkpoint) (b : ℕ) → Has n cs c → walk-call s c b .number ≡ 0
+  has-number c b w = rw (call-is c b, has-accepted c w)
+
+  -- the start checkpoint on budget 0
+  pub start-zero : walk-call s start 0 ≡ answered spent 0 0 start
+  start-zero = rw start-shown (call-goes 0 (down empty) tt start-quiet ∙ ap resumed-result (down-spent (tree n cs) alive empty (sized .some)))
+
+  -- the expansions of one assignment
+  pub assignment-cheap : (l : Literal) (e : ℕ) → List·Memᴰ (assign l e) (plain-walk n cs) → e ≤ n * length cs * (length cs + 1)
+  assignment-cheap l e m = walk-cheap (tree n cs) (n * length cs * (length cs + 1)) (cheap n cs sized M) l e (rw (walk-same n cs) at m)

@@ -5,6 +5,7 @@ pub mod AgreeLaws
 pub mod ListingLaws
 pub mod CallLaws
 pub mod PartingLaws
+pub mod CostLaws
 pub mod PaceLaws
 pub mod MetLaws
 pub mod TestLaws
