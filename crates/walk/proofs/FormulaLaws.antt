@@ -249,8 +249,17 @@ module _ (s : List ℕ) (n : ℕ) (cs : List (List Literal)) (reads : decode s �
       at true e = absurd (f (accepted-has c h e))
       at false e = call-is c b ∙ ap (λ (x : Bool). cond x (call-from (tree n cs) c b) (refusing (ForeignCheckpoint 0) c)) e
 
-  pub has-number : (c : Checkpoint) (b : ℕ) → Has n cs c → walk-call s c b .number ≡ 0
+  has-number : (c : Checkpoint) (b : ℕ) → Has n cs c → walk-call s c b .number ≡ 0
   has-number c b w = rw (call-is c b, has-accepted c w)
+
+  pub foreign-number : (c : Checkpoint) (b : ℕ) → length (c .bytes) ≡ 48 → (walk-call s c b .number ≡ 11) ↔ (Has n cs c → ⊥)
+  foreign-number c b h =
+      ( λ e w. let z = has-number c b w in omega arith
+      , λ f. ap (λ (r : Result). r .number) (foreign c b f h) )
+
+  -- the checkpoints that the walk has are those that calls from the start return
+  pub has-returned : (c : Checkpoint) → Has n cs c ↔ ((bs : List ℕ) × (last-checkpoint s start bs ≡ c))
+  has-returned c = (λ w. (w .0, last-plain (w .0) ∙ w .1), λ w. (w .0, sym (last-plain (w .0)) ∙ w .1))
 
   -- the start checkpoint on budget 0
   pub start-zero : walk-call s start 0 ≡ answered spent 0 0 start

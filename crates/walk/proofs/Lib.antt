@@ -14,3 +14,5 @@ pub mod AcceptLaws
 pub mod AssignmentLaws
 pub mod TreeLaws
 pub mod FormulaLaws
+pub mod RefusalLaws
+pub mod Demands
