@@ -22,6 +22,7 @@ use Rattle.walk.specs.Checkpoints.{Checkpoint, start, behind, checkpoint
 use Rattle.walk.specs.PlainMachine.{spent, plain-call, plain-calls, state-after, Has}
 use Rattle.walk.specs.WalkCall.{says-model, says-ended, says-refused, Result, answered, refusing, plain-result, walk-call, walk-calls, last-checkpoint}
 use Rattle.walk.specs.Gaps.{brought, SaysEnded, gaps, Paced}
+use Rattle.walk.specs.Proper.{Proper}
 use Rattle.walk.proofs.FormulaLaws as laws
 use Rattle.walk.proofs.RefusalLaws as refusals
 
@@ -80,6 +81,10 @@ module _ (s : List ℕ) (n : ℕ) (cs : List (List Literal)) (reads : decode s �
   -- The checkpoints that the walk has are the start checkpoint and those that calls return.
   pub returned : (c : Checkpoint) → Has n cs c ↔ ((bs : List ℕ) × (last-checkpoint s start bs ≡ c))
   returned c = laws.has-returned s n cs reads M c
+
+  -- Told by themselves: a trail by choice with open values, the mode's own condition, the bytes of that trail, and 0 behind them.
+  pub proper : (c : Checkpoint) → Has n cs c ↔ Proper n cs c
+  proper c = laws.has-proper s n cs reads M c
 
   -- 'start marker, budget 0, pairable sheet: spent'
   pub start-zero : walk-call s start 0 ≡ answered spent 0 0 start

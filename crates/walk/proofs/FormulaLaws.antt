@@ -26,6 +26,7 @@ use Rattle.walk.specs.Checkpoints.{Checkpoint, Behind, checkpoint-of, st
 use Rattle.walk.specs.PlainMachine.{Answer, found, spent, ended, Call, go-on, plain-call, plain-calls, state-after, Has}
 use Rattle.walk.specs.WalkCall.{Kind, says-model, says-spent, says-ended, says-refused, Result, kind-of, answered, refusing, plain-result, resumed-result, call-from, walk-call, walk-calls, last-checkpoint}
 use Rattle.walk.specs.Gaps.{brought, SaysEnded, gaps, Paced}
+use Rattle.walk.specs.Proper.{Proper}
 use Rattle.walk.specs.InnerStack.{Stack, empty, push, depth, trail-of, Tree, tree}
 use Rattle.walk.specs.InnerMachine.{Position, down, next, Resumed, resume}
 use Rattle.walk.specs.InnerTest.{stack-of, mode-of, shown, accepts}
@@ -38,6 +39,7 @@ use Rattle.walk.proofs.CostLaws.{walk-cheap}
 use Rattle.walk.proofs.PaceLaws.{pace}
 use Rattle.walk.proofs.MetLaws.{down-quiet, down-spent, all-got}
 use Rattle.walk.proofs.AcceptLaws.{stack-replayed, shown-accepted, call-shown, Stopped, accepted-stopped, stopped-accepted}
+use Rattle.walk.proofs.ProperLaws.{stop-proper, proper-stop}
 use Rattle.walk.proofs.ByteLaws.{Below}
 use Rattle.walk.proofs.TreeLaws.{walk-same, agrees-trail, trail-below, live, splits, cheap}
 
@@ -260,6 +262,14 @@ module _ (s : List ℕ) (n : ℕ) (cs : List (List Literal)) (reads : decode s �
   -- the checkpoints that the walk has are those that calls from the start return
   pub has-returned : (c : Checkpoint) → Has n cs c ↔ ((bs : List ℕ) × (last-checkpoint s start bs ≡ c))
   has-returned c = (λ w. (w .0, last-plain (w .0) ∙ w .1), λ w. (w .0, sym (last-plain (w .0)) ∙ w .1))
+
+  -- and are the proper ones
+  pub has-proper : (c : Checkpoint) → Has n cs c ↔ Proper n cs c
+  has-proper c =
+      ( λ w. let a = standing-at (w .0) in stop-proper n cs alive (standing (w .0)) c (a .fine) (standing-quiet (w .0)) (sym (at-checkpoint n cs a) ∙ w .1)
+      , λ w. let x = proper-stop n cs alive c w in
+          let g = all-got (tree n cs) alive (x .0) (x .1) (x .2) in
+          (g .0, at-checkpoint n cs (standing-at (g .0)) ∙ ap shown (g .1) ∙ x .3) )
 
   -- the start checkpoint on budget 0
   pub start-zero : walk-call s start 0 ≡ answered spent 0 0 start

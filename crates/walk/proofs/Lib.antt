@@ -13,6 +13,7 @@ pub mod ByteLaws
 pub mod AcceptLaws
 pub mod AssignmentLaws
 pub mod TreeLaws
+pub mod ProperLaws
 pub mod FormulaLaws
 pub mod RefusalLaws
 pub mod Demands

@@ -6,3 +6,4 @@ pub mod InnerMachine
 pub mod InnerTest
 pub mod WalkCall
 pub mod Gaps
+pub mod Proper
