@@ -1,20 +1,19 @@
 -- The test passes exactly the checkpoints of the positions at which a call can stop; a call from such a checkpoint goes on from the
 -- position. Over any tree of at most 48 variables.
-use Prim.Native.Nat.{ℕ, _≤_, _<_}
-use mathlib.Core.Bool.{Bool, true, false, _&&_}
-use mathlib.Core.List.{List, [], _∷_, map}
-use mathlib.Core.Path.{_≡_, refl, sym, ap, ap₂, _∙_, subst}
+use Prim.Native.Nat.{ℕ, _≤_}
+use mathlib.Core.Bool.{true, false}
+use mathlib.Core.Path.{_≡_, refl, ap, ap₂, _∙_, subst}
 use native.Mathlib.Omega.{arith}
 use lib.ListN.{length}
 use Rattle.lists.proofs.TestLaws.{and-left, and-right, and-both}
 use Rattle.walk.specs.Checkpoints.{Checkpoint, checkpoint-of}
-use Rattle.walk.specs.WalkCall.{Result, resumed-result, call-from}
-use Rattle.walk.specs.InnerStack.{Stack, empty, push, depth, trail-of, Tree}
+use Rattle.walk.specs.WalkCall.{resumed-result, call-from}
+use Rattle.walk.specs.InnerStack.{Stack, empty, push, trail-of, Tree}
 use Rattle.walk.specs.InnerMachine.{Position, down, full, back, over, next, resume}
 use Rattle.walk.specs.InnerTest.{mode-of, stack-of, shown, read, position-of, formed, fits, accepts}
 use Rattle.walk.proofs.RestLaws.{Quiet, Replayed, replayed-depth, Ok, Live}
 use Rattle.walk.proofs.PositionLaws.{position-back}
-use Rattle.walk.proofs.TestLaws.{Stop, fits-stop, stop-fits}
+use Rattle.walk.proofs.TestLaws.{fits-stop, stop-fits}
 use Rattle.walk.proofs.ByteLaws.{Below, read-written, written-formed, formed-written, formed-mode}
 
 mode-le : (p : Position) → mode-of p ≤ 4

@@ -1,20 +1,17 @@
 -- The resumable machine agrees with the plain one: k entries behind, and standing at p. Over any tree.
-use Prim.Native.Nat.{ℕ, zero, suc, _+_, _-_, _<_}
-use mathlib.Core.Bool.{Bool, true, false}
+use Prim.Native.Nat.{ℕ, zero, suc, _+_, _<_}
 use mathlib.Core.List.{List, [], _∷_, _++_}
 use mathlib.Core.Logic.{_⊎_, inl, inr}
-use mathlib.Core.Path.{_≡_, refl, sym, ap, _∙_, subst}
+use mathlib.Core.Path.{_≡_, refl, ap, _∙_, subst}
 use native.Mathlib.Nat.{sub-zero}
-use native.Mathlib.Omega.{arith}
-use lib.ListN.{length, take, drop}
+use lib.ListN.{take, drop}
 use Rattle.lists.proofs.DropLaws.{drop-next, take-next, drop-none, take-none}
-use Rattle.formula.specs.Format.{Literal}
 use Rattle.walk.specs.Plain.{Entry, assign, undo, model, end}
 use Rattle.walk.specs.Checkpoints.{Behind, past, past-all}
 use Rattle.walk.specs.PlainMachine.{Answer, found, spent, ended, Call, at-once, after-step, go-on}
-use Rattle.walk.specs.InnerStack.{Stack, empty, push, depth, trail-of, Tree}
-use Rattle.walk.specs.InnerMachine.{Position, down, full, back, over, Next, nothing, hands, ends, steps, next, Resumed, halted, stepped, onward, resume}
-use Rattle.walk.proofs.RestLaws.{seen, Quiet, walk, node, up, rest, Replayed, Ok, Live, Kind, Goes, Step, step}
+use Rattle.walk.specs.InnerStack.{empty, trail-of, Tree}
+use Rattle.walk.specs.InnerMachine.{Position, down, over, steps, next, Resumed, halted, stepped, resume}
+use Rattle.walk.proofs.RestLaws.{seen, Quiet, walk, node, up, rest, Ok, Live, Goes, Step, step}
 use Rattle.walk.proofs.PositionLaws.{behind-of, past-next, Lands, lands}
 
 past-append : (p : Behind) (a b : List Entry) → past-all p (a ++ b) ≡ past-all (past-all p a) b

@@ -1,7 +1,7 @@
 -- Laws of a trail's literals and of its assignment as a number.
-use Prim.Native.Nat.{ℕ, zero, suc, _+_, _/_, _^_, _≤_, _<_}
-use mathlib.Core.Bool.{Bool, true, false, cond, not, _||_, true≢false}
-use mathlib.Core.List.{List, [], _∷_, _++_, List·Memᴰ, List·Memᴰ·head, List·Memᴰ·tail, List·Memᴰ·cases-cons, List·Memᴰ·not-nil}
+use Prim.Native.Nat.{ℕ, _/_, _^_, _<_}
+use mathlib.Core.Bool.{Bool, true, false, cond, _||_, true≢false}
+use mathlib.Core.List.{List, [], _∷_, List·Memᴰ, List·Memᴰ·head, List·Memᴰ·tail, List·Memᴰ·cases-cons, List·Memᴰ·not-nil}
 use mathlib.Core.Logic.{_⊎_, inl, inr, ⊎-elim}
 use mathlib.Core.Path.{_≡_, refl, sym, ap, _∙_, subst}
 use native.Mathlib.Nat.{div-lt-iff-lt-mul}
@@ -13,8 +13,8 @@ use borrow.Author.Tests.{eqb-true, eqb-false, eq-eqb, not-false}
 use Rattle.lists.specs.Every.{Every}
 use Rattle.lists.proofs.TestLaws.{or-cases, or-right, or-false}
 use Rattle.masks.specs.Mask.{bit, with}
-use Rattle.masks.proofs.BitLaws.{bit-none, bit-with-same, bit-with-other, bit-above, mask-ext, with-lt}
-use Rattle.formula.specs.Format.{Literal, names, distinct, ClauseOver}
+use Rattle.masks.proofs.BitLaws.{bit-none, bit-with-same, bit-with-other, mask-ext, with-lt}
+use Rattle.formula.specs.Format.{Literal, names, distinct}
 use Rattle.formula.specs.Models.{Model}
 use Rattle.formula.proofs.FormatLaws.{distinct-rest, clause-more}
 use Rattle.formula.proofs.LengthLaws.{clause-le}

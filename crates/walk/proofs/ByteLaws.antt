@@ -1,16 +1,15 @@
 -- A checkpoint's bytes: what is written is read back, and what is well formed is what was written.
 use Prim.Native.Nat.{ℕ, zero, suc, _+_, _-_, _≤_, _<_}
-use mathlib.Core.Bool.{Bool, true, false, cond, not, _&&_}
+use mathlib.Core.Bool.{Bool, true, false, cond, not}
 use mathlib.Core.List.{List, [], _∷_, _++_, append-assoc, append-nil, map, map-append}
-use mathlib.Core.Path.{_≡_, refl, sym, ap, ap₂, _∙_, subst}
+use mathlib.Core.Path.{_≡_, refl, sym, ap, ap₂, _∙_}
 use native.Mathlib.Omega.{arith}
 use lib.Dec.{eqb, leb}
-use lib.ListN.{length, take, drop, replicate, length-append, length-take, length-drop, length-map, take-append-drop}
-use borrow.Author.Tests.{eqb-true, eqb-false, eq-eqb, ne-eqb, leb-true, leb-false, le-leb, lt-leb, not-true}
+use lib.ListN.{length, take, drop, replicate, length-take, length-drop, length-map, take-append-drop}
+use borrow.Author.Tests.{eqb-true, eqb-false, ne-eqb, leb-true, le-leb, lt-leb, not-true}
 use Rattle.lists.specs.Padded.{padded}
-use Rattle.lists.proofs.PaddedLaws.{length-padded, take-padded, drop-padded}
+use Rattle.lists.proofs.PaddedLaws.{take-padded, drop-padded}
 use Rattle.lists.proofs.TestLaws.{and-left, and-right, and-both}
-use Rattle.formula.specs.Format.{Literal}
 use Rattle.walk.specs.Checkpoints.{Checkpoint, byte, checkpoint-of}
 use Rattle.walk.specs.InnerStack.{Stack, empty, push, depth, trail-of}
 use Rattle.walk.specs.InnerTest.{byte-number, byte-value, pushed, read, numbered, zeros, formed}

@@ -1,7 +1,7 @@
 -- 01's marked walks, computed from the plain machine. The calls have budgets of 96. A line is a model with its steps and expansions.
 use Prim.Native.Nat.{ℕ}
 use mathlib.Core.Bool.{true, false, xor}
-use mathlib.Core.List.{List, [], _∷_, map}
+use mathlib.Core.List.{[], _∷_, map}
 use mathlib.Core.Path.{_≡_, refl}
 use lib.ListN.{replicate}
 use Rattle.lists.specs.Padded.{padded}

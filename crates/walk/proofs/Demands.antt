@@ -1,6 +1,6 @@
 -- Demand 3 as one claim over a whole list of walk calls, its sentences in order; then what demands 1 and 2 ask of the walk.
 use Prim.Native.Nat.{ℕ, _+_, _*_, _≤_}
-use mathlib.Core.List.{List, [], _∷_, _++_, map, List·Memᴰ}
+use mathlib.Core.List.{List, _++_, map, List·Memᴰ}
 use mathlib.Core.Logic.{_⊎_, _↔_}
 use mathlib.Core.Path.{_≡_, sym, ap, _∙_}
 use lib.ListN.{length}
@@ -18,9 +18,9 @@ use Rattle.matched.specs.Judge.{refusal, judge}
 use Rattle.matched.specs.Pairing.{Pairs, Pairable}
 use Rattle.splitting.proofs.Terms.{Agrees}
 use Rattle.walk.specs.Plain.{assign, plain-walk, listing}
-use Rattle.walk.specs.Checkpoints.{Checkpoint, start, behind, checkpoint-after}
+use Rattle.walk.specs.Checkpoints.{Checkpoint, start, behind}
 use Rattle.walk.specs.PlainMachine.{spent, plain-call, plain-calls, state-after, Has}
-use Rattle.walk.specs.WalkCall.{says-model, says-ended, says-refused, Result, answered, refusing, plain-result, walk-call, walk-calls, last-checkpoint}
+use Rattle.walk.specs.WalkCall.{says-model, says-ended, says-refused, answered, refusing, plain-result, walk-call, walk-calls, last-checkpoint}
 use Rattle.walk.specs.Gaps.{brought, SaysEnded, gaps, Paced}
 use Rattle.walk.specs.Proper.{Proper}
 use Rattle.walk.proofs.FormulaLaws as laws

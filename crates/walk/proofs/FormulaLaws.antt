@@ -1,12 +1,12 @@
 -- The walk calls on a readable, matched input: no call is refused, and the calls are those of the plain machine.
-use Prim.Native.Nat.{ℕ, zero, suc, _+_, _*_, _-_, _≤_, _<_}
+use Prim.Native.Nat.{ℕ, _+_, _*_, _-_, _≤_}
 use mathlib.Core.Bool.{Bool, true, false, cond, true≢false}
-use mathlib.Core.List.{List, [], _∷_, _++_, map, List·Memᴰ, List·Memᴰ·cases-cons, List·Memᴰ·not-nil, List·Memᴰ·append-cases, List·Memᴰ·eq-of-singleton}
-use mathlib.Core.Logic.{_⊎_, inl, inr, ⊎-elim, _↔_}
-use mathlib.Core.Path.{_≡_, refl, sym, ap, ap₂, _∙_, subst}
+use mathlib.Core.List.{List, [], _∷_, _++_, map, List·Memᴰ}
+use mathlib.Core.Logic.{_⊎_, inl, inr, _↔_}
+use mathlib.Core.Path.{_≡_, refl, sym, ap, ap₂, _∙_}
 use native.Mathlib.Nat.{sub-zero}
 use native.Mathlib.Omega.{arith}
-use lib.ListN.{length, take, drop}
+use lib.ListN.{length, take}
 use Rattle.lists.specs.Distinct.{Distinct}
 use Rattle.lists.specs.Every.{Every}
 use Rattle.masks.specs.Mask.{bit}
@@ -21,16 +21,16 @@ use Rattle.formula.specs.Models.{Model}
 use Rattle.formula.proofs.Demands.{accepted-only}
 use Rattle.matched.proofs.PairingLaws.{masks-words}
 use Rattle.splitting.proofs.Terms as terms
-use Rattle.walk.specs.Plain.{Entry, assign, undo, model, end, value-walk, chosen, step-expansions, plain-walk, models-of, listing}
+use Rattle.walk.specs.Plain.{Entry, assign, plain-walk, models-of, listing}
 use Rattle.walk.specs.Checkpoints.{Checkpoint, Behind, checkpoint-of, start, past-all, behind, checkpoint-after}
-use Rattle.walk.specs.PlainMachine.{Answer, found, spent, ended, Call, go-on, plain-call, plain-calls, state-after, Has}
-use Rattle.walk.specs.WalkCall.{Kind, says-model, says-spent, says-ended, says-refused, Result, kind-of, answered, refusing, plain-result, resumed-result, call-from, walk-call, walk-calls, last-checkpoint}
+use Rattle.walk.specs.PlainMachine.{Answer, found, spent, ended, Call, plain-call, plain-calls, state-after, Has}
+use Rattle.walk.specs.WalkCall.{says-model, says-spent, says-ended, says-refused, Result, kind-of, answered, refusing, plain-result, resumed-result, call-from, walk-call, walk-calls, last-checkpoint}
 use Rattle.walk.specs.Gaps.{brought, SaysEnded, gaps, Paced}
 use Rattle.walk.specs.Proper.{Proper}
-use Rattle.walk.specs.InnerStack.{Stack, empty, push, depth, trail-of, Tree, tree}
-use Rattle.walk.specs.InnerMachine.{Position, down, next, Resumed, resume}
-use Rattle.walk.specs.InnerTest.{stack-of, mode-of, shown, accepts}
-use Rattle.walk.proofs.RestLaws.{Quiet, entries, walk, node, up, rest, Replayed, replayed-depth, Ok, Live}
+use Rattle.walk.specs.InnerStack.{Stack, empty, depth, trail-of, tree}
+use Rattle.walk.specs.InnerMachine.{Position, down, next, resume}
+use Rattle.walk.specs.InnerTest.{stack-of, shown, accepts}
+use Rattle.walk.proofs.RestLaws.{Quiet, walk, node, up, rest, Replayed, replayed-depth, Ok, Live}
 use Rattle.walk.proofs.PositionLaws.{behind-of}
 use Rattle.walk.proofs.AgreeLaws.{behind-after, At, at-start, at-every, Same, call-same}
 use Rattle.walk.proofs.ListingLaws.{Agrees, walk-lists, walk-distinct, node-model}
@@ -38,7 +38,7 @@ use Rattle.walk.proofs.CallLaws.{call-effect, resumes, last-position, r
 use Rattle.walk.proofs.CostLaws.{walk-cheap}
 use Rattle.walk.proofs.PaceLaws.{pace}
 use Rattle.walk.proofs.MetLaws.{down-quiet, down-spent, all-got}
-use Rattle.walk.proofs.AcceptLaws.{stack-replayed, shown-accepted, call-shown, Stopped, accepted-stopped, stopped-accepted}
+use Rattle.walk.proofs.AcceptLaws.{stack-replayed, shown-accepted, call-shown, accepted-stopped, stopped-accepted}
 use Rattle.walk.proofs.ProperLaws.{stop-proper, proper-stop}
 use Rattle.walk.proofs.ByteLaws.{Below}
 use Rattle.walk.proofs.TreeLaws.{walk-same, agrees-trail, trail-below, live, splits, cheap}

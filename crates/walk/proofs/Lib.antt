@@ -17,3 +17,4 @@ pub mod ProperLaws
 pub mod FormulaLaws
 pub mod RefusalLaws
 pub mod Demands
+pub mod LoopLaws

@@ -10,7 +10,6 @@ use Rattle.lists.specs.Distinct.{Distinct}
 use Rattle.lists.proofs.DistinctLaws.{distinct-append}
 use Rattle.masks.specs.Mask.{bit}
 use Rattle.formula.specs.Format.{Literal}
-use Rattle.splitting.specs.declared.Choice.{Choice}
 use Rattle.walk.specs.Plain.{Entry, assign, undo, model, end, value-walk, models-of}
 use Rattle.walk.specs.InnerStack.{Stack, empty, push, depth, Tree}
 use Rattle.walk.specs.InnerTest.{is-open}

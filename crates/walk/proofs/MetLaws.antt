@@ -5,14 +5,11 @@ use mathlib.Core.Bool.{Bool, true, false, cond}
 use mathlib.Core.List.{List, [], _∷_, _++_}
 use mathlib.Core.Path.{_≡_, refl, sym, ap, _∙_, subst}
 use native.Mathlib.Omega.{arith}
-use lib.Dec.{eqb}
 use borrow.Author.Tests.{ne-eqb}
-use Rattle.splitting.specs.declared.Choice.{Choice}
 use Rattle.walk.specs.Plain.{Entry, assign, undo, model, end}
 use Rattle.walk.specs.PlainMachine.{spent}
 use Rattle.walk.specs.InnerStack.{Stack, empty, push, depth, Tree}
-use Rattle.walk.specs.InnerMachine.{Position, down, full, back, over, Next, nothing, hands, ends, steps, rise, enter, descend, next, Resumed, halted, onward, resume}
-use Rattle.walk.specs.InnerTest.{is-open}
+use Rattle.walk.specs.InnerMachine.{Position, down, full, back, over, Next, nothing, hands, ends, steps, rise, enter, next, halted, onward, resume}
 use Rattle.walk.proofs.RestLaws.{Quiet, rest, up, half-shut, Replayed, replayed-depth, Ok, Live, Rising, from-full, from-back, Goes, model-goes, false-goes, true-goes, turn-goes, undo-goes, end-goes}
 use Rattle.walk.proofs.PositionLaws.{lands}
 use Rattle.walk.proofs.CallLaws.{last-position}

@@ -1,21 +1,19 @@
 -- Over all calls together: the steps and the expansions before the first model, between two, and before the end. Over any tree.
-use Prim.Native.Nat.{ℕ, zero, suc, _+_, _*_, _-_, _≤_, _<_}
-use mathlib.Core.Bool.{Bool, true, false, cond}
-use mathlib.Core.List.{List, [], _∷_, _++_, map}
-use mathlib.Core.Path.{_≡_, refl, sym, ap, _∙_, subst}
+use Prim.Native.Nat.{ℕ, suc, _+_, _*_, _-_, _≤_}
+use mathlib.Core.Bool.{Bool, true, false}
+use mathlib.Core.List.{List, [], _∷_}
+use mathlib.Core.Path.{_≡_, refl, subst}
 use native.Mathlib.Nat.{suc-mul, mul-le-mul-right}
 use native.Mathlib.Omega.{arith}
-use Rattle.formula.specs.Format.{Literal}
-use Rattle.splitting.specs.declared.Choice.{Choice}
-use Rattle.walk.specs.Plain.{Entry, assign, undo, model, end, step-expansions}
+use Rattle.walk.specs.Plain.{Entry, model, end}
 use Rattle.walk.specs.PlainMachine.{Answer, found, spent, ended}
-use Rattle.walk.specs.Checkpoints.{Checkpoint, checkpoint-of}
-use Rattle.walk.specs.WalkCall.{says-model, says-spent, says-ended, says-refused, Result, kind-of, resumed-result}
-use Rattle.walk.specs.Gaps.{Gap, to-model, to-end, so-far, gap-after, gaps-from, gaps, common, PacedLater, Paced}
+use Rattle.walk.specs.Checkpoints.{checkpoint-of}
+use Rattle.walk.specs.WalkCall.{kind-of}
+use Rattle.walk.specs.Gaps.{gap-after, gaps-from, gaps, common, PacedLater, Paced}
 use Rattle.walk.specs.InnerStack.{Stack, empty, push, depth, Tree}
-use Rattle.walk.specs.InnerMachine.{Position, down, full, back, over, Resumed, halted, stepped, resume}
+use Rattle.walk.specs.InnerMachine.{Position, down, full, back, over, Resumed, resume}
 use Rattle.walk.specs.InnerTest.{stack-of, shown}
-use Rattle.walk.proofs.RestLaws.{Replayed, replayed-depth, Ok, Live, Rising, from-full, from-back, k-model, k-assign, k-turn, k-undo, k-end, Goes}
+use Rattle.walk.proofs.RestLaws.{Replayed, replayed-depth, Ok, Live, from-full, from-back, k-model, k-assign, k-turn, k-undo, k-end}
 use Rattle.walk.proofs.RestLaws as rests
 use Rattle.walk.proofs.CallLaws.{Steps, s-assign, s-undo, call-ind, call-effect, resumes, results}
 use Rattle.walk.proofs.CostLaws.{step-cheap}

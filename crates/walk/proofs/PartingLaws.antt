@@ -1,17 +1,16 @@
 -- Where two trails part.
-use Prim.Native.Nat.{ℕ, zero, suc, _+_, _-_, _≤_, _<_}
-use mathlib.Core.Bool.{Bool, true, false, cond}
+use Prim.Native.Nat.{ℕ, suc, _+_, _-_, _≤_}
+use mathlib.Core.Bool.{Bool, true, false}
 use mathlib.Core.List.{List, [], _∷_, _++_, append-assoc, append-nil, map, map-append}
 use mathlib.Core.Path.{_≡_, refl, sym, ap, _∙_}
 use native.Mathlib.Omega.{arith}
-use lib.Dec.{eqb}
 use lib.ListN.{length, replicate, length-map}
 use borrow.Author.Tests.{eq-eqb, ne-eqb}
 use Rattle.lists.specs.Padded.{padded}
 use Rattle.formula.specs.Format.{Literal}
 use Rattle.walk.specs.Checkpoints.{byte}
 use Rattle.walk.specs.Gaps.{common}
-use Rattle.walk.specs.InnerStack.{Stack, empty, push, depth, trail-of}
+use Rattle.walk.specs.InnerStack.{Stack, push, depth, trail-of}
 use Rattle.walk.proofs.PositionLaws.{length-trail}
 
 -- the bytes of a trail

@@ -1,5 +1,5 @@
 -- Positions and what is shown of them: the mode and the trail behind one more entry, and the position that these give back.
-use Prim.Native.Nat.{ℕ, zero, suc, _+_, _<_}
+use Prim.Native.Nat.{ℕ, suc, _<_}
 use mathlib.Core.Bool.{Bool, true, false, cond}
 use mathlib.Core.List.{List, [], _∷_, _++_}
 use mathlib.Core.Path.{_≡_, refl, ap}
@@ -8,13 +8,12 @@ use lib.Dec.{eqb}
 use lib.ListN.{length, length-append}
 use borrow.Author.Tests.{eq-eqb}
 use Rattle.formula.specs.Format.{Literal}
-use Rattle.splitting.specs.declared.Choice.{Choice}
 use Rattle.walk.specs.Plain.{Entry, assign, undo, model, end}
-use Rattle.walk.specs.Checkpoints.{Behind, without-last, last-value, undone-mode, past}
+use Rattle.walk.specs.Checkpoints.{Behind, without-last, last-value, past}
 use Rattle.walk.specs.InnerStack.{Stack, empty, push, depth, trail-of, Tree}
-use Rattle.walk.specs.InnerMachine.{Position, down, full, back, over, Next, nothing, hands, ends, steps, rise, enter, descend, turn, next}
+use Rattle.walk.specs.InnerMachine.{Position, down, full, back, over, hands, descend, next}
 use Rattle.walk.specs.InnerTest.{mode-of, stack-of, position-of}
-use Rattle.walk.proofs.RestLaws.{Quiet, Replayed, Ok, Rising, from-full, from-back, Kind, k-model, k-assign, k-turn, k-undo, k-end}
+use Rattle.walk.proofs.RestLaws.{Quiet, Ok, Rising, from-full, from-back, Kind, k-model, k-assign, k-turn, k-undo, k-end}
 
 -- the last literal is dropped
 pub without-last-snoc : (t : List Literal) (l : Literal) → without-last (t ++ (l ∷ [])) ≡ t

@@ -1,20 +1,18 @@
 -- The checkpoints that the test passes are the proper ones.
 use Prim.Native.Nat.{ℕ, zero, suc, _+_, _<_, _≤_}
-use mathlib.Core.Bool.{Bool, true, false, cond, _||_, true≢false}
+use mathlib.Core.Bool.{Bool, true, false, cond, true≢false}
 use mathlib.Core.List.{List, [], _∷_, _++_, append-assoc, append-nil}
 use mathlib.Core.Logic.{_⊎_, inl, inr}
-use mathlib.Core.Path.{_≡_, refl, sym, ap, ap₂, _∙_, subst}
+use mathlib.Core.Path.{_≡_, refl, sym, ap₂, _∙_, subst}
 use native.Mathlib.Omega.{arith}
 use lib.Dec.{eqb}
-use lib.ListN.{length, length-append}
+use lib.ListN.{length}
 use borrow.Author.Tests.{eqb-true, eqb-false}
 use Rattle.masks.specs.Mask.{full}
 use Rattle.formula.specs.Format.{Literal}
-use Rattle.splitting.specs.declared.Choice.{Choice}
-use Rattle.splitting.specs.Choosing.{choice}
 use Rattle.walk.specs.Checkpoints.{Checkpoint, checkpoint-of}
 use Rattle.walk.specs.Proper.{at-node, ByChoice, ModeFits, Proper}
-use Rattle.walk.specs.InnerStack.{Stack, empty, push, depth, trail-of, Tree, tree}
+use Rattle.walk.specs.InnerStack.{Stack, empty, push, depth, trail-of, tree}
 use Rattle.walk.specs.InnerMachine.{Position, down, back, over, rise, enter, next}
 use Rattle.walk.specs.InnerMachine as machine
 use Rattle.walk.specs.InnerTest.{mode-of, stack-of, shown, is-open}

@@ -1,14 +1,10 @@
 -- Which inputs are walked at all: the refusals 2 to 10.
 use Prim.Native.Nat.{ℕ, _≤_}
-use mathlib.Core.Bool.{true, false}
 use mathlib.Core.List.{List, [], _∷_, map}
 use mathlib.Core.Logic.{_↔_}
-use mathlib.Core.Path.{_≡_, refl, sym, ap, _∙_}
-use native.Mathlib.Omega.{arith}
-use lib.Dec.{ltb}
+use mathlib.Core.Path.{_≡_, refl, ap}
 use lib.ListN.{length}
 use borrow.Author.Tests.{le-ltb}
-use Rattle.matching.specs.Matched.{Matched}
 use Rattle.matching.specs.Search.{Outcome, success, failure, outcome}
 use Rattle.matching.proofs.Theorems.{success-matches}
 use Rattle.formula.specs.declared.Refusal.{Refusal}
@@ -21,7 +17,7 @@ use Rattle.matched.specs.Judge.{refusal, judge}
 use Rattle.matched.specs.Pairing.{Pairs, Pairable}
 use Rattle.matched.proofs.PairingLaws.{masks-words, matches-pairs, pairs-matches}
 use Rattle.walk.specs.Checkpoints.{Checkpoint, start}
-use Rattle.walk.specs.WalkCall.{Kind, says-refused, Result, refusing, walk-call, walk-calls}
+use Rattle.walk.specs.WalkCall.{says-refused, Result, refusing, walk-call, walk-calls}
 use Rattle.walk.proofs.FormulaLaws.{calls-unrefused}
 
 -- an unreadable input gets the reader's refusal

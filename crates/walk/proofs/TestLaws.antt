@@ -1,15 +1,14 @@
 -- The mode's condition holds exactly where a call can stop. Over any tree.
 use Prim.Native.Nat.{ℕ, zero, suc, _≤_, _<_}
-use mathlib.Core.Bool.{Bool, true, false, cond, not, _&&_, _||_, false≢true}
-use mathlib.Core.Path.{_≡_, refl, sym, ap, _∙_, subst}
+use mathlib.Core.Bool.{Bool, true, false, cond, not, _||_, false≢true}
+use mathlib.Core.Path.{_≡_, refl}
 use native.Mathlib.Omega.{arith}
 use lib.Dec.{eqb, ltb}
 use borrow.Author.Tests.{eqb-true, eqb-false, eq-eqb, ltb-true, lt-ltb}
 use Rattle.lists.proofs.TestLaws.{and-left, and-right, and-both}
-use Rattle.splitting.specs.declared.Choice.{Choice}
 use Rattle.walk.specs.InnerStack.{Stack, empty, push, depth, Tree}
-use Rattle.walk.specs.InnerMachine.{Position, down, full, back, over, Next, rise, enter, turn, next}
-use Rattle.walk.specs.InnerTest.{mode-of, stack-of, is-open, is-empty, replays, fits}
+use Rattle.walk.specs.InnerMachine.{Position, down, full, back, over, rise, enter, next}
+use Rattle.walk.specs.InnerTest.{mode-of, stack-of, is-empty, replays, fits}
 use Rattle.walk.proofs.RestLaws.{Quiet, Replayed, Ok, Live}
 use Rattle.walk.proofs.PositionLaws.{full-quiet}
 use Rattle.walk.proofs.MetLaws.{down-quiet}

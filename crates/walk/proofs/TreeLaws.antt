@@ -1,9 +1,9 @@
 -- What the choice of a matched formula gives to the walk: its tree is live, its choice splits the models, and choosing is cheap.
-use Prim.Native.Nat.{ℕ, zero, suc, _+_, _*_, _^_, _≤_, _<_}
+use Prim.Native.Nat.{ℕ, zero, suc, _+_, _*_, _≤_, _<_}
 use mathlib.Core.Bool.{Bool, true, false, true≢false}
 use mathlib.Core.List.{List, [], _∷_, _++_, map, List·Memᴰ, List·Memᴰ·head, List·Memᴰ·not-nil, List·Memᴰ·append-cases, List·Memᴰ·eq-of-singleton, Memᴰ·append-left, Memᴰ·append-right}
-use mathlib.Core.Logic.{_⊎_, inl, inr, ⊎-elim, _↔_}
-use mathlib.Core.Path.{_≡_, refl, sym, ap, ap₂, _∙_, subst}
+use mathlib.Core.Logic.{⊎-elim}
+use mathlib.Core.Path.{_≡_, refl, sym, ap, _∙_, subst}
 use native.Mathlib.Nat.{mul-assoc}
 use native.Mathlib.Numerals.{add-one}
 use native.Mathlib.Omega.{arith}
@@ -11,7 +11,7 @@ use lib.ListN.{length}
 use Rattle.masks.specs.Mask.{bit, full}
 use Rattle.masks.proofs.BitLaws.{bit-above}
 use Rattle.matching.specs.Matched.{Matched}
-use Rattle.formula.specs.Format.{Literal, distinct, ClauseOver, Sized}
+use Rattle.formula.specs.Format.{Literal, distinct, Sized}
 use Rattle.formula.specs.Masked.{variables}
 use Rattle.formula.specs.Models.{Model}
 use Rattle.formula.proofs.FormatLaws.{clause-more}
@@ -21,8 +21,8 @@ use Rattle.splitting.specs.Choosing.{choice}
 use Rattle.splitting.proofs.Terms as terms
 use Rattle.splitting.proofs.Terms.{Sound, Trail, opened}
 use Rattle.splitting.proofs.Theorems.{matched-sound, open-sound, sound-model, formula-below, remaining-snoc, full-model, open-means, choice-cost}
-use Rattle.walk.specs.Plain.{Entry, end, assignment, value-walk, chosen, step-expansions, node-walk, plain-walk}
-use Rattle.walk.specs.InnerStack.{Stack, empty, push, depth, trail-of, Tree, tree}
+use Rattle.walk.specs.Plain.{Entry, end, assignment, chosen, node-walk, plain-walk}
+use Rattle.walk.specs.InnerStack.{Stack, empty, push, depth, trail-of, tree}
 use Rattle.walk.specs.InnerTest.{is-open}
 use Rattle.walk.proofs.RestLaws.{entries, walk, Replayed, replayed-ind, Live}
 use Rattle.walk.proofs.PositionLaws.{length-trail}
