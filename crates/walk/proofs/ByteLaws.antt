@@ -20,12 +20,14 @@ abbrev pub Below : ℕ → Stack → Type 0
 Below n empty = Unit {0}
 Below n (push v b t) = (v < n) × Below n t
 
-pushed-append : (xs ys : List ℕ) (t : Stack) → pushed t (xs ++ ys) ≡ pushed (pushed t xs) ys
+-- bytes after bytes
+pub pushed-append : (xs ys : List ℕ) (t : Stack) → pushed t (xs ++ ys) ≡ pushed (pushed t xs) ys
 unfolding pushed
 pushed-append [] ys t = refl
 pushed-append (x ∷ xs) ys t = pushed-append xs ys (push (byte-number x - 1) (byte-value x) t)
 
-byte-back : (v : ℕ) (b : Bool) (t : Stack) → v < 48 → push (byte-number (byte (record { variable = v; positive = b })) - 1) (byte-value (byte (record { variable = v; positive = b }))) t ≡ push v b t
+-- a byte's variable and value
+pub byte-back : (v : ℕ) (b : Bool) (t : Stack) → v < 48 → push (byte-number (byte (record { variable = v; positive = b })) - 1) (byte-value (byte (record { variable = v; positive = b }))) t ≡ push v b t
 byte-back v false t h =
     let e : leb 128 (v + 1) ≡ false = lt-leb 128 (v + 1) (omega arith) in
     let f : v + 1 - 1 ≡ v = omega arith in
@@ -97,7 +99,8 @@ written-formed n m t h k d w =
     let s : length (trail-of t) ≤ 48 = omega arith in
     rw (le-leb m 4 k, le-leb (length (trail-of t)) 48 s, p, q) (and-both _ _ (numbered-bytes n t h w) (zeros-replicate (48 - length (map byte (trail-of t)))))
 
-pushed-depth : (xs : List ℕ) (t : Stack) → depth (pushed t xs) ≡ depth t + length xs
+-- one variable for each byte
+pub pushed-depth : (xs : List ℕ) (t : Stack) → depth (pushed t xs) ≡ depth t + length xs
 unfolding pushed
 pushed-depth [] t = omega arith
 pushed-depth (x ∷ xs) t = pushed-depth xs (push (byte-number x - 1) (byte-value x) t) ∙ omega arith
@@ -109,7 +112,8 @@ byte-forth x h = at (leb 128 x) refl (eqb-false (byte-number x) 0 (not-true _ h)
     at true e ne = let h = leb-true 128 x e in omega arith
     at false e ne = omega arith
 
-bytes-pushed : (xs : List ℕ) (t : Stack) → numbered xs ≡ true → map byte (trail-of (pushed t xs)) ≡ map byte (trail-of t) ++ xs
+-- the bytes of what was read are the bytes
+pub bytes-pushed : (xs : List ℕ) (t : Stack) → numbered xs ≡ true → map byte (trail-of (pushed t xs)) ≡ map byte (trail-of t) ++ xs
 unfolding pushed numbered trail-of
 bytes-pushed [] t h = sym (append-nil (map byte (trail-of t)))
 bytes-pushed (x ∷ xs) t h =
@@ -137,6 +141,7 @@ formed-written c h f =
     let z = and-right (numbered (take (c .length) (c .bytes))) _ b in
     λ i. record { mode = c .mode; length = d i; bytes = refilled (c .length) (c .bytes) h l num z i }
 
+-- a well formed checkpoint's mode
 pub formed-mode : (c : Checkpoint) → formed c ≡ true → c .mode ≤ 4
 unfolding formed
 formed-mode c f = leb-true (c .mode) 4 (and-left (leb (c .mode) 4) _ f)

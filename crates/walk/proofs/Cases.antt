@@ -9,11 +9,16 @@ use Rattle.masks.specs.Mask.{bit, members}
 use Rattle.matching.specs.Search.{owner, no-links, begin, see, scan, take-front, expand, search-from, rematch-from, match-rest, outcome}
 use Rattle.formula.specs.Format.{Literal, names, names-as}
 use Rattle.formula.specs.Masked.{variables}
+use Rattle.formula.specs.Decode.{read-record, records, decode}
 use Rattle.splitting.specs.Nodes.{less, assign, remaining, occurs, named, first-from, upward-from}
 use Rattle.splitting.specs.Stripping.{pure, not-naming, strip}
 use Rattle.splitting.specs.Choosing.{matched, trial, first-passing, candidates, among, listed, last, emptied, last-listed, choice}
 use Rattle.walk.specs.Plain.{assignment, node-walk, plain-walk}
-use Rattle.walk.specs.Checkpoints.{Checkpoint, checkpoint-of, without-last, last-value, past-all, behind, checkpoint-after}
+use Rattle.walk.specs.WalkCall.{Kind, says-model, says-spent, says-ended, Result, walk-call, walk-calls}
+use Rattle.walk.specs.InnerStack.{trail-of}
+use Rattle.walk.specs.InnerMachine.{next, resume}
+use Rattle.walk.specs.InnerTest.{pushed, numbered, zeros, formed, replays, fits, accepts}
+use Rattle.walk.specs.Checkpoints.{start, Checkpoint, checkpoint-of, without-last, last-value, past-all, behind, checkpoint-after}
 use Rattle.walk.specs.PlainMachine.{Answer, found, spent, ended, Call, go-on, plain-call, plain-calls}
 
 abbrev on : ℕ → Literal
@@ -78,3 +83,45 @@ small-budgets = refl
 pub bytes : checkpoint-of 1 (off 0 ∷ on 1 ∷ []) .bytes ≡ 1 ∷ 130 ∷ replicate 46 0
 unfolding checkpoint-of padded
 bytes = refl
+
+-- the kind, the model, the number, the steps and the expansions of a call on bytes
+abbrev values : Result → Kind × ℕ × ℕ × ℕ × ℕ
+values r = (r .kind, r .model, r .number, r .steps, r .expansions)
+
+-- the first formula from its bytes, each call given the checkpoint that the last one returned
+pub from-bytes : map values (walk-calls (1 ∷ 2 ∷ 2 ∷ 1 ∷ 2 ∷ 2 ∷ 4 ∷ 3 ∷ 1 ∷ 3 ∷ 2 ∷ 4 ∷ 5 ∷ []) start (1 ∷ 0 ∷ 96 ∷ 3 ∷ 96 ∷ 96 ∷ 0 ∷ []))
+    ≡ (says-spent, 0, 0, 1, 2) ∷ (says-spent, 0, 0, 0, 0) ∷ (says-model, 2, 0, 1, 0) ∷ (says-spent, 0, 0, 3, 0) ∷ (says-model, 1, 0, 1, 0) ∷ (says-ended, 0, 0, 2, 0) ∷ (says-ended, 0, 0, 0, 0) ∷ []
+unfolding plain-calls plain-call go-on plain-walk node-walk assignment choice remaining assign less names names-as occurs named first-from upward-from pure not-naming strip variables matched trial first-passing candidates among listed last emptied last-listed outcome match-rest search-from expand take-front scan see begin no-links owner rematch-from bit members xor walk-calls walk-call start checkpoint-of padded decode records read-record resume next accepts formed fits replays numbered zeros pushed trail-of
+from-bytes = refl
+
+-- the refusal's number and place
+abbrev refusal : Result → ℕ × ℕ
+refusal r = (r .number, r .place)
+
+-- (¬1): true is closed at the root, so that the end follows the undoing of false in the same call, and mode 2 at length 0 is never had
+pub closed-root : refusal (walk-call (1 ∷ 1 ∷ 3 ∷ 1 ∷ 4 ∷ 5 ∷ []) (checkpoint-of 2 []) 96) ≡ (11, 0)
+unfolding plain-calls plain-call go-on plain-walk node-walk assignment choice remaining assign less names names-as occurs named first-from upward-from pure not-naming strip variables matched trial first-passing candidates among listed last emptied last-listed outcome match-rest search-from expand take-front scan see begin no-links owner rematch-from bit members xor walk-calls walk-call start checkpoint-of padded decode records read-record resume next accepts formed fits replays numbered zeros pushed trail-of
+closed-root = refl
+
+-- on the first formula mode 2 is had at length 0, mode 3 is not
+pub open-root : refusal (walk-call (1 ∷ 2 ∷ 2 ∷ 1 ∷ 2 ∷ 2 ∷ 4 ∷ 3 ∷ 1 ∷ 3 ∷ 2 ∷ 4 ∷ 5 ∷ []) (checkpoint-of 2 []) 96) ≡ (0, 0)
+unfolding plain-calls plain-call go-on plain-walk node-walk assignment choice remaining assign less names names-as occurs named first-from upward-from pure not-naming strip variables matched trial first-passing candidates among listed last emptied last-listed outcome match-rest search-from expand take-front scan see begin no-links owner rematch-from bit members xor walk-calls walk-call start checkpoint-of padded decode records read-record resume next accepts formed fits replays numbered zeros pushed trail-of
+open-root = refl
+
+pub never-three : refusal (walk-call (1 ∷ 2 ∷ 2 ∷ 1 ∷ 2 ∷ 2 ∷ 4 ∷ 3 ∷ 1 ∷ 3 ∷ 2 ∷ 4 ∷ 5 ∷ []) (checkpoint-of 3 []) 96) ≡ (11, 0)
+unfolding plain-calls plain-call go-on plain-walk node-walk assignment choice remaining assign less names names-as occurs named first-from upward-from pure not-naming strip variables matched trial first-passing candidates among listed last emptied last-listed outcome match-rest search-from expand take-front scan see begin no-links owner rematch-from bit members xor walk-calls walk-call start checkpoint-of padded decode records read-record resume next accepts formed fits replays numbered zeros pushed trail-of
+never-three = refl
+
+-- 10 before 11, with the number of marked clauses
+pub empty-clause : refusal (walk-call (1 ∷ 1 ∷ 4 ∷ 5 ∷ []) (checkpoint-of 3 []) 96) ≡ (10, 1)
+unfolding plain-calls plain-call go-on plain-walk node-walk assignment choice remaining assign less names names-as occurs named first-from upward-from pure not-naming strip variables matched trial first-passing candidates among listed last emptied last-listed outcome match-rest search-from expand take-front scan see begin no-links owner rematch-from bit members xor walk-calls walk-call start checkpoint-of padded decode records read-record resume next accepts formed fits replays numbered zeros pushed trail-of
+empty-clause = refl
+
+pub two-marked : refusal (walk-call (1 ∷ 1 ∷ 2 ∷ 1 ∷ 4 ∷ 3 ∷ 1 ∷ 4 ∷ 5 ∷ []) start 0) ≡ (10, 2)
+unfolding plain-calls plain-call go-on plain-walk node-walk assignment choice remaining assign less names names-as occurs named first-from upward-from pure not-naming strip variables matched trial first-passing candidates among listed last emptied last-listed outcome match-rest search-from expand take-front scan see begin no-links owner rematch-from bit members xor walk-calls walk-call start checkpoint-of padded decode records read-record resume next accepts formed fits replays numbered zeros pushed trail-of
+two-marked = refl
+
+-- 2 before both
+pub no-bytes : refusal (walk-call [] (checkpoint-of 3 []) 96) ≡ (2, 0)
+unfolding plain-calls plain-call go-on plain-walk node-walk assignment choice remaining assign less names names-as occurs named first-from upward-from pure not-naming strip variables matched trial first-passing candidates among listed last emptied last-listed outcome match-rest search-from expand take-front scan see begin no-links owner rematch-from bit members xor walk-calls walk-call start checkpoint-of padded decode records read-record resume next accepts formed fits replays numbered zeros pushed trail-of
+no-bytes = refl
