@@ -39,11 +39,12 @@ module _ (n : ℕ) (cs : List (List Literal)) where
       let e : u ++ [] ≡ u = append-nil u in
       (subst (λ (w : List Literal). l .variable ≡ at-node n cs w .variable) e v, subst (λ (w : List Literal). is-open (at-node n cs w) (l .positive) ≡ true) e o, tt)
   choice-more u (k ∷ t) l h v o =
-      let e : u ++ (k ∷ t) ≡ (u ++ (k ∷ [])) ++ t = sym (append-assoc u (k ∷ []) t) in
-      ( h .0
-      , h .1
-      , choice-more (u ++ (k ∷ [])) t l (h .2) (subst (λ (w : List Literal). l .variable ≡ at-node n cs w .variable) e v)
-          (subst (λ (w : List Literal). is-open (at-node n cs w) (l .positive) ≡ true) e o) )
+      let e : u ++ (k ∷ t) ≡ (u ++ (k ∷ [])) ++ t = sym (append-assoc u (k ∷ []) t) in (
+        h .0,
+        h .1,
+        choice-more (u ++ (k ∷ [])) t l (h .2) (subst (λ (w : List Literal). l .variable ≡ at-node n cs w .variable) e v)
+            (subst (λ (w : List Literal). is-open (at-node n cs w) (l .positive) ≡ true) e o),
+      )
 
   -- a replayed trail is by choice
   replayed-choice : (t : Stack) → Replayed (tree n cs) t → ByChoice n cs [] (trail-of t)
