@@ -33,8 +33,8 @@ byte-back v false t h =
     let f : v + 1 - 1 ≡ v = omega arith in
     rw (e, f)
 byte-back v true t h =
-    let e : leb 128 (v + 129) ≡ true = le-leb 128 (v + 129) (omega arith) in
-    let f : v + 129 - 128 - 1 ≡ v = omega arith in
+    let e : leb 128 (v + 1 + 128) ≡ true = le-leb 128 (v + 1 + 128) (omega arith) in
+    let f : v + 1 + 128 - 128 - 1 ≡ v = omega arith in
     rw (e, f)
 
 pushed-bytes : (n : ℕ) (t : Stack) → n ≤ 48 → Below n t → pushed empty (map byte (trail-of t)) ≡ t
@@ -70,8 +70,8 @@ byte-numbered v false h =
     let f : eqb (v + 1) 0 ≡ false = ne-eqb (v + 1) 0 (λ q. omega arith) in
     rw (e, f)
 byte-numbered v true h =
-    let e : leb 128 (v + 129) ≡ true = le-leb 128 (v + 129) (omega arith) in
-    let f : eqb (v + 129 - 128) 0 ≡ false = ne-eqb (v + 129 - 128) 0 (λ q. omega arith) in
+    let e : leb 128 (v + 1 + 128) ≡ true = le-leb 128 (v + 1 + 128) (omega arith) in
+    let f : eqb (v + 1 + 128 - 128) 0 ≡ false = ne-eqb (v + 1 + 128 - 128) 0 (λ q. omega arith) in
     rw (e, f)
 
 numbered-append : (xs ys : List ℕ) → numbered xs ≡ true → numbered ys ≡ true → numbered (xs ++ ys) ≡ true
@@ -108,7 +108,7 @@ pushed-depth (x ∷ xs) t = pushed-depth xs (push (byte-number x - 1) (byte-valu
 byte-forth : (x : ℕ) → not (eqb (byte-number x) 0) ≡ true → byte (record { variable = byte-number x - 1; positive = byte-value x }) ≡ x
 byte-forth x h = at (leb 128 x) refl (eqb-false (byte-number x) 0 (not-true _ h))
   where
-    at : (y : Bool) → leb 128 x ≡ y → (cond y (x - 128) x ≡ 0 → ⊥) → cond y (cond y (x - 128) x - 1 + 129) (cond y (x - 128) x - 1 + 1) ≡ x
+    at : (y : Bool) → leb 128 x ≡ y → (cond y (x - 128) x ≡ 0 → ⊥) → cond y (cond y (x - 128) x - 1 + 1 + 128) (cond y (x - 128) x - 1 + 1) ≡ x
     at true e ne = let h = leb-true 128 x e in omega arith
     at false e ne = omega arith
 

@@ -1,6 +1,6 @@
 -- Demand 3 as one claim over a whole list of walk calls, its sentences in order; then what demands 1 and 2 ask of the walk.
 use Prim.Native.Nat.{ℕ, _+_, _*_, _≤_}
-use mathlib.Core.List.{List, _++_, map, List·Memᴰ}
+use mathlib.Core.List.{List, [], _++_, map, List·Memᴰ}
 use mathlib.Core.Logic.{_⊎_, _↔_}
 use mathlib.Core.Path.{_≡_, sym, ap, _∙_}
 use lib.ListN.{length}
@@ -18,9 +18,9 @@ use Rattle.matched.specs.Judge.{refusal, judge}
 use Rattle.matched.specs.Pairing.{Pairs, Pairable}
 use Rattle.splitting.proofs.Terms.{Agrees}
 use Rattle.walk.specs.Plain.{assign, plain-walk, listing}
-use Rattle.walk.specs.Checkpoints.{Checkpoint, start, behind}
-use Rattle.walk.specs.PlainMachine.{spent, plain-call, plain-calls, state-after, Has}
-use Rattle.walk.specs.WalkCall.{says-model, says-ended, says-refused, answered, refusing, plain-result, walk-call, walk-calls, last-checkpoint}
+use Rattle.walk.specs.Checkpoints.{Checkpoint, checkpoint-of, start, behind}
+use Rattle.walk.specs.PlainMachine.{spent, ended, plain-call, plain-calls, state-after, Has}
+use Rattle.walk.specs.WalkCall.{says-model, says-spent, says-ended, says-refused, answered, refusing, plain-result, walk-call, walk-calls, last-checkpoint}
 use Rattle.walk.specs.Gaps.{brought, SaysEnded, gaps, Paced}
 use Rattle.walk.specs.Proper.{Proper}
 use Rattle.walk.proofs.FormulaLaws as laws
@@ -86,6 +86,17 @@ module _ (s : List ℕ) (n : ℕ) (cs : List (List Literal)) (reads : decode s �
   -- Told by themselves: a trail by choice with open values, the mode's own condition, the bytes of that trail, and 0 behind them.
   pub proper : (c : Checkpoint) → Has n cs c ↔ Proper n cs c
   proper c = laws.has-proper s n cs reads M c
+
+  -- 'Spent means that as many moves as the budget were made and neither came': never fewer, and no call makes more.
+  pub spent-exactly : (bs : List ℕ) (b : ℕ) → walk-call s (last-checkpoint s start bs) b .kind ≡ says-spent → walk-call s (last-checkpoint s start bs) b .steps ≡ b
+  spent-exactly bs b = laws.calls-spent s n cs reads M bs b
+
+  pub within-budget : (bs : List ℕ) (b : ℕ) → walk-call s (last-checkpoint s start bs) b .steps ≤ b
+  within-budget bs b = laws.calls-within s n cs reads M bs b
+
+  -- 'From mode 4 it answers ended with 0 moves, also for budget 0.'
+  pub from-end : (b : ℕ) → walk-call s (checkpoint-of 4 []) b ≡ answered ended 0 0 (checkpoint-of 4 [])
+  from-end b = laws.call-over s n cs reads M b
 
   -- 'start marker, budget 0, pairable sheet: spent'
   pub start-zero : walk-call s start 0 ≡ answered spent 0 0 start

@@ -28,13 +28,14 @@ use Rattle.walk.specs.WalkCall.{says-model, says-spent, says-ended, says
 use Rattle.walk.specs.Gaps.{brought, SaysEnded, gaps, Paced}
 use Rattle.walk.specs.Proper.{Proper}
 use Rattle.walk.specs.InnerStack.{Stack, empty, depth, trail-of, tree}
-use Rattle.walk.specs.InnerMachine.{Position, down, next, resume}
+use Rattle.walk.specs.InnerMachine.{Position, down, over, next, resume}
 use Rattle.walk.specs.InnerTest.{stack-of, shown, accepts}
 use Rattle.walk.proofs.RestLaws.{Quiet, walk, node, up, rest, Replayed, replayed-depth, Ok, Live}
 use Rattle.walk.proofs.PositionLaws.{behind-of}
 use Rattle.walk.proofs.AgreeLaws.{behind-after, At, at-start, at-every, Same, call-same}
 use Rattle.walk.proofs.ListingLaws.{Agrees, walk-lists, walk-distinct, node-model}
-use Rattle.walk.proofs.CallLaws.{call-effect, resumes, last-position, results, brought-first, brought-all, never-spent}
+use Rattle.walk.proofs.CallLaws.{call-effect, resumes, last-position, results, brought-first, brought-all, never-spent, over-quiet, steps-within, spent-all}
+use Rattle.walk.proofs.LoopLaws.{loop-over}
 use Rattle.walk.proofs.CostLaws.{walk-cheap}
 use Rattle.walk.proofs.PaceLaws.{pace}
 use Rattle.walk.proofs.MetLaws.{down-quiet, down-spent, all-got}
@@ -230,6 +231,22 @@ module _ (s : List ℕ) (n : ℕ) (cs : List (List Literal)) (reads : decode s �
       let a = standing-at bs in
       rw (last-plain bs, at-checkpoint n cs a, call-goes b (standing bs) (a .fine) (standing-quiet bs))
       (not-spent (resume (tree n cs) b (standing bs) .answer) (never-spent (tree n cs) alive b (standing bs) (a .fine) (omega (arith, small))))
+
+  -- a call makes at most its budget's steps, and all of them where it says spent
+  pub calls-within : (bs : List ℕ) (b : ℕ) → walk-call s (last-checkpoint s start bs) b .steps ≤ b
+  calls-within bs b =
+      let a = standing-at bs in
+      rw (last-plain bs, at-checkpoint n cs a, call-goes b (standing bs) (a .fine) (standing-quiet bs)) (steps-within (tree n cs) alive b (standing bs) (a .fine))
+
+  pub calls-spent : (bs : List ℕ) (b : ℕ) → walk-call s (last-checkpoint s start bs) b .kind ≡ says-spent → walk-call s (last-checkpoint s start bs) b .steps ≡ b
+  calls-spent bs b =
+      let a = standing-at bs in
+      rw (last-plain bs, at-checkpoint n cs a, call-goes b (standing bs) (a .fine) (standing-quiet bs)) (spent-all (tree n cs) alive b (standing bs) (a .fine))
+
+  -- from the end a call says ended at once
+  pub call-over : (b : ℕ) → walk-call s (checkpoint-of 4 []) b ≡ answered ended 0 0 (checkpoint-of 4 [])
+  unfolding trail-of next
+  call-over b = call-goes b over tt (over-quiet (tree n cs) alive) ∙ ap resumed-result (loop-over (tree n cs) b over refl)
 
   -- the test passes exactly the checkpoints that the walk has
   accepted-has : (c : Checkpoint) → length (c .bytes) ≡ 48 → accepts (tree n cs) c ≡ true → Has n cs c

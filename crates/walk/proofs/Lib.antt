@@ -3,6 +3,7 @@ pub mod RestLaws
 pub mod PositionLaws
 pub mod AgreeLaws
 pub mod ListingLaws
+pub mod LoopLaws
 pub mod CallLaws
 pub mod PartingLaws
 pub mod CostLaws
@@ -17,4 +18,3 @@ pub mod ProperLaws
 pub mod FormulaLaws
 pub mod RefusalLaws
 pub mod Demands
-pub mod LoopLaws

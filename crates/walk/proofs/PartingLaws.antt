@@ -56,4 +56,4 @@ pub parting : (v : ℕ) (s t u : Stack) → Begins (push v false s) t → Begins
 parting v s t u h k =
     let x = begins-bytes v false s t h in
     let y = begins-bytes v true s u k in
-    rw (x .1, y .1) (common-part (map byte (trail-of s)) (v + 1) (v + 129) (x .0) (y .0) (λ e. omega arith) ∙ simp (length-map, length-trail))
+    rw (x .1, y .1) (common-part (map byte (trail-of s)) (v + 1) (v + 1 + 128) (x .0) (y .0) (λ e. omega arith) ∙ simp (length-map, length-trail))

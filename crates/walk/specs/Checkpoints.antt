@@ -15,7 +15,7 @@ pub record Checkpoint : Type 0 where
 
 -- a variable's byte: 'its number, plus 128 if on', the number from 1
 abbrev pub byte : Literal → ℕ
-byte l = cond (l .positive) (l .variable + 129) (l .variable + 1)
+byte l = cond (l .positive) (l .variable + 1 + 128) (l .variable + 1)
 
 -- 'one per settled switch in order [..], the rest 0'
 unfoldable pub checkpoint-of : ℕ → List Literal → Checkpoint
