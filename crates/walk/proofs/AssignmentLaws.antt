@@ -54,7 +54,7 @@ full-names n t T h v l = at (names t v) refl
         absurd (omega arith)
 
 -- what one literal more changes
-bit-other : (p : Bool) (m k v : ℕ) → (v ≡ k → ⊥) → bit (cond p (with m k) m) v ≡ bit m v
+pub bit-other : (p : Bool) (m k v : ℕ) → (v ≡ k → ⊥) → bit (cond p (with m k) m) v ≡ bit m v
 bit-other true m k v ne = bit-with-other m k v ne
 bit-other false m k v ne = refl
 
@@ -63,7 +63,7 @@ bit-own true m k e = bit-with-same m k
 bit-own false m k e = e
 
 -- an unnamed variable is false
-assignment-none : (t : List Literal) (v : ℕ) → names t v ≡ false → bit (assignment t) v ≡ false
+pub assignment-none : (t : List Literal) (v : ℕ) → names t v ≡ false → bit (assignment t) v ≡ false
 unfolding assignment names
 assignment-none [] v e = bit-none v
 assignment-none (l ∷ t) v e =

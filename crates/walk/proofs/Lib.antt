@@ -18,3 +18,4 @@ pub mod ProperLaws
 pub mod FormulaLaws
 pub mod RefusalLaws
 pub mod Demands
+pub mod StoreLaws
