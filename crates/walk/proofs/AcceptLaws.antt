@@ -25,6 +25,7 @@ mode-le (back true t) = omega arith
 mode-le over = omega arith
 
 module _ (K : Tree) where
+  -- the trail of a position
   pub stack-replayed : (p : Position) → Ok K p → Replayed K (stack-of p)
   stack-replayed (down t) o = o
   stack-replayed (full t) o = o .0
@@ -63,6 +64,7 @@ module _ (K : Tree) (L : Live K) (small : K .size ≤ 48) (low : (t : Stack) →
     pub quiet : Quiet (next K position)
     pub shows : shown position ≡ c
 
+  -- the position of a checkpoint that passes
   pub accepted-stopped : (c : Checkpoint) → length (c .bytes) ≡ 48 → accepts K c ≡ true → Stopped c
   unfolding accepts
   accepted-stopped c h e =
@@ -75,5 +77,6 @@ module _ (K : Tree) (L : Live K) (small : K .size ≤ 48) (low : (t : Stack) →
         shows = ap₂ (λ (m : ℕ) (t : Stack). checkpoint-of m (trail-of t)) (s .mode) (s .stack) ∙ formed-written c h f;
       }
 
+  -- and each of them passes
   pub stopped-accepted : (c : Checkpoint) → Stopped c → accepts K c ≡ true
   stopped-accepted c s = subst (λ (x : Checkpoint). accepts K x ≡ true) (s .shows) (shown-accepted (s .position) (s .fine) (s .quiet))

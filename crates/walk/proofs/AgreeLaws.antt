@@ -30,10 +30,12 @@ module _ (K : Tree) where
     pub shown : behind-after k ≡ behind-of p
     pub fine : Ok K p
 
+  -- the start
   pub at-start : At 0 (down empty)
   unfolding walk rest node up behind-after past-all trail-of
   at-start = record { ahead = rw sub-zero; shown = refl; fine = tt }
 
+  -- one entry more
   pub at-next : {k : ℕ} {p q : Position} {e : Entry} → 0 < K .size → At k p → Goes K p e q → At (suc k) q
   unfolding behind-after past-all
   at-next {k} {p} {q} {e} z a g = record {

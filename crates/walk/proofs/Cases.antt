@@ -103,11 +103,12 @@ pub closed-root : refusal (walk-call (1 ∷ 1 ∷ 3 ∷ 1 ∷ 4 ∷ 5 ∷ []) (c
 unfolding plain-calls plain-call go-on plain-walk node-walk assignment choice remaining assign less names names-as occurs named first-from upward-from pure not-naming strip variables matched trial first-passing candidates among listed last emptied last-listed outcome match-rest search-from expand take-front scan see begin no-links owner rematch-from bit members xor walk-calls walk-call start checkpoint-of padded decode records read-record resume next accepts formed fits replays numbered zeros pushed trail-of
 closed-root = refl
 
--- on the first formula mode 2 is had at length 0, mode 3 is not
+-- on the first formula mode 2 is had at length 0
 pub open-root : refusal (walk-call (1 ∷ 2 ∷ 2 ∷ 1 ∷ 2 ∷ 2 ∷ 4 ∷ 3 ∷ 1 ∷ 3 ∷ 2 ∷ 4 ∷ 5 ∷ []) (checkpoint-of 2 []) 96) ≡ (0, 0)
 unfolding plain-calls plain-call go-on plain-walk node-walk assignment choice remaining assign less names names-as occurs named first-from upward-from pure not-naming strip variables matched trial first-passing candidates among listed last emptied last-listed outcome match-rest search-from expand take-front scan see begin no-links owner rematch-from bit members xor walk-calls walk-call start checkpoint-of padded decode records read-record resume next accepts formed fits replays numbered zeros pushed trail-of
 open-root = refl
 
+-- mode 3 is never had there
 pub never-three : refusal (walk-call (1 ∷ 2 ∷ 2 ∷ 1 ∷ 2 ∷ 2 ∷ 4 ∷ 3 ∷ 1 ∷ 3 ∷ 2 ∷ 4 ∷ 5 ∷ []) (checkpoint-of 3 []) 96) ≡ (11, 0)
 unfolding plain-calls plain-call go-on plain-walk node-walk assignment choice remaining assign less names names-as occurs named first-from upward-from pure not-naming strip variables matched trial first-passing candidates among listed last emptied last-listed outcome match-rest search-from expand take-front scan see begin no-links owner rematch-from bit members xor walk-calls walk-call start checkpoint-of padded decode records read-record resume next accepts formed fits replays numbered zeros pushed trail-of
 never-three = refl
@@ -117,6 +118,7 @@ pub empty-clause : refusal (walk-call (1 ∷ 1 ∷ 4 ∷ 5 ∷ []) (checkpoint-o
 unfolding plain-calls plain-call go-on plain-walk node-walk assignment choice remaining assign less names names-as occurs named first-from upward-from pure not-naming strip variables matched trial first-passing candidates among listed last emptied last-listed outcome match-rest search-from expand take-front scan see begin no-links owner rematch-from bit members xor walk-calls walk-call start checkpoint-of padded decode records read-record resume next accepts formed fits replays numbered zeros pushed trail-of
 empty-clause = refl
 
+-- and two of them
 pub two-marked : refusal (walk-call (1 ∷ 1 ∷ 2 ∷ 1 ∷ 4 ∷ 3 ∷ 1 ∷ 4 ∷ 5 ∷ []) start 0) ≡ (10, 2)
 unfolding plain-calls plain-call go-on plain-walk node-walk assignment choice remaining assign less names names-as occurs named first-from upward-from pure not-naming strip variables matched trial first-passing candidates among listed last emptied last-listed outcome match-rest search-from expand take-front scan see begin no-links owner rematch-from bit members xor walk-calls walk-call start checkpoint-of padded decode records read-record resume next accepts formed fits replays numbered zeros pushed trail-of
 two-marked = refl

@@ -11,6 +11,7 @@ use Rattle.walk.specs.Plain.{Entry, assign, undo, model, end, value-walk
 use Rattle.walk.specs.InnerStack.{Stack, empty, push, Tree}
 use Rattle.walk.proofs.RestLaws.{entries, walk}
 
+-- an assignment costs at most what the choice costs
 pub step-cheap : (B : ℕ) (c : Choice) (b : Bool) → c .expansions ≤ B → step-expansions c b ≤ B
 step-cheap B c false h = h
 step-cheap B c true h = at (c .false_open)
@@ -57,6 +58,7 @@ module _ (K : Tree) (B : ℕ) (cheap : (t : Stack) → K .choose t .expansions �
       (cheap-value B (c .false_open) (chosen c false) (step-expansions c false) _ (step-cheap B c false (cheap t)) (entries-cheap d (push (c .variable) false t)))
       (cheap-value B (c .true_open) (chosen c true) (step-expansions c true) _ (step-cheap B c true (cheap t)) (entries-cheap d (push (c .variable) true t)))
 
+  -- so no assignment of the walk costs more
   pub walk-cheap : Cheap B (walk K)
   unfolding walk
   walk-cheap = cheap-append B (entries K (K .size) empty) (end ∷ []) (entries-cheap (K .size) empty) (cheap-none B end not-end)

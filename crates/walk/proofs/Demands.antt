@@ -71,11 +71,11 @@ module _ (s : List ℕ) (n : ℕ) (cs : List (List Literal)) (reads : decode s �
   pub from-checkpoint : (c : Checkpoint) (w : Has n cs c) (b : ℕ) → walk-call s c b ≡ plain-result n cs (plain-call n cs b (state-after n cs 0 (w .0)))
   from-checkpoint c w b = ap (λ (x : Checkpoint). walk-call s x b) (sym (w .1)) ∙ laws.call-plain s n cs reads M (w .0) b
 
-  -- Demand 1, 'A marker that the sheet's walk never has is refused too': 11 exactly for the checkpoints that the walk never has; they
-  -- come back as handed in.
+  -- Demand 1, 'A marker that the sheet's walk never has is refused too': 11 exactly for the checkpoints that the walk never has
   pub foreign-exactly : (c : Checkpoint) (b : ℕ) → length (c .bytes) ≡ 48 → (walk-call s c b .number ≡ 11) ↔ (Has n cs c → ⊥)
   foreign-exactly c b h = laws.foreign-number s n cs reads M c b h
 
+  -- 'the marker comes back as handed in, set-up 0, moves 0, reaches 0'
   pub foreign-returned : (c : Checkpoint) (b : ℕ) → length (c .bytes) ≡ 48 → (Has n cs c → ⊥) → walk-call s c b ≡ refusing (ForeignCheckpoint 0) c
   foreign-returned c b h f = laws.foreign s n cs reads M c b f h
 
@@ -87,10 +87,11 @@ module _ (s : List ℕ) (n : ℕ) (cs : List (List Literal)) (reads : decode s �
   pub proper : (c : Checkpoint) → Has n cs c ↔ Proper n cs c
   proper c = laws.has-proper s n cs reads M c
 
-  -- 'Spent means that as many moves as the budget were made and neither came': never fewer, and no call makes more.
+  -- 'Spent means that as many moves as the budget were made and neither came.'
   pub spent-exactly : (bs : List ℕ) (b : ℕ) → walk-call s (last-checkpoint s start bs) b .kind ≡ says-spent → walk-call s (last-checkpoint s start bs) b .steps ≡ b
   spent-exactly bs b = laws.calls-spent s n cs reads M bs b
 
+  -- no call makes more steps than its budget
   pub within-budget : (bs : List ℕ) (b : ℕ) → walk-call s (last-checkpoint s start bs) b .steps ≤ b
   within-budget bs b = laws.calls-within s n cs reads M bs b
 

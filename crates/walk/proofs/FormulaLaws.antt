@@ -159,6 +159,7 @@ module _ (s : List ℕ) (n : ℕ) (cs : List (List Literal)) (reads : decode s �
   none-refused [] = tt
   none-refused (c ∷ l) = (plain-kind (c .answer), none-refused l)
 
+  -- so no call is refused
   pub calls-unrefused : (bs : List ℕ) → Every (λ r. r .kind ≡ says-refused → ⊥) (walk-calls s start bs)
   calls-unrefused bs = rw (calls-plain bs) (none-refused (plain-calls n cs 0 bs))
 
@@ -191,6 +192,7 @@ module _ (s : List ℕ) (n : ℕ) (cs : List (List Literal)) (reads : decode s �
     rw (calls-results bs) (ap models-of (sym (rest-start n cs)) ∙ brought-first (tree n cs) alive bs (down empty) tt),
   )
 
+  -- and all of them
   pub calls-all : (bs : List ℕ) → SaysEnded (walk-calls s start bs) → brought (walk-calls s start bs) ≡ listing n cs
   unfolding listing
   calls-all bs h =
@@ -201,6 +203,7 @@ module _ (s : List ℕ) (n : ℕ) (cs : List (List Literal)) (reads : decode s �
   unfolding listing
   listing-models a = rw (walk-same n cs) (walk-lists (tree n cs) (Model n cs) (splits n cs sized M) a)
 
+  -- each once
   pub listing-distinct : Distinct (listing n cs)
   unfolding listing
   listing-distinct = rw (walk-same n cs) (walk-distinct (tree n cs) (Model n cs) (splits n cs sized M))
@@ -225,6 +228,7 @@ module _ (s : List ℕ) (n : ℕ) (cs : List (List Literal)) (reads : decode s �
   not-spent spent h = absurd (h refl)
   not-spent ended h = inr refl
 
+  -- so a call with 96 brings a model or the end
   pub calls-ample : (bs : List ℕ) (b : ℕ) → 96 ≤ b
       → (walk-call s (last-checkpoint s start bs) b .kind ≡ says-model) ⊎ (walk-call s (last-checkpoint s start bs) b .kind ≡ says-ended)
   calls-ample bs b h =
@@ -238,6 +242,7 @@ module _ (s : List ℕ) (n : ℕ) (cs : List (List Literal)) (reads : decode s �
       let a = standing-at bs in
       rw (last-plain bs, at-checkpoint n cs a, call-goes b (standing bs) (a .fine) (standing-quiet bs)) (steps-within (tree n cs) alive b (standing bs) (a .fine))
 
+  -- and all of them where it says spent
   pub calls-spent : (bs : List ℕ) (b : ℕ) → walk-call s (last-checkpoint s start bs) b .kind ≡ says-spent → walk-call s (last-checkpoint s start bs) b .steps ≡ b
   calls-spent bs b =
       let a = standing-at bs in
@@ -272,6 +277,7 @@ module _ (s : List ℕ) (n : ℕ) (cs : List (List Literal)) (reads : decode s �
   has-number : (c : Checkpoint) (b : ℕ) → Has n cs c → walk-call s c b .number ≡ 0
   has-number c b w = rw (call-is c b, has-accepted c w)
 
+  -- 11 exactly for the checkpoints that the walk never has
   pub foreign-number : (c : Checkpoint) (b : ℕ) → length (c .bytes) ≡ 48 → (walk-call s c b .number ≡ 11) ↔ (Has n cs c → ⊥)
   foreign-number c b h = (
     λ e w. let z = has-number c b w in omega arith,

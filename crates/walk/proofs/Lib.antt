@@ -19,3 +19,4 @@ pub mod FormulaLaws
 pub mod RefusalLaws
 pub mod Demands
 pub mod StoreLaws
+pub mod ReplayLaws

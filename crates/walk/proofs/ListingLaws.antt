@@ -147,6 +147,7 @@ module _ (K : Tree) (Model : ℕ → Type 0) (P : Splits K Model) where
     λ p. rw walk-models (model-listed (K .size) empty tt (omega arith) a p tt),
   )
 
+  -- each once
   pub walk-distinct : Distinct (models-of (walk K))
   walk-distinct = rw walk-models (listed-distinct (K .size) empty tt (omega arith))
 

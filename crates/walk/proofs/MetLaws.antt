@@ -136,6 +136,7 @@ module _ (K : Tree) where
     got-next p (model a) q g h = subst Got (pass-zero p (hands a q) q (g .shows) refl ∙ sym (quiet-zero q (lands K (L .positive) (g .kind)))) h
     got-next p end q g h = subst Got (pass-zero p (ends q) q (g .shows) refl ∙ sym (quiet-zero q (lands K (L .positive) (g .kind)))) h
 
+    -- where a variable is left to assign a call can stop
     pub down-quiet : (t : Stack) → depth t < K .size → Quiet (next K (down t))
     unfolding next
     down-quiet t h = rw (ne-eqb (depth t) (K .size) (λ e. omega arith)) (at (K .choose t .false_open))

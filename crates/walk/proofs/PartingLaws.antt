@@ -22,10 +22,12 @@ pub data Begins (s : Stack) : Stack → Type 0 where
   b-same : Begins s s
   b-more : (v : ℕ) (b : Bool) {t : Stack} → Begins s t → Begins s (push v b t)
 
+-- a shorter beginning
 pub begins-less : {v : ℕ} {b : Bool} {s t : Stack} → Begins (push v b s) t → Begins s t
 begins-less {v} {b} b-same = b-more v b b-same
 begins-less (b-more w x h) = b-more w x (begins-less h)
 
+-- a beginning is not deeper
 pub begins-depth : {s t : Stack} → Begins s t → depth s ≤ depth t
 begins-depth b-same = omega arith
 begins-depth (b-more v b h) = let i = begins-depth h in omega arith

@@ -68,11 +68,13 @@ module _ (K : Tree) where
   Lands (model a) p = Quiet (next K p)
   Lands end p = Quiet (next K p)
 
+  -- where the model is handed out a call can stop
   pub full-quiet : (t : Stack) → 0 < K .size → depth t ≡ K .size → Quiet (next K (full t))
   unfolding next
   full-quiet empty p h = absurd (omega arith)
   full-quiet (push v b t) p h = tt
 
+  -- the position behind a model or the end
   pub lands : {p q : Position} {e : Entry} → 0 < K .size → Kind K p e q → Lands e q
   unfolding next
   lands z (k-model {t} h) = full-quiet t z h

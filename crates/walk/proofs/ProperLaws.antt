@@ -88,6 +88,7 @@ module _ (n : ℕ) (cs : List (List Literal)) where
         let k = length-trail (stack-of p) in
         record { trail = trail-of (stack-of p); short = omega arith; by-choice = replayed-choice (stack-of p) r; mode-fits = stop-mode p o q; written = refl }
 
+    -- the same of any checkpoint
     pub stop-proper : (p : Position) (c : Checkpoint) → Ok (tree n cs) p → Quiet (next (tree n cs) p) → shown p ≡ c → Proper n cs c
     stop-proper p c o q e = subst (Proper n cs) e (shown-proper p o q)
 

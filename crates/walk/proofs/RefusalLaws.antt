@@ -62,5 +62,6 @@ pairable-unrefused : (s : List ℕ) (b : ℕ) → Pairable s → walk-call s sta
 unfolding walk-calls
 pairable-unrefused s b w = calls-unrefused s (w .variables) (w .clauses) (w .reads) (w .vs, pairs-matches (w .clauses) (w .vs) (w .pairs)) (b ∷ []) .0
 
+-- from the start a call is refused exactly if the input cannot be paired
 pub walked-exactly : (s : List ℕ) (b : ℕ) → (walk-call s start b .kind ≡ says-refused → ⊥) ↔ Pairable s
 walked-exactly s b = (unrefused-pairable s start b, pairable-unrefused s b)

@@ -40,7 +40,7 @@ bytes-pop t l h =
 with-swap : (n m i j : ℕ) → m < 2 ^ n → i < n → j < n → with (with m i) j ≡ with (with m j) i
 with-swap n m i j h p q =
     mask-ext n (with (with m i) j) (with (with m j) i) (with-lt n (with m i) j (with-lt n m i h p) q) (with-lt n (with m j) i (with-lt n m j h q) p)
-      (λ k l. rw (bit-with (with m i) j k, bit-with m i k, bit-with (with m j) i k, bit-with m j k) (or-swap (bit m k) (eqb k j) (eqb k i)))
+    (λ k l. rw (bit-with (with m i) j k, bit-with m i k, bit-with (with m j) i k, bit-with m j k) (or-swap (bit m k) (eqb k j) (eqb k i)))
 
 -- the assignment with one literal more
 pub assignment-more : (n : ℕ) (t : List Literal) (l : Literal) → Every (λ k. k .variable < n) t → l .variable < n
@@ -52,7 +52,7 @@ assignment-more n (k ∷ t) l w h =
   where
     at : (x y : Bool)
         → cond x (with (cond y (with (assignment t) (l .variable)) (assignment t)) (k .variable)) (cond y (with (assignment t) (l .variable)) (assignment t))
-          ≡ cond y (with (cond x (with (assignment t) (k .variable)) (assignment t)) (l .variable)) (cond x (with (assignment t) (k .variable)) (assignment t))
+        ≡ cond y (with (cond x (with (assignment t) (k .variable)) (assignment t)) (l .variable)) (cond x (with (assignment t) (k .variable)) (assignment t))
     at true true = with-swap n (assignment t) (l .variable) (k .variable) (assignment-lt n t (w .1)) h (w .0)
     at true false = refl
     at false y = refl
@@ -64,6 +64,7 @@ without-own n m v p h k e =
     at : (p : Bool) → cond p (with m v) m < 2 ^ n
     at true = with-lt n m v h k
     at false = h
+
     by : (i : ℕ) (x : Bool) → eqb i v ≡ x → bit (without (cond p (with m v) m) v) i ≡ bit m i
     by i true q = let z = eqb-true i v q in rw z (bit-without-same (cond p (with m v) m) v ∙ sym e)
     by i false q =

@@ -14,6 +14,7 @@ use Rattle.walk.proofs.PositionLaws.{full-quiet}
 use Rattle.walk.proofs.MetLaws.{down-quiet}
 
 module _ (K : Tree) where
+  -- the replay tests that the trail is one of the tree
   pub replays-replayed : (t : Stack) → replays K t ≡ true → Replayed K t
   unfolding replays
   replays-replayed empty e = tt
@@ -26,6 +27,7 @@ module _ (K : Tree) where
         and-right (eqb v (K .choose t .variable)) _ y,
       )
 
+  -- and passes each
   pub replayed-replays : (t : Stack) → Replayed K t → replays K t ≡ true
   unfolding replays
   replayed-replays empty r = refl
@@ -40,6 +42,7 @@ module _ (K : Tree) where
     pub mode : mode-of position ≡ m
     pub stack : stack-of position ≡ t
 
+  -- the condition gives the position
   pub fits-stop : Live K → (m : ℕ) (t : Stack) → m ≤ 4 → fits K m t ≡ true → Stop m t
   unfolding fits
   fits-stop L zero empty h e = record { position = down empty; fine = tt; quiet = down-quiet K L empty (L .positive); mode = refl; stack = refl }
@@ -91,6 +94,7 @@ module _ (K : Tree) where
   fits-stop L (suc (suc (suc (suc zero)))) (push v b t) h e = absurd (false≢true e)
   fits-stop L (suc (suc (suc (suc (suc m))))) t h e = absurd (omega arith)
 
+  -- and holds of each
   pub stop-fits : Live K → (p : Position) → Ok K p → Quiet (next K p) → fits K (mode-of p) (stack-of p) ≡ true
   unfolding fits next
   stop-fits L (down empty) o q = refl

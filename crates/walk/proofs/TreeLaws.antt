@@ -40,6 +40,7 @@ node-same n cs (suc k) t =
     λ b. node-same n cs k (push (c .variable) b t) in
     rw (i false, i true)
 
+-- and so of the whole
 pub walk-same : (n : ℕ) (cs : List (List Literal)) → plain-walk n cs ≡ walk (tree n cs)
 unfolding plain-walk walk trail-of
 walk-same n cs = ap (λ (l : List Entry). l ++ (end ∷ [])) (node-same n cs n empty)
@@ -57,6 +58,7 @@ trail-agrees a (push v b t) g = (
   trail-agrees a t (λ l m. g l (Memᴰ·append-left _ m)),
 )
 
+-- and back
 pub agrees-trail : (a : ℕ) (t : Stack) → Agrees a t → terms.Agrees (bit a) (trail-of t)
 unfolding trail-of
 agrees-trail a empty g l m = absurd (List·Memᴰ·not-nil m)
@@ -103,6 +105,7 @@ module _ (n : ℕ) (cs : List (List Literal)) (Z : Sized n cs) (M : Matched (map
   node : (t : Stack) → Replayed (tree n cs) t → Node t
   node = replayed-ind (tree n cs) Node root (λ t r N h b o. grow t N h b o)
 
+  -- the variables of a trail are below n
   pub trail-below : (t : Stack) → Replayed (tree n cs) t → Below n t
   trail-below t r = node t r .below
 
@@ -125,6 +128,7 @@ module _ (n : ℕ) (cs : List (List Literal)) (Z : Sized n cs) (M : Matched (map
   has-model empty r = let w = sound-model n cs low (matched-sound n cs M) in (w .0, w .1, tt)
   has-model (push v b t) r = subst (λ (x : ℕ). (a : ℕ) × Model n cs a × Agrees a (push x b t)) (sym (r .2)) (open-model t (r .0) (r .1) b (r .3))
 
+  -- where a variable is left to assign, a value is open
   pub live : Live (tree n cs)
   live = record { positive = Z .some; alive = alive }
     where
@@ -138,6 +142,7 @@ module _ (n : ℕ) (cs : List (List Literal)) (Z : Sized n cs) (M : Matched (map
   full-length : (t : Stack) → depth t ≡ n → length (trail-of t) ≡ n
   full-length t h = length-trail t ∙ h
 
+  -- a full trail is one model, and no model has a closed value
   pub splits : Splits (tree n cs) (Model n cs)
   splits = record {
     full-model = λ t r h.

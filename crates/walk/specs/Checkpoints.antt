@@ -54,6 +54,7 @@ past p undo = record { mode = undone-mode (last-value (p .trail)); trail = witho
 past p (model a) = p
 past p end = record { mode = 4; trail = [] }
 
+-- some entries more
 unfoldable pub past-all : Behind → List Entry → Behind
 past-all p [] = p
 past-all p (e ∷ es) = past-all (past p e) es

@@ -9,7 +9,7 @@ use Rattle.walk.specs.Checkpoints.{Checkpoint, checkpoint-of, undone-mod
 use Rattle.walk.specs.InnerStack.{Stack, empty, push, depth, trail-of, Tree}
 use Rattle.walk.specs.InnerMachine.{Position, down, full, back, over}
 
--- a position's checkpoint
+-- a position's mode
 abbrev pub mode-of : Position → ℕ
 mode-of (down empty) = 0
 mode-of (down (push v b t)) = 1
@@ -17,19 +17,22 @@ mode-of (full t) = 1
 mode-of (back b t) = undone-mode b
 mode-of over = 4
 
+-- its trail
 abbrev pub stack-of : Position → Stack
 stack-of (down t) = t
 stack-of (full t) = t
 stack-of (back b t) = t
 stack-of over = empty
 
+-- both as a checkpoint
 abbrev pub shown : Position → Checkpoint
 shown p = checkpoint-of (mode-of p) (trail-of (stack-of p))
 
--- a byte's variable from 1 and its value
+-- a byte's variable, from 1
 abbrev pub byte-number : ℕ → ℕ
 byte-number x = cond (leb 128 x) (x - 128) x
 
+-- a byte's value
 abbrev pub byte-value : ℕ → Bool
 byte-value x = leb 128 x
 
@@ -64,6 +67,7 @@ zeros (x ∷ xs) = eqb x 0 && zeros xs
 unfoldable pub formed : Checkpoint → Bool
 formed c = leb (c .mode) 4 && (leb (c .length) 48 && (numbered (take (c .length) (c .bytes)) && zeros (drop (c .length) (c .bytes))))
 
+-- nothing is assigned
 abbrev pub is-empty : Stack → Bool
 is-empty empty = true
 is-empty (push v b t) = false

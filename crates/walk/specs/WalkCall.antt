@@ -33,6 +33,7 @@ pub record Result : Type 0 where
   pub expansions : ℕ
   pub checkpoint : Checkpoint
 
+-- how an answer is told
 abbrev pub kind-of : Answer → Kind
 kind-of (found a) = says-model
 kind-of spent = says-spent
@@ -44,6 +45,7 @@ model-of (found a) = a
 model-of spent = 0
 model-of ended = 0
 
+-- the values of an answer
 abbrev pub answered : Answer → ℕ → ℕ → Checkpoint → Result
 answered a s e c = record { kind = kind-of a; model = model-of a; number = 0; place = 0; steps = s; expansions = e; checkpoint = c }
 
