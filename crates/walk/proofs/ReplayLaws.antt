@@ -2,7 +2,7 @@
 use Prim.Native.Nat.{ℕ, suc, _-_, _<_}
 use mathlib.Core.Bool.{false}
 use mathlib.Core.List.{List, [], _∷_}
-use mathlib.Core.Path.{_≡_, refl, ap, _∙_}
+use mathlib.Core.Path.{_≡_, ap, _∙_}
 use lib.ListN.{length, getD, take}
 use lib.Seq.{take-suc}
 use Rattle.walk.specs.InnerStack.{Stack, empty, push, Tree}
