@@ -29,7 +29,7 @@ use Rattle.splitting.proofs.TrialLaws.{passes-matched, matched-passes, 
 -- Over matched clauses with no pure variable some candidate passes, and the first that does is the choice.
 pub left-chosen : (n : ℕ) (left : List (List Literal)) (e : ℕ) → n ≤ 64 → Below n left → NonePure left → Matched (map variables left) → 0 < length left
     → (among (candidates n left) (first-passing left (candidates n left) e .variable) ≡ true)
-      × (trial left (first-passing left (candidates n left) e .variable) .passes ≡ true)
+    × (trial left (first-passing left (candidates n left) e .variable) .passes ≡ true)
 left-chosen n left e fits low np M some =
     let w = splits left M some np in
     first-passes left (candidates n left) e (w .0) (named-candidates n left low (w .0) (w .1)) (matched-passes n left (w .0) fits low (w .2))
@@ -41,7 +41,7 @@ module _ (n : ℕ) (ds : List (List Literal)) (fits : n ≤ 64) (low : Below n d
   -- what is left of a sound list, not nothing, as left-chosen wants it
   left-passes : Sound n ds → (c : List Literal) (left : List (List Literal)) → stripped n ds .left ≡ c ∷ left
       → (among (candidates n (c ∷ left)) (first-passing (c ∷ left) (candidates n (c ∷ left)) 0 .variable) ≡ true)
-        × (trial (c ∷ left) (first-passing (c ∷ left) (candidates n (c ∷ left)) 0 .variable) .passes ≡ true)
+      × (trial (c ∷ left) (first-passing (c ∷ left) (candidates n (c ∷ left)) 0 .variable) .passes ≡ true)
   left-passes S c left e =
       left-chosen n (c ∷ left) 0 fits (subst (Below n) e left-below) (subst NonePure e (left-none-pure n ds low))
       (subst (λ (l : List (List Literal)). Matched (map variables l)) e S) (omega arith)
@@ -84,6 +84,7 @@ chosen-free n free (c ∷ cs) fits low S names-free w = go (stripped n (c ∷ cs
   where
     ok : (v : ℕ) → named (c ∷ cs) v ≡ true → (v < n) × (free v ≡ true)
     ok v h = (low v h, names-free v h)
+
     go : (left : List (List Literal)) → stripped n (c ∷ cs) .left ≡ left
         → (by-left n (c ∷ cs) (stripped n (c ∷ cs) .noted) left .variable < n) × (free (by-left n (c ∷ cs) (stripped n (c ∷ cs) .noted) left .variable) ≡ true)
     go [] e =

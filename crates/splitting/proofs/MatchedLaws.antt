@@ -135,6 +135,7 @@ turning cs m np nm = (λ i. (pick i) .0, λ i. (pick i) .1)
         let c = occurs-some cs (m i) (not (w .0)) o in
         let p = element-place cs (c .0) [] (c .1) in
         (p .0, (p .1, w .0, w .1, subst (λ (d : List Literal). names-as d (m i) (not (w .0)) ≡ true) (sym (p .2)) (c .2)))
+
     pick : (i : ℕ) → (j : ℕ) × (i < length cs → Turns cs m i j)
     pick i =
         ⊎-elim
@@ -200,12 +201,11 @@ splits cs (vs, M) some np =
     let z = K .some in
     let z-low = K .low z (K .some-in) in
     let t = turns z z-low in
-    let home : m (back cs m nm apart q turns K (q z)) ≡ m z = ap m (back-in cs m nm apart q turns K (q z) (K .fwd z (K .some-in)) .2 refl) in
-    (
+    let home : m (back cs m nm apart q turns K (q z)) ≡ m z = ap m (back-in cs m nm apart q turns K (q z) (K .fwd z (K .some-in)) .2 refl) in (
       m z,
       named-in cs (m z) (t .1) (occurs-in cs (at cs z) (m z) (t .1) (getD-element cs z [] z-low) (t .2)),
       both-signs (λ b. Matched (map variables (assign (m z) b cs))) (t .1)
-        (assigned-matched cs vs z (m z) (t .1) M z-low refl (t .2))
-        (assigned-matched cs (tabulated (λ j. m (back cs m nm apart q turns K j)) n) (q z) (m z) (not (t .1)) (turned cs m nm apart q turns K) (t .0)
-        (getD-tabulated (λ j. m (back cs m nm apart q turns K j)) n (q z) 0 (t .0) ∙ home) (t .3)),
+          (assigned-matched cs vs z (m z) (t .1) M z-low refl (t .2))
+          (assigned-matched cs (tabulated (λ j. m (back cs m nm apart q turns K j)) n) (q z) (m z) (not (t .1)) (turned cs m nm apart q turns K) (t .0)
+          (getD-tabulated (λ j. m (back cs m nm apart q turns K j)) n (q z) 0 (t .0) ∙ home) (t .3)),
     )

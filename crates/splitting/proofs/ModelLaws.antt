@@ -160,6 +160,7 @@ matched-satisfies cs (vs, M) = (λ x. names-as (getD cs (owner vs x - 1) []) x t
         (λ j k u w. M .distinct j k (omega (arith, M .one-each)) (omega (arith, M .one-each)))
         (omega (arith, M .one-each)) refl in
         omega arith
+
     here : (c : List Literal) (i : ℕ) → i < length cs → getD cs i [] ≡ c → (v : ℕ) × (names-as c v (names-as (getD cs (owner vs v - 1) []) v true) ≡ true)
     here c i l e =
         let v = getD vs i 0 in
@@ -198,6 +199,7 @@ mask-below (suc n) a v l =
     here : (b : Bool) → a n ≡ b → bit (cond b (with (mask n a) n) (mask n a)) n ≡ a n
     here true e = bit-with-same (mask n a) n ∙ sym e
     here false e = mask-above n a n (omega arith) ∙ sym e
+
     there : (b : Bool) → v < n → bit (mask n a) v ≡ a v → bit (cond b (with (mask n a) n) (mask n a)) v ≡ a v
     there true k e = bit-with-other (mask n a) n v (λ q. omega arith) ∙ e
     there false k e = e

@@ -47,6 +47,7 @@ assign-origin v b (d ∷ cs) {rs} s = go (λ s. assign-origin v b cs s) (λ r s.
   where
     skip : Origin v b rs cs → Origin v b rs (d ∷ cs)
     skip o = record { clauses = o .clauses; sub = Sublistᴰ·cons (o .sub); left = o .left; unsatisfied = o .unsatisfied }
+
     take : (r : List (List Literal)) → rs ≡ less v d ∷ r → names-as d v b ≡ false → Origin v b r cs → Origin v b rs (d ∷ cs)
     take r e f o = record {
       clauses = d ∷ o .clauses;
@@ -54,6 +55,7 @@ assign-origin v b (d ∷ cs) {rs} s = go (λ s. assign-origin v b cs s) (λ r s.
       left = e ∙ ap (λ (l : List (List Literal)). less v d ∷ l) (o .left);
       unsatisfied = λ c m. ⊎-elim (λ (q : c ≡ d). rw q f) (λ more. o .unsatisfied c more) (List·Memᴰ·cases-cons m);
     }
+
     go : (Sublistᴰ rs (assign v b cs) → Origin v b rs cs) → ((r : List (List Literal)) → Sublistᴰ r (assign v b cs) → Origin v b r cs)
         → (a : Bool) → names-as d v b ≡ a → Sublistᴰ rs (cond a (assign v b cs) (less v d ∷ assign v b cs)) → Origin v b rs (d ∷ cs)
     go rec each true e s = skip (rec s)

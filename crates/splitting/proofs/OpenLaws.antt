@@ -28,8 +28,7 @@ sound-agrees : (n : ℕ) (cs : List (List Literal)) (t : List Literal) (v : ℕ)
 sound-agrees n cs t v b low T l new S =
     let w = sound-satisfies n (assign v b (remaining t cs)) S in
     let here : ℕ → Bool = under (given v b) (w .0) in
-    let all : ℕ → Bool = under t here in
-    (
+    let all : ℕ → Bool = under t here in (
       mask n all,
       mask-model n all cs low (under-satisfies here t cs (T .once) (given-satisfies (w .0) v b (remaining t cs) (w .1))),
       λ k m.

@@ -47,12 +47,16 @@ left-origin n x b cs low at = rw (O .left) (assign-sub x b (left-keeps n ds cs (
   where
     kept : List (List Literal)
     kept = stripped n cs .left
+
     O : Origin x b (stripped n (assign x b cs) .left) cs
     O = assign-origin x b cs (left-sub n (assign x b cs))
+
     ds : List (List Literal)
     ds = O .clauses
+
     kept-none : NonePure kept
     kept-none = left-none-pure n cs low
+
     -- x occurs both ways in what was left, another variable both ways or not at all in either part
     none : NonePure (kept ++ ds)
     none v =
@@ -71,8 +75,10 @@ left-origin n x b cs low at = rw (O .left) (assign-sub x b (left-keeps n ds cs (
         let q : occurs kept v true || occurs ds v true ≡ occurs kept v false || occurs ds v false = rw (p, d) in
         pure-not (kept ++ ds) v (occurs-append kept ds v true ∙ q ∙ sym (occurs-append kept ds v false)))
         (look (eqb v x))
+
     within : Within (kept ++ ds) cs
     within c m = ⊎-elim (sub-within (left-sub n cs) c) (sub-within (O .sub) c) (List·Memᴰ·append-cases kept m)
+
     clear : (y : ℕ) → among (stripped n cs .noted) y ≡ true → (s : Bool) → occurs ds y s ≡ false
     clear y t s =
         ⊎-elim
@@ -150,10 +156,13 @@ last-named n cs low y h = go (noted ++ others) refl
   where
     noted : List ℕ
     noted = stripped n cs .noted
+
     others : List ℕ
     others = upward (λ v. named cs v && not (among noted v)) n
+
     each : (x : ℕ) → among (noted ++ others) x ≡ true → named cs x ≡ true
     each x t = ⊎-elim (noted-named n cs x) (λ o. others-of n cs x o .0) (among-append noted others x t)
+
     go : (l : List ℕ) → noted ++ others ≡ l → named cs (last (noted ++ others)) ≡ true
     go [] e =
         ⊎-elim
@@ -189,8 +198,10 @@ last-none n x b cs low bare lo full =
   where
     O : Origin x b (stripped n (assign x b cs) .left) cs
     O = assign-origin x b cs (left-sub n (assign x b cs))
+
     ds : List (List Literal)
     ds = O .clauses
+
     -- the part that is left names no noted variable but x
     off : (y : ℕ) → among (stripped n cs .noted) y ≡ true → (y ≡ x → ⊥) → (s : Bool) → occurs ds y s ≡ false
     off =

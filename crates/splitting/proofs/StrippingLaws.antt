@@ -193,7 +193,7 @@ pub none-noted-but : (n x : ℕ) (ds : List (List Literal)) → NonePure (map (l
 none-noted-but n x ds np cs =
     strip-ind n
     (λ cs l left. ((z : ℕ) → among l z ≡ true → named cs z ≡ true)
-      × (Within ds cs → (among l x ≡ false) ⊎ (last l ≡ x) → (y : ℕ) → among l y ≡ true → (y ≡ x → ⊥) → (s : Bool) → occurs ds y s ≡ false))
+    × (Within ds cs → (among l x ≡ false) ⊎ (last l ≡ x) → (y : ℕ) → among l y ≡ true → (y ≡ x → ⊥) → (s : Bool) → occurs ds y s ≡ false))
     (λ cs _. (λ z t. among-none z t, λ _ _ y t. among-none y t))
     (λ cs left l z _ p rec. (
       λ y t.

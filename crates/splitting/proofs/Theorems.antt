@@ -71,7 +71,7 @@ candidates-few n left = trials.candidates-length n left
 -- 'The first switch for which both succeed is chosen.' One exists: the chosen variable is a candidate, and its trial passes.
 pub chosen-passes : (n : ℕ) (cs : List (List Literal)) → n ≤ 64 → Below n cs → Sound n cs → 0 < length (stripped n cs .left)
     → (among (candidates n (stripped n cs .left)) (first-passing (stripped n cs .left) (candidates n (stripped n cs .left)) 0 .variable) ≡ true)
-      × (trial (stripped n cs .left) (first-passing (stripped n cs .left) (candidates n (stripped n cs .left)) 0 .variable) .passes ≡ true)
+    × (trial (stripped n cs .left) (first-passing (stripped n cs .left) (candidates n (stripped n cs .left)) 0 .variable) .passes ≡ true)
 chosen-passes n cs fits low S some =
     choices.left-chosen n (stripped n cs .left) 0 fits (choices.left-below n cs fits low) (stripping.left-none-pure n cs low) S some
 
@@ -143,8 +143,8 @@ full-model n cs t low T h S a g above =
 -- one of the n and not yet assigned, and a value of it is open exactly if some model agrees with the trail and has it.
 pub open-means : (n : ℕ) (cs : List (List Literal)) (t : List Literal) → n ≤ 64 → Every (ClauseOver n) cs → Trail n t → length t < n → Sound n (remaining t cs)
     → (choice n (full n) cs t .variable < n)
-      × (names t (choice n (full n) cs t .variable) ≡ false)
-      × ((b : Bool) → (opened (choice n (full n) cs t) b ≡ true) ↔ ((a : ℕ) × Model n cs a × Agrees (bit a) t × (bit a (choice n (full n) cs t .variable) ≡ b)))
+    × (names t (choice n (full n) cs t .variable) ≡ false)
+    × ((b : Bool) → (opened (choice n (full n) cs t) b ≡ true) ↔ ((a : ℕ) × Model n cs a × Agrees (bit a) t × (bit a (choice n (full n) cs t .variable) ≡ b)))
 open-means n cs t fits over T short S =
     let low = nodes.clauses-below n cs over in
     let w = opens.choice-new n cs t fits low T S short in

@@ -62,11 +62,11 @@ matched-cost n m cs fits low few =
 abbrev tried : List (List Literal) → ℕ → Bool → Trial
 tried cs v s =
     elim s [
-      true ↦ record {
+      | true ↦ record {
         passes = succeeds (matched (assign v true cs));
         cost = expansions (matched (assign v false cs)) + expansions (matched (assign v true cs));
       }
-    | false ↦ record { passes = false; cost = expansions (matched (assign v false cs)) }
+      | false ↦ record { passes = false; cost = expansions (matched (assign v false cs)) }
     ]
 
 -- a trial that passes leaves the clauses matched for both values
@@ -77,9 +77,11 @@ passes-matched n cs v fits low t = go (succeeds (matched (assign v false cs))) r
   where
     decided : (b : Bool) → succeeds (matched (assign v b cs)) ≡ true → Matched (map variables (assign v b cs))
     decided b h = succeeds-matched n (assign v b cs) fits (below-assign n v b cs low) h
+
     both : succeeds (matched (assign v false cs)) ≡ true → succeeds (matched (assign v true cs)) ≡ true → (b : Bool) → Matched (map variables (assign v b cs))
     both e f false = decided false e
     both e f true = decided true f
+
     go : (s : Bool) → succeeds (matched (assign v false cs)) ≡ s → tried cs v s .passes ≡ true → (b : Bool) → Matched (map variables (assign v b cs))
     go true e t = both e t
     go false e t = clash t refl
@@ -98,6 +100,7 @@ trial-cost n m cs v fits low few = go (succeeds (matched (assign v false cs)))
   where
     each : (b : Bool) → 2 * expansions (matched (assign v b cs)) ≤ m * suc m
     each b = matched-cost n m (assign v b cs) fits (below-assign n v b cs low) (let l = length-assign v b cs in omega arith)
+
     go : (s : Bool) → tried cs v s .cost ≤ m * suc m
     go true = omega (arith, each false, each true)
     go false = omega (arith, each false)
@@ -133,8 +136,9 @@ first-passes cs (x ∷ vs) e v m t = go (λ k. first-passes cs vs (e + trial cs 
   where
     Ok : ℕ → Type 0
     Ok w = (among (x ∷ vs) w ≡ true) × (trial cs w .passes ≡ true)
+
     go : (among vs v ≡ true
-          → (among vs (first-passing cs vs (e + trial cs x .cost) .variable) ≡ true) × (trial cs (first-passing cs vs (e + trial cs x .cost) .variable) .passes ≡ true))
+        → (among vs (first-passing cs vs (e + trial cs x .cost) .variable) ≡ true) × (trial cs (first-passing cs vs (e + trial cs x .cost) .variable) .passes ≡ true))
         → (p : Bool) → trial cs x .passes ≡ p → Ok (chosen cs vs e x p .variable)
     go rec true h = (among-here x vs, h)
     go rec false h =
@@ -151,6 +155,7 @@ first-open cs (x ∷ vs) e = go (first-open cs vs (e + trial cs x .cost)) (trial
   where
     Ok : Choice → Type 0
     Ok c = (c .false_open ≡ true) × (c .true_open ≡ true)
+
     go : Ok (first-passing cs vs (e + trial cs x .cost)) → (p : Bool)
         → Ok (chosen cs vs e x p)
     go rec true = (refl, refl)

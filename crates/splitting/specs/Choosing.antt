@@ -26,11 +26,11 @@ pub record Trial : Type 0 where
 unfoldable pub trial : List (List Literal) → ℕ → Trial
 trial cs v =
     elim (succeeds (matched (assign v false cs))) [
-      true ↦ record {
+      | true ↦ record {
         passes = succeeds (matched (assign v true cs));
         cost = expansions (matched (assign v false cs)) + expansions (matched (assign v true cs));
       }
-    | false ↦ record { passes = false; cost = expansions (matched (assign v false cs)) }
+      | false ↦ record { passes = false; cost = expansions (matched (assign v false cs)) }
     ]
 
 -- ---- the choice

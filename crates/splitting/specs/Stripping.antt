@@ -29,8 +29,8 @@ unfoldable pub strip : ℕ → ℕ → List (List Literal) → Stripped
 strip zero n cs = record { noted = []; left = cs }
 strip (suc k) n cs =
     elim (ltb (lowest-with (pure cs) n) n) [
-      true ↦ note (lowest-with (pure cs) n) (strip k n (not-naming (lowest-with (pure cs) n) cs))
-    | false ↦ record { noted = []; left = cs }
+      | true ↦ note (lowest-with (pure cs) n) (strip k n (not-naming (lowest-with (pure cs) n) cs))
+      | false ↦ record { noted = []; left = cs }
     ]
 
 abbrev pub stripped : ℕ → List (List Literal) → Stripped
