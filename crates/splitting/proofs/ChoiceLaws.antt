@@ -9,7 +9,6 @@ use lib.ListN.{length}
 use borrow.Author.Tests.{not-true, not-false}
 use Rattle.lists.proofs.SublistLaws.{sub-within, sub-length}
 use Rattle.matching.specs.Matched.{Matched}
-use Rattle.matching.specs.Search.{expansions}
 use Rattle.matching.proofs.Counting.{clash}
 use Rattle.formula.specs.Format.{Literal}
 use Rattle.formula.specs.Masked.{variables}
@@ -24,7 +23,7 @@ use Rattle.splitting.proofs.MatchedLaws.{splits}
 use Rattle.splitting.proofs.SoundLaws.{none-sound, left-sound, noted-some, last-of, last-named, last-none, emptied-unsatisfied}
 use Rattle.splitting.proofs.TrialLaws.{passes-matched, matched-passes, candidates-named, named-candidates, candidates-length, first-passes, first-open, first-cost}
 
--- ── Something is left ─────────────────────────────────────────────────────────────────────────────────────────────────
+-- ── Something is left ────────────────────────────────────────────────────────────────────────────────────────────────
 
 -- Over matched clauses with no pure variable some candidate passes, and the first that does is the choice.
 pub left-chosen : (n : ℕ) (left : List (List Literal)) (e : ℕ) → n ≤ 64 → Below n left → NonePure left → Matched (map variables left) → 0 < length left
@@ -59,7 +58,7 @@ module _ (n : ℕ) (ds : List (List Literal)) (fits : n ≤ 64) (low : Below n d
       left-sound n v b ds low (left-named S c left e)
       (rw e (passes-matched n (c ∷ left) v fits (subst (Below n) e left-below) (left-passes S c left e .1) b))
 
--- ── Nothing is left, or no clause remains ─────────────────────────────────────────────────────────────────────────────
+-- ── Nothing is left, or no clause remains ────────────────────────────────────────────────────────────────────────────
 
 -- a value of the last listed is open if it empties no clause
 listed-open : (cs : List (List Literal)) (v : ℕ) (b : Bool) → opened (last-listed cs v) b ≡ not (emptied (assign v b cs))
@@ -72,7 +71,7 @@ none-remain : (n v : ℕ) (b : Bool) → Sound n (assign v b [])
 unfolding assign
 none-remain n v b = none-sound n [] (Sublistᴰ·eq-nil (left-sub n []))
 
--- ── All three cases ───────────────────────────────────────────────────────────────────────────────────────────────────
+-- ── All three cases ──────────────────────────────────────────────────────────────────────────────────────────────────
 
 -- the chosen variable is free and below n, where a free one is and the named ones are
 pub chosen-free : (n : ℕ) (free : ℕ → Bool) (ds : List (List Literal)) → n ≤ 64 → Below n ds → Sound n ds

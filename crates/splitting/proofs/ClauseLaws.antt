@@ -14,7 +14,7 @@ use Rattle.formula.proofs.ClauseLaws.{named-as}
 use Rattle.splitting.specs.Nodes.{less, occurs, named}
 use Rattle.splitting.specs.Stripping.{pure}
 
--- ── One clause ────────────────────────────────────────────────────────────────────────────────────────────────────────
+-- ── One clause ───────────────────────────────────────────────────────────────────────────────────────────────────────
 
 -- a literal names its variable
 pub literal-names : (c : List Literal) (l : Literal) → List·Memᴰ l c → names-as c (l .variable) (l .positive) ≡ true
@@ -69,24 +69,20 @@ names-some (l ∷ c) v t =
         subst (λ (u : Bool). names-as (l ∷ c) v u ≡ true) (w .3)
         (subst (λ x. names-as (l ∷ c) x (w .0 .positive) ≡ true) (w .2) (literal-names (l ∷ c) (w .0) (List·Memᴰ·tail (w .1))))
 
+-- not named is not named one way
 pub names-none : (c : List Literal) (v : ℕ) → names c v ≡ false → (s : Bool) → names-as c v s ≡ false
 names-none c v f s = ⊎-elim (λ t. clash (named-as c v s t) f) (λ e. e) (look (names-as c v s))
 
--- a clause that names nothing is empty
-pub names-empty : (c : List Literal) → ((v : ℕ) → names c v ≡ true → ⊥) → c ≡ []
-unfolding names
-names-empty [] none = refl
-names-empty (l ∷ c) none = absurd (none (l .variable) (or-l (eqb (l .variable) (l .variable)) (names c (l .variable)) (eq-eqb (l .variable) (l .variable) refl)))
+-- ── A clause less a variable ─────────────────────────────────────────────────────────────────────────────────────────
 
--- ── A clause less a variable ──────────────────────────────────────────────────────────────────────────────────────────
-
-pub less-self : (x : ℕ) (c : List Literal) (s : Bool) → names-as (less x c) x s ≡ false
+less-self : (x : ℕ) (c : List Literal) (s : Bool) → names-as (less x c) x s ≡ false
 unfolding less names-as
 less-self x [] s = refl
 less-self x (l ∷ c) s =
     let r = less-self x c s in
     ⊎-elim (λ (t : eqb (l .variable) x ≡ true). rw t r) (λ (f : eqb (l .variable) x ≡ false). rw (f, f) r) (look (eqb (l .variable) x))
 
+-- other variables stay as they are
 pub less-other : (x : ℕ) (c : List Literal) (y : ℕ) (s : Bool) → (y ≡ x → ⊥) → names-as (less x c) y s ≡ names-as c y s
 unfolding less names-as
 less-other x [] y s ne = refl
@@ -103,8 +99,9 @@ less-of x c y s t =
     let ne : y ≡ x → ⊥ = λ e. clash t (subst (λ z. names-as (less x c) z s ≡ false) (sym e) (less-self x c s)) in
     (sym (less-other x c y s ne) ∙ t, ne)
 
--- ── A list of clauses ─────────────────────────────────────────────────────────────────────────────────────────────────
+-- ── A list of clauses ────────────────────────────────────────────────────────────────────────────────────────────────
 
+-- what occurs is named by some clause
 pub occurs-some : (cs : List (List Literal)) (v : ℕ) (s : Bool) → occurs cs v s ≡ true → (c : List Literal) × List·Memᴰ c cs × (names-as c v s ≡ true)
 unfolding occurs
 occurs-some [] v s t = clash t refl
@@ -114,6 +111,7 @@ occurs-some (c ∷ cs) v s t =
     (λ h. let w = occurs-some cs v s h in (w .0, List·Memᴰ·tail (w .1), w .2))
     (or-cases (names-as c v s) (occurs cs v s) t)
 
+-- what some clause names occurs
 pub occurs-in : (cs : List (List Literal)) (c : List Literal) (v : ℕ) (s : Bool) → List·Memᴰ c cs → names-as c v s ≡ true → occurs cs v s ≡ true
 unfolding occurs
 occurs-in [] c v s m t = absurd (List·Memᴰ·not-nil m)
@@ -127,6 +125,7 @@ occurs-in (d ∷ cs) c v s m t =
 pub occurs-within : (ds cs : List (List Literal)) (v : ℕ) (s : Bool) → Within ds cs → occurs ds v s ≡ true → occurs cs v s ≡ true
 occurs-within ds cs v s w t = let c = occurs-some ds v s t in occurs-in cs (c .0) v s (w (c .0) (c .1)) (c .2)
 
+-- in two lists occurs what occurs in either
 pub occurs-append : (ds cs : List (List Literal)) (v : ℕ) (s : Bool) → occurs (ds ++ cs) v s ≡ occurs ds v s || occurs cs v s
 unfolding occurs
 occurs-append [] cs v s = refl
@@ -136,20 +135,18 @@ occurs-append (d ∷ ds) cs v s = rw (occurs-append ds cs v s) (assoc (names-as 
     assoc true b c = refl
     assoc false b c = refl
 
+-- where x is gone, other variables occur as before
 pub occurs-less : (x : ℕ) (cs : List (List Literal)) (y : ℕ) (s : Bool) → (y ≡ x → ⊥) → occurs (map (less x) cs) y s ≡ occurs cs y s
 unfolding occurs
 occurs-less x [] y s ne = refl
 occurs-less x (c ∷ cs) y s ne = rw (less-other x c y s ne, occurs-less x cs y s ne)
 
-pub occurs-less-self : (x : ℕ) (cs : List (List Literal)) (s : Bool) → occurs (map (less x) cs) x s ≡ false
-unfolding occurs
-occurs-less-self x [] s = refl
-occurs-less-self x (c ∷ cs) s = rw (less-self x c s) (occurs-less-self x cs s)
-
+-- what is named occurs one way
 pub named-some : (cs : List (List Literal)) (v : ℕ) → named cs v ≡ true → (s : Bool) × (occurs cs v s ≡ true)
 unfolding named
 named-some cs v t = ⊎-elim (λ h. (true, h)) (λ h. (false, h)) (or-cases (occurs cs v true) (occurs cs v false) t)
 
+-- what occurs is named
 pub named-in : (cs : List (List Literal)) (v : ℕ) (s : Bool) → occurs cs v s ≡ true → named cs v ≡ true
 unfolding named
 named-in cs v true t = or-l (occurs cs v true) (occurs cs v false) t
@@ -159,10 +156,11 @@ named-in cs v false t = or-r (occurs cs v true) (occurs cs v false) t
 pub named-by : (cs : List (List Literal)) (c : List Literal) (v : ℕ) → List·Memᴰ c cs → names c v ≡ true → named cs v ≡ true
 named-by cs c v m t = let w = names-some c v t in named-in cs v (w .0) (occurs-in cs c v (w .0) m (w .1))
 
+-- among the clauses of a list nothing else is named
 pub named-within : (ds cs : List (List Literal)) (v : ℕ) → Within ds cs → named ds v ≡ true → named cs v ≡ true
 named-within ds cs v w t = let s = named-some ds v t in named-in cs v (s .0) (occurs-within ds cs v (s .0) w (s .1))
 
--- ── Pure variables ────────────────────────────────────────────────────────────────────────────────────────────────────
+-- ── Pure variables ───────────────────────────────────────────────────────────────────────────────────────────────────
 
 -- a variable that is not pure occurs both ways or not at all
 pub not-pure : (cs : List (List Literal)) (v : ℕ) → pure cs v ≡ false → occurs cs v true ≡ occurs cs v false
@@ -175,6 +173,7 @@ not-pure cs v f = same (occurs cs v true) (occurs cs v false) f
     same false true e = clash refl e
     same false false e = refl
 
+-- and such a one is not pure
 pub pure-not : (cs : List (List Literal)) (v : ℕ) → occurs cs v true ≡ occurs cs v false → pure cs v ≡ false
 unfolding pure xor
 pure-not cs v e = apart (occurs cs v true) (occurs cs v false) e
@@ -203,6 +202,7 @@ pure-ways cs v t = ways (occurs cs v true) (occurs cs v false) refl refl t
     ways false true p q e = (false, q, p)
     ways false false p q e = clash e refl
 
+-- a pure variable is named
 pub pure-named : (cs : List (List Literal)) (v : ℕ) → pure cs v ≡ true → named cs v ≡ true
 pure-named cs v t = let w = pure-ways cs v t in named-in cs v (w .0) (w .1)
 

@@ -12,6 +12,7 @@ use Rattle.splitting.specs.Nodes.{lowest-with}
 use Rattle.splitting.proofs.SearchLaws.{lowest-some, lowest-none, lowest-found}
 use Rattle.splitting.proofs.CountLaws.{count-le, except-of}
 
+-- a part of the numbers below n that q takes onto itself, not empty
 pub record Core (q : ℕ → ℕ) (n : ℕ) : Type 0 where
   pub In : ℕ → Bool
   pub low : (i : ℕ) → In i ≡ true → i < n
@@ -81,6 +82,7 @@ module _ (q : ℕ → ℕ) (n : ℕ) where
 abbrev pub Back : (q : ℕ → ℕ) (n : ℕ) → Core q n → ℕ → ℕ → Type 0
 Back q n K j i = (K .In j ≡ true → (K .In i ≡ true) × (q i ≡ j) × (j ≡ q (K .some) → i ≡ K .some)) × (K .In j ≡ false → i ≡ j)
 
+-- there is one from every number
 pub turn : (q : ℕ → ℕ) (n : ℕ) (K : Core q n) (j : ℕ) → (i : ℕ) × Back q n K j i
 turn q n K j =
     ⊎-elim

@@ -17,6 +17,7 @@ except-of f a i e = and-left (f i) (not (eqb i a)) e
 pub count-sub : (f g : ℕ → Bool) (n : ℕ) → ((i : ℕ) → f i ≡ true → g i ≡ true) → count f n ≤ count g n
 count-sub f g n sub = pigeon f n g n (λ i. i) (λ i l t. (l, sub i t)) (λ i j _ _ _ _ e. e)
 
+-- below n there are at most n
 pub count-le : (f : ℕ → Bool) (n : ℕ) → count f n ≤ n
 count-le f n = omega (arith, count-sub f (λ _. true) n (λ i _. refl), count-all n)
 

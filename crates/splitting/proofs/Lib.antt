@@ -3,6 +3,7 @@ pub mod ClauseLaws
 pub mod CountLaws
 pub mod SearchLaws
 pub mod StrippingLaws
+pub mod TurnLaws
 pub mod NodeLaws
 pub mod CoreLaws
 pub mod MatchedLaws

@@ -24,7 +24,7 @@ use Rattle.splitting.proofs.Terms.{NonePure}
 use Rattle.splitting.proofs.ClauseLaws.{names-some, less-other, occurs-some, occurs-in, named-in, other-way}
 use Rattle.splitting.proofs.CoreLaws.{Core, core, turn}
 
--- ── Sub-lists ─────────────────────────────────────────────────────────────────────────────────────────────────────────
+-- ── Sub-lists ────────────────────────────────────────────────────────────────────────────────────────────────────────
 
 marks-of : {xs sets : List ℕ} → Sublistᴰ xs sets → (marks : List ℕ) × (chosen marks sets ≡ xs)
 unfolding chosen
@@ -40,11 +40,13 @@ sub-sets-matched {sets = sets} s M = let w = marks-of s in subst Matched (w .1) 
 pub sub-matched : {ds cs : List (List Literal)} → Sublistᴰ ds cs → Matched (map variables cs) → Matched (map variables ds)
 sub-matched s M = sub-sets-matched (sub-map variables s) M
 
--- ── Matchings by position ─────────────────────────────────────────────────────────────────────────────────────────────
+-- ── Matchings by position ────────────────────────────────────────────────────────────────────────────────────────────
 
+-- the clause at a position
 abbrev pub at : List (List Literal) → ℕ → List Literal
 at cs i = getD cs i []
 
+-- and its mask
 pub variables-at : (cs : List (List Literal)) (i : ℕ) → getD (map variables cs) i 0 ≡ variables (at cs i)
 unfolding variables
 variables-at cs i = List·getD-map variables cs i []
@@ -54,7 +56,7 @@ pub matches-names : (cs : List (List Literal)) (vs : List ℕ) → Matches (map 
 matches-names cs vs M i l =
     sym (variables-bit (at cs i) (getD vs i 0)) ∙ (let h = length-map cs variables in rw (variables-at cs i) at (M .named i (omega arith)))
 
-pub matches-apart : (cs : List (List Literal)) (vs : List ℕ) → Matches (map variables cs) vs
+matches-apart : (cs : List (List Literal)) (vs : List ℕ) → Matches (map variables cs) vs
     → (i j : ℕ) → i < length cs → j < length cs → getD vs i 0 ≡ getD vs j 0 → i ≡ j
 matches-apart cs vs M i j l k = let h = length-map cs variables in M .distinct i j (omega arith) (omega arith)
 
@@ -71,7 +73,7 @@ matches-of cs m nm apart =
           apart i j (omega arith) (omega arith) (sym (getD-tabulated m n i 0 (omega arith)) ∙ e ∙ getD-tabulated m n j 0 (omega arith));
     }
 
--- ── A matching that gives x to a clause that x = s satisfies serves where x gets the value s ──────────────────────────
+-- ── A matching that gives x to a clause that x = s satisfies serves where x gets the value s ─────────────────────────
 
 -- the variables of a clause that x = s satisfies, and of another less x
 part : ℕ → Bool → List Literal → ℕ
@@ -118,7 +120,7 @@ assigned-matched cs vs i x s M l is sat =
       },
     )
 
--- ── The splitting theorem (source, theorem 5.9) ───────────────────────────────────────────────────────────────────────
+-- ── The splitting theorem (source, theorem 5.9) ──────────────────────────────────────────────────────────────────────
 
 -- clause j has the variable of clause i the other way
 abbrev Turns : List (List Literal) → (ℕ → ℕ) → ℕ → ℕ → Type 0

@@ -29,8 +29,9 @@ use Rattle.splitting.proofs.StrippingLaws.{not-naming-in, strip-ind}
 use Rattle.splitting.proofs.NodeLaws.{assign-in, assign-of, named-assign, named-remaining}
 use Rattle.splitting.proofs.MatchedLaws.{matches-names}
 
--- ── Assigning ─────────────────────────────────────────────────────────────────────────────────────────────────────────
+-- ── Assigning ────────────────────────────────────────────────────────────────────────────────────────────────────────
 
+-- what satisfies the clauses satisfies what an assignment leaves of them, if it has the value
 pub satisfies-assign : (a : ℕ → Bool) (v : ℕ) (b : Bool) (cs : List (List Literal)) → Satisfies a cs → a v ≡ b → Satisfies a (assign v b cs)
 satisfies-assign a v b cs sat e d m =
     let c = assign-of v b cs d m in
@@ -38,7 +39,8 @@ satisfies-assign a v b cs sat e d m =
     let ne : w .0 ≡ v → ⊥ = λ q. clash (subst (λ s. names-as (c .0) v s ≡ true) e (subst (λ x. names-as (c .0) x (a x) ≡ true) q (w .1))) (c .3) in
     (w .0, subst (λ (k : List Literal). names-as k (w .0) (a (w .0)) ≡ true) (sym (c .2)) (less-other v (c .0) (w .0) (a (w .0)) ne ∙ w .1))
 
-pub assign-satisfies : (a : ℕ → Bool) (v : ℕ) (b : Bool) (cs : List (List Literal)) → Satisfies a (assign v b cs) → a v ≡ b → Satisfies a cs
+-- and the other way round
+assign-satisfies : (a : ℕ → Bool) (v : ℕ) (b : Bool) (cs : List (List Literal)) → Satisfies a (assign v b cs) → a v ≡ b → Satisfies a cs
 assign-satisfies a v b cs sat e c m =
     ⊎-elim
     (λ (h : names-as c v b ≡ true). (v, rw e h))
@@ -47,6 +49,7 @@ assign-satisfies a v b cs sat e c m =
     (w .0, less-of v c (w .0) (a (w .0)) (w .1) .0))
     (look (names-as c v b))
 
+-- and what a trail leaves of them, if it agrees with the trail
 pub satisfies-remaining : (a : ℕ → Bool) (t : List Literal) (cs : List (List Literal)) → Satisfies a cs → Agrees a t → Satisfies a (remaining t cs)
 unfolding remaining
 satisfies-remaining a [] cs sat g = sat
@@ -54,6 +57,7 @@ satisfies-remaining a (l ∷ t) cs sat g =
     satisfies-remaining a t (assign (l .variable) (l .positive) cs) (satisfies-assign a (l .variable) (l .positive) cs sat (g l (List·Memᴰ·head refl)))
     (λ k m. g k (List·Memᴰ·tail m))
 
+-- and the other way round
 pub remaining-satisfies : (a : ℕ → Bool) (t : List Literal) (cs : List (List Literal)) → Satisfies a (remaining t cs) → Agrees a t → Satisfies a cs
 unfolding remaining
 remaining-satisfies a [] cs sat g = sat
@@ -63,7 +67,7 @@ remaining-satisfies a (l ∷ t) cs sat g =
     (g l (List·Memᴰ·head refl))
 
 -- only the named variables matter
-pub satisfies-same : (a b : ℕ → Bool) (cs : List (List Literal)) → ((v : ℕ) → named cs v ≡ true → a v ≡ b v) → Satisfies a cs → Satisfies b cs
+satisfies-same : (a b : ℕ → Bool) (cs : List (List Literal)) → ((v : ℕ) → named cs v ≡ true → a v ≡ b v) → Satisfies a cs → Satisfies b cs
 satisfies-same a b cs same sat c m =
     let w = sat c m in
     (w .0, subst (λ s. names-as c (w .0) s ≡ true) (same (w .0) (named-in cs (w .0) (a (w .0)) (occurs-in cs c (w .0) (a (w .0)) m (w .1)))) (w .1))
@@ -73,6 +77,7 @@ unfoldable pub under : List Literal → (ℕ → Bool) → ℕ → Bool
 under [] a v = a v
 under (l ∷ t) a v = cond (eqb (l .variable) v) (l .positive) (under t a v)
 
+-- other variables stay as they are
 pub under-other : (t : List Literal) (a : ℕ → Bool) (v : ℕ) → names t v ≡ false → under t a v ≡ a v
 unfolding under names
 under-other [] a v f = refl
@@ -83,6 +88,7 @@ under-other (l ∷ t) a v f =
     rw h (under-other t a v (⊎-elim (λ k. clash (or-r (eqb (l .variable) v) (names t v) k) f) (λ k. k) (look (names t v)))))
     (look (eqb (l .variable) v))
 
+-- it agrees with the trail
 pub under-agrees : (t : List Literal) (a : ℕ → Bool) → distinct t ≡ true → Agrees (under t a) t
 unfolding under
 under-agrees [] a d l m = absurd (List·Memᴰ·not-nil m)
@@ -107,11 +113,12 @@ under-satisfies a t cs d sat =
 abbrev pub given : ℕ → Bool → List Literal
 given v b = record { variable = v; positive = b } ∷ []
 
+-- v has the value
 pub given-same : (v : ℕ) (b : Bool) (a : ℕ → Bool) → under (given v b) a v ≡ b
 unfolding under
 given-same v b a = rw (eq-eqb v v refl)
 
-pub given-other : (v : ℕ) (b : Bool) (a : ℕ → Bool) (w : ℕ) → (w ≡ v → ⊥) → under (given v b) a w ≡ a w
+given-other : (v : ℕ) (b : Bool) (a : ℕ → Bool) (w : ℕ) → (w ≡ v → ⊥) → under (given v b) a w ≡ a w
 unfolding under
 given-other v b a w ne = rw (ne-eqb v w (λ e. ne (sym e)))
 
@@ -122,7 +129,7 @@ given-satisfies a v b cs sat =
     (satisfies-same a (under (given v b) a) (assign v b cs) (λ w h. sym (given-other v b a w (named-assign v b cs w h .1))) sat)
     (given-same v b a)
 
--- ── Stripping ─────────────────────────────────────────────────────────────────────────────────────────────────────────
+-- ── Stripping ────────────────────────────────────────────────────────────────────────────────────────────────────────
 
 -- a pure variable gets the value that it is named with
 pure-satisfies : (cs : List (List Literal)) (x : ℕ) (s : Bool) (a : ℕ → Bool) → occurs cs x (not s) ≡ false → Satisfies a (not-naming x cs) → Satisfies (under (given x s) a) cs
@@ -147,7 +154,7 @@ left-satisfies n a =
     let s = pure-ways cs x p in
     (under (given x (s .0)) (w .0), pure-satisfies cs x (s .0) (w .0) (s .2) (w .1)))
 
--- ── Matchings ─────────────────────────────────────────────────────────────────────────────────────────────────────────
+-- ── Matchings ────────────────────────────────────────────────────────────────────────────────────────────────────────
 
 -- matched clauses can be satisfied: each by its own variable
 pub matched-satisfies : (cs : List (List Literal)) → Matched (map variables cs) → (a : ℕ → Bool) × Satisfies a cs
@@ -174,14 +181,14 @@ matched-satisfies cs (vs, M) = (λ x. names-as (getD cs (owner vs x - 1) []) x t
         own c v false t =
             ⊎-elim (λ (h : names-as c v true ≡ true). rw h h) (λ (f : names-as c v true ≡ false). rw f t) (look (names-as c v true))
 
--- ── Models ────────────────────────────────────────────────────────────────────────────────────────────────────────────
+-- ── Models ───────────────────────────────────────────────────────────────────────────────────────────────────────────
 
 -- the mask of the variables below n that a makes true
 unfoldable pub mask : ℕ → (ℕ → Bool) → ℕ
 mask zero a = 0
 mask (suc n) a = cond (a n) (with (mask n a) n) (mask n a)
 
-pub mask-above : (n : ℕ) (a : ℕ → Bool) (v : ℕ) → n ≤ v → bit (mask n a) v ≡ false
+mask-above : (n : ℕ) (a : ℕ → Bool) (v : ℕ) → n ≤ v → bit (mask n a) v ≡ false
 unfolding mask
 mask-above zero a v l = bit-none v
 mask-above (suc n) a v l = go (a n) (mask-above n a v (omega arith))
@@ -190,6 +197,7 @@ mask-above (suc n) a v l = go (a n) (mask-above n a v (omega arith))
     go true e = bit-with-other (mask n a) n v (λ e. omega arith) ∙ e
     go false e = e
 
+-- the mask says what a says
 pub mask-below : (n : ℕ) (a : ℕ → Bool) (v : ℕ) → v < n → bit (mask n a) v ≡ a v
 unfolding mask
 mask-below zero a v l = absurd (omega arith)
@@ -215,11 +223,13 @@ mask-model n a cs low sat = record {
   none-above = λ v h. mask-above n a v h;
 }
 
+-- a model satisfies the clauses
 pub model-satisfies : (n : ℕ) (cs : List (List Literal)) (a : ℕ) → Model n cs a → Satisfies (bit a) cs
 model-satisfies n cs a M c m =
     let l = M .satisfies c m in
     (l .0 .variable, subst (λ s. names-as c (l .0 .variable) s ≡ true) (sym (l .2)) (literal-names c (l .0) (l .1)))
 
+-- and the other way round
 pub satisfies-model : (n : ℕ) (cs : List (List Literal)) (a : ℕ) → Satisfies (bit a) cs → ((v : ℕ) → n ≤ v → bit a v ≡ false) → Model n cs a
 satisfies-model n cs a sat none = record {
   satisfies = λ c m.

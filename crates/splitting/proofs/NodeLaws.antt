@@ -17,7 +17,7 @@ use Rattle.splitting.specs.Choosing.{emptied}
 use Rattle.splitting.proofs.Terms.{Below}
 use Rattle.splitting.proofs.ClauseLaws.{literal-names, names-literal, less-of, occurs-some, occurs-in, named-some, named-in}
 
--- ── One assignment ────────────────────────────────────────────────────────────────────────────────────────────────────
+-- ── One assignment ───────────────────────────────────────────────────────────────────────────────────────────────────
 
 -- a clause that v = b does not satisfy leaves what is left of it
 pub assign-in : (v : ℕ) (b : Bool) (cs : List (List Literal)) (c : List Literal) → List·Memᴰ c cs → names-as c v b ≡ false → List·Memᴰ (less v c) (assign v b cs)
@@ -101,9 +101,11 @@ named-assign v b cs w t =
     let l = less-of v (c .0) w (s .0) (subst (λ (k : List Literal). names-as k w (s .0) ≡ true) (c .2) (d .2)) in
     (named-in cs w (s .0) (occurs-in cs (c .0) w (s .0) (c .1) (l .0)), l .1)
 
+-- an assignment names no new variable
 pub below-assign : (n v : ℕ) (b : Bool) (cs : List (List Literal)) → Below n cs → Below n (assign v b cs)
 below-assign n v b cs low w t = low w (named-assign v b cs w t .0)
 
+-- and makes no new clause
 pub length-assign : (v : ℕ) (b : Bool) (cs : List (List Literal)) → length (assign v b cs) ≤ length cs
 unfolding assign
 length-assign v b [] = omega arith
@@ -113,8 +115,9 @@ length-assign v b (c ∷ cs) = go (names-as c v b) (length-assign v b cs)
     go true h = omega arith
     go false h = omega arith
 
--- ── Empty clauses ─────────────────────────────────────────────────────────────────────────────────────────────────────
+-- ── Empty clauses ────────────────────────────────────────────────────────────────────────────────────────────────────
 
+-- where a clause is emptied, the list has the empty one
 pub emptied-some : (cs : List (List Literal)) → emptied cs ≡ true → List·Memᴰ {A = List Literal} [] cs
 unfolding emptied
 emptied-some [] t = clash t refl
@@ -132,7 +135,7 @@ emptied-none ((l ∷ d) ∷ cs) f c m =
     first : (l : Literal) (d : List Literal) → names (l ∷ d) (l .variable) ≡ true
     first l d = named-as (l ∷ d) (l .variable) (l .positive) (literal-names (l ∷ d) l (List·Memᴰ·head refl))
 
--- ── Trails ────────────────────────────────────────────────────────────────────────────────────────────────────────────
+-- ── Trails ───────────────────────────────────────────────────────────────────────────────────────────────────────────
 
 -- one more assignment
 pub remaining-snoc : (t : List Literal) (l : Literal) (cs : List (List Literal)) → remaining (t ++ (l ∷ [])) cs ≡ assign (l .variable) (l .positive) (remaining t cs)
@@ -150,15 +153,17 @@ named-remaining (l ∷ t) cs w h =
     let e = ne-eqb (l .variable) w (λ q. a .1 (sym q)) in
     (a .0, rw e (r .1))
 
+-- a node names no new variable
 pub below-remaining : (n : ℕ) (t : List Literal) (cs : List (List Literal)) → Below n cs → Below n (remaining t cs)
 below-remaining n t cs low w h = low w (named-remaining t cs w h .0)
 
+-- and has no new clause
 pub length-remaining : (t : List Literal) (cs : List (List Literal)) → length (remaining t cs) ≤ length cs
 unfolding remaining
 length-remaining [] cs = omega arith
 length-remaining (l ∷ t) cs = omega (arith, length-remaining t (assign (l .variable) (l .positive) cs), length-assign (l .variable) (l .positive) cs)
 
--- ── Formulas ──────────────────────────────────────────────────────────────────────────────────────────────────────────
+-- ── Formulas ─────────────────────────────────────────────────────────────────────────────────────────────────────────
 
 -- a formula over n variables names only those below n
 pub clauses-below : (n : ℕ) (cs : List (List Literal)) → Every (ClauseOver n) cs → Below n cs

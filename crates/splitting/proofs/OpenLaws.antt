@@ -1,6 +1,6 @@
 -- What open values mean: models that agree with the trail.
 use Prim.Native.Nat.{ℕ, _≤_, _<_}
-use mathlib.Core.Path.{_≡_, _∙_}
+use mathlib.Core.Path.{_≡_, _∙_, refl}
 use mathlib.Core.Bool.{Bool, true, false, not}
 use mathlib.Core.List.{List}
 use mathlib.Core.Logic.{⊎-elim}
@@ -13,7 +13,7 @@ use Rattle.masks.proofs.BitLaws.{bit-full}
 use Rattle.matching.proofs.Counting.{look}
 use Rattle.formula.specs.Format.{Literal, names}
 use Rattle.formula.specs.Models.{Model}
-use Rattle.splitting.specs.Nodes.{assign, remaining}
+use Rattle.splitting.specs.Nodes.{assign, remaining, named}
 use Rattle.splitting.specs.Choosing.{by-remaining, unassigned-of, choice}
 use Rattle.splitting.proofs.Terms.{Below, Sound, Trail, Agrees, opened}
 use Rattle.splitting.proofs.NodeLaws.{named-remaining, below-remaining}
@@ -37,34 +37,51 @@ sound-agrees n cs t v b low T l new S =
       mask-below n all v l ∙ under-other t here v new ∙ given-same v b (w .0),
     )
 
-module _ (n : ℕ) (cs : List (List Literal)) (t : List Literal) (fits : n ≤ 64) (low : Below n cs) (T : Trail n t) (S : Sound n (remaining t cs)) where
-  -- the chosen variable is one of the n and not yet assigned
-  pub choice-new : length t < n → (choice n (full n) cs t .variable < n) × (names t (choice n (full n) cs t .variable) ≡ false)
+-- a model that agrees with the trail has only open values
+pub model-open : (n settle : ℕ) (cs : List (List Literal)) (t : List Literal) (b : Bool) (a : ℕ) → Model n cs a → Agrees (bit a) t
+    → bit a (choice n settle cs t .variable) ≡ b → opened (choice n settle cs t) b ≡ true
+unfolding choice
+model-open n settle cs t b a M g e =
+    ⊎-elim
+    (λ o. o)
+    (λ c. absurd (chosen-closed n (unassigned-of settle t) (remaining t cs) b c (bit a) (satisfies-remaining (bit a) t cs (model-satisfies n cs a M) g) e))
+    (look (opened (choice n settle cs t) b))
+
+-- some value is open at a sound node
+pub some-open : (n settle : ℕ) (cs : List (List Literal)) (t : List Literal) → Sound n (remaining t cs) → (b : Bool) × (opened (choice n settle cs t) b ≡ true)
+unfolding choice
+some-open n settle cs t S =
+    let w = sound-satisfies n (remaining t cs) S in
+    let b = w .0 (choice n settle cs t .variable) in
+    (b, ⊎-elim (λ o. o) (λ c. absurd (chosen-closed n (unassigned-of settle t) (remaining t cs) b c (w .0) (w .1) refl)) (look (opened (choice n settle cs t) b)))
+
+module _ (n settle : ℕ) (cs : List (List Literal)) (t : List Literal) (fits : n ≤ 64) (low : Below n cs) (S : Sound n (remaining t cs)) where
+  -- the chosen variable is one to assign and not yet assigned, where such a one is and the named ones are to be assigned
+  pub choice-new : ((v : ℕ) → named (remaining t cs) v ≡ true → bit settle v ≡ true) → (v : ℕ) × (v < n) × (bit settle v ≡ true) × (names t v ≡ false)
+      → (choice n settle cs t .variable < n) × (names t (choice n settle cs t .variable) ≡ false)
   unfolding choice
-  choice-new short =
-      let w = chosen-free n (unassigned-of (full n) t) (remaining t cs) fits (below-remaining n t cs low) S
-      (λ v h. let r = named-remaining t cs v h in unassigned v (low v (r .0)) (r .1))
-      (let f = trail-free n t T short in (f .0, f .1, unassigned (f .0) (f .1) (f .2))) in
-      let v = by-remaining n (unassigned-of (full n) t) (remaining t cs) .variable in
-      (w .0, not-true (names t v) (and-right (bit (full n) v) (not (names t v)) (w .1)))
+  choice-new covers f =
+      let w = chosen-free n (unassigned-of settle t) (remaining t cs) fits (below-remaining n t cs low) S
+      (λ v h. unassigned v (covers v h) (named-remaining t cs v h .1))
+      (f .0, f .1, unassigned (f .0) (f .2) (f .3)) in
+      let v = by-remaining n (unassigned-of settle t) (remaining t cs) .variable in
+      (w .0, not-true (names t v) (and-right (bit settle v) (not (names t v)) (w .1)))
     where
-      unassigned : (v : ℕ) → v < n → names t v ≡ false → unassigned-of (full n) t v ≡ true
-      unassigned v l f = and-both (bit (full n) v) (not (names t v)) (bit-full n v ∙ lt-ltb v n l) (rw f)
+      unassigned : (v : ℕ) → bit settle v ≡ true → names t v ≡ false → unassigned-of settle t v ≡ true
+      unassigned v h f = and-both (bit settle v) (not (names t v)) h (rw f)
 
   -- an open value has a model
-  pub open-model : length t < n → (b : Bool) → opened (choice n (full n) cs t) b ≡ true
-      → (a : ℕ) × Model n cs a × Agrees (bit a) t × (bit a (choice n (full n) cs t .variable) ≡ b)
+  pub open-model : Trail n t → (choice n settle cs t .variable < n) × (names t (choice n settle cs t .variable) ≡ false)
+      → (b : Bool) → opened (choice n settle cs t) b ≡ true → (a : ℕ) × Model n cs a × Agrees (bit a) t × (bit a (choice n settle cs t .variable) ≡ b)
   unfolding choice
-  open-model short b o =
-      let w = choice-new short in
-      sound-agrees n cs t (choice n (full n) cs t .variable) b low T (w .0) (w .1)
-      (chosen-open n (unassigned-of (full n) t) (remaining t cs) fits (below-remaining n t cs low) S b o)
+  open-model T w b o =
+      sound-agrees n cs t (choice n settle cs t .variable) b low T (w .0) (w .1)
+      (chosen-open n (unassigned-of settle t) (remaining t cs) fits (below-remaining n t cs low) S b o)
 
-  -- a value that a model has is open
-  pub model-open : (b : Bool) (a : ℕ) → Model n cs a → Agrees (bit a) t → bit a (choice n (full n) cs t .variable) ≡ b → opened (choice n (full n) cs t) b ≡ true
-  unfolding choice
-  model-open b a M g e =
-      ⊎-elim
-      (λ o. o)
-      (λ c. absurd (chosen-closed n (unassigned-of (full n) t) (remaining t cs) b c (bit a) (satisfies-remaining (bit a) t cs (model-satisfies n cs a M) g) e))
-      (look (opened (choice n (full n) cs t) b))
+-- where all variables below n are to be assigned, and the trail has fewer
+pub full-new : (n : ℕ) (cs : List (List Literal)) (t : List Literal) → n ≤ 64 → Below n cs → Sound n (remaining t cs) → Trail n t → length t < n
+    → (choice n (full n) cs t .variable < n) × (names t (choice n (full n) cs t .variable) ≡ false)
+full-new n cs t fits low S T short =
+    choice-new n (full n) cs t fits low S
+    (λ v h. bit-full n v ∙ lt-ltb v n (below-remaining n t cs low v h))
+    (let f = trail-free n t T short in (f .0, f .1, bit-full n (f .0) ∙ lt-ltb (f .0) n (f .1), f .2))

@@ -14,7 +14,7 @@ use Rattle.matching.proofs.Counting.{look, clash, or-l, or-r}
 use Rattle.splitting.specs.Nodes.{first-from, lowest-with, upward-from, upward}
 use Rattle.splitting.specs.Choosing.{among, last}
 
--- ── The lowest ────────────────────────────────────────────────────────────────────────────────────────────────────────
+-- ── The lowest ───────────────────────────────────────────────────────────────────────────────────────────────────────
 
 first-some : (f : ℕ → Bool) (v k : ℕ) → first-from f v k < v + k → f (first-from f v k) ≡ true
 unfolding first-from
@@ -52,24 +52,29 @@ lowest-found f n i l t =
     (λ h. clash t (lowest-none f n (ltb-false (lowest-with f n) n h) i l))
     (look (ltb (lowest-with f n) n))
 
--- ── Lists of variables ────────────────────────────────────────────────────────────────────────────────────────────────
+-- ── Lists of variables ───────────────────────────────────────────────────────────────────────────────────────────────
 
+-- the first is on the list
 pub among-here : (x : ℕ) (l : List ℕ) → among (x ∷ l) x ≡ true
 unfolding among
 among-here x l = or-l (eqb x x) (among l x) (eq-eqb x x refl)
 
+-- what is on the rest is on the list
 pub among-more : (x y : ℕ) (l : List ℕ) → among l x ≡ true → among (y ∷ l) x ≡ true
 unfolding among
 among-more x y l t = or-r (eqb y x) (among l x) t
 
+-- what is on the list is the first or on the rest
 pub among-cases : (x y : ℕ) (l : List ℕ) → among (y ∷ l) x ≡ true → (x ≡ y) ⊎ (among l x ≡ true)
 unfolding among
 among-cases x y l t = ⊎-elim (λ e. inl (sym (eqb-true y x e))) (λ r. inr r) (or-cases (eqb y x) (among l x) t)
 
+-- nothing is on the empty list
 pub among-none : {C : Type 0} (x : ℕ) → among [] x ≡ true → C
 unfolding among
 among-none x t = clash t refl
 
+-- what is on two lists is on one of them
 pub among-append : (l r : List ℕ) (x : ℕ) → among (l ++ r) x ≡ true → (among l x ≡ true) ⊎ (among r x ≡ true)
 among-append [] r x t = inr t
 among-append (y ∷ l) r x t =
@@ -78,11 +83,13 @@ among-append (y ∷ l) r x t =
     (λ m. ⊎-elim (λ u. inl (among-more x y l u)) (λ u. inr u) (among-append l r x m))
     (among-cases x y (l ++ r) t)
 
+-- and the other way round
 pub among-left : (l r : List ℕ) (x : ℕ) → among l x ≡ true → among (l ++ r) x ≡ true
 among-left [] r x t = among-none x t
 among-left (y ∷ l) r x t =
     ⊎-elim (λ (e : x ≡ y). rw e (among-here y (l ++ r))) (λ m. among-more x y (l ++ r) (among-left l r x m)) (among-cases x y l t)
 
+-- and the other way round
 pub among-right : (l r : List ℕ) (x : ℕ) → among r x ≡ true → among (l ++ r) x ≡ true
 among-right [] r x t = t
 among-right (y ∷ l) r x t = among-more x y (l ++ r) (among-right l r x t)
@@ -100,7 +107,7 @@ last-append [] x r = refl
 last-append (y ∷ []) x r = refl
 last-append (y ∷ (z ∷ l)) x r = last-append (z ∷ l) x r
 
--- ── Upward ────────────────────────────────────────────────────────────────────────────────────────────────────────────
+-- ── Upward ───────────────────────────────────────────────────────────────────────────────────────────────────────────
 
 upward-from-of : (f : ℕ → Bool) (v k x : ℕ) → among (upward-from f v k) x ≡ true → (v ≤ x) × (x < v + k) × (f x ≡ true)
 unfolding upward-from
@@ -137,5 +144,6 @@ upward-of f n x t = let w = upward-from-of f 0 n x t in (omega (arith, w .1), w 
 pub upward-in : (f : ℕ → Bool) (n x : ℕ) → x < n → f x ≡ true → among (upward f n) x ≡ true
 upward-in f n x l t = upward-from-in f 0 n x (omega arith) (omega arith) t
 
+-- it has at most n
 pub upward-length : (f : ℕ → Bool) (n : ℕ) → length (upward f n) ≤ n
 upward-length f n = upward-from-length f 0 n

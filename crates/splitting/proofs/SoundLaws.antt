@@ -38,10 +38,10 @@ none-sound n cs e = rw e ([], record { one-each = refl; named = λ i h. absurd (
 pub sound-satisfies : (n : ℕ) (cs : List (List Literal)) → Sound n cs → (a : ℕ → Bool) × Satisfies a cs
 sound-satisfies n cs S = let w = matched-satisfies (stripped n cs .left) S in left-satisfies n (w .0) cs (w .1)
 
--- ── Something is left ─────────────────────────────────────────────────────────────────────────────────────────────────
+-- ── Something is left ────────────────────────────────────────────────────────────────────────────────────────────────
 
 -- What is left after x = b, seen as clauses before it, lies in what was left before, if x is named there.
-pub left-origin : (n x : ℕ) (b : Bool) (cs : List (List Literal)) → Below n cs → named (stripped n cs .left) x ≡ true
+left-origin : (n x : ℕ) (b : Bool) (cs : List (List Literal)) → Below n cs → named (stripped n cs .left) x ≡ true
     → Sublistᴰ (stripped n (assign x b cs) .left) (assign x b (stripped n cs .left))
 left-origin n x b cs low at = rw (O .left) (assign-sub x b (left-keeps n ds cs (O .sub) clear) (O .unsatisfied))
   where
@@ -91,7 +91,7 @@ pub left-sound : (n x : ℕ) (b : Bool) (cs : List (List Literal)) → Below n c
     → Matched (map variables (assign x b (stripped n cs .left))) → Sound n (assign x b cs)
 left-sound n x b cs low at M = sub-matched (left-origin n x b cs low at) M
 
--- ── Nothing is left, but clauses remain ───────────────────────────────────────────────────────────────────────────────
+-- ── Nothing is left, but clauses remain ──────────────────────────────────────────────────────────────────────────────
 
 -- some variable of the list is named by the clause, or none
 on-list : (l : List ℕ) (c : List Literal) → ((y : ℕ) × (among l y ≡ true) × (names c y ≡ true)) ⊎ ((y : ℕ) → among l y ≡ true → names c y ≡ false)

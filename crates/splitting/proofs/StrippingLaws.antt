@@ -18,9 +18,9 @@ use Rattle.splitting.proofs.ClauseLaws.{names-some, names-none, occurs-
 use Rattle.splitting.proofs.CountLaws.{count-le, count-drop}
 use Rattle.splitting.proofs.SearchLaws.{lowest-some, lowest-none, among-here, among-more, among-cases, among-none, last-among}
 
--- ── The clauses that do not name a variable ───────────────────────────────────────────────────────────────────────────
+-- ── The clauses that do not name a variable ──────────────────────────────────────────────────────────────────────────
 
-pub not-naming-sub : (x : ℕ) (cs : List (List Literal)) → Sublistᴰ (not-naming x cs) cs
+not-naming-sub : (x : ℕ) (cs : List (List Literal)) → Sublistᴰ (not-naming x cs) cs
 unfolding not-naming
 not-naming-sub x [] = Sublistᴰ·slnil
 not-naming-sub x (c ∷ cs) = go (names c x) (not-naming-sub x cs)
@@ -30,7 +30,7 @@ not-naming-sub x (c ∷ cs) = go (names c x) (not-naming-sub x cs)
     go false s = Sublistᴰ·cons-cons refl s
 
 -- none of them names it
-pub not-naming-off : (x : ℕ) (cs : List (List Literal)) (s : Bool) → occurs (not-naming x cs) x s ≡ false
+not-naming-off : (x : ℕ) (cs : List (List Literal)) (s : Bool) → occurs (not-naming x cs) x s ≡ false
 unfolding not-naming occurs
 not-naming-off x [] s = refl
 not-naming-off x (c ∷ cs) s = go (names c x) refl (not-naming-off x cs s)
@@ -40,7 +40,7 @@ not-naming-off x (c ∷ cs) s = go (names c x) refl (not-naming-off x cs s)
     go false e r = rw (names-none c x e s) r
 
 -- they are the greatest sub-list that does not
-pub not-naming-greatest : (x : ℕ) {ds cs : List (List Literal)} → Sublistᴰ ds cs → ((s : Bool) → occurs ds x s ≡ false) → Sublistᴰ ds (not-naming x cs)
+not-naming-greatest : (x : ℕ) {ds cs : List (List Literal)} → Sublistᴰ ds cs → ((s : Bool) → occurs ds x s ≡ false) → Sublistᴰ ds (not-naming x cs)
 unfolding not-naming occurs
 not-naming-greatest x Sublistᴰ·slnil off = Sublistᴰ·slnil
 not-naming-greatest x (Sublistᴰ·cons {a = c} {l₁ = ds} {l₂ = cs} s) off = go (names c x) (not-naming-greatest x s off)
@@ -74,7 +74,7 @@ unnamed ds x c d off =
     ⊎-elim (λ h. let w = names-some c x h in clash (occurs-in ds c x (w .0) d (w .1)) (off (w .0))) (λ f. f) (look (names c x))
 
 -- fewer variables are named
-falls : (n x : ℕ) (cs : List (List Literal)) → x < n → pure cs x ≡ true → count (named (not-naming x cs)) n < count (named cs) n
+pub falls : (n x : ℕ) (cs : List (List Literal)) → x < n → pure cs x ≡ true → count (named (not-naming x cs)) n < count (named cs) n
 falls n x cs l t =
     count-drop (named (not-naming x cs)) (named cs) n x
     (λ v. named-within (not-naming x cs) cs v (sub-within (not-naming-sub x cs)))
@@ -82,7 +82,7 @@ falls n x cs l t =
     (pure-named cs x t)
     (⊎-elim (λ h. let w = named-some (not-naming x cs) x h in clash (w .1) (not-naming-off x cs (w .0))) (λ f. f) (look (named (not-naming x cs) x)))
 
--- ── Induction along the stripping ─────────────────────────────────────────────────────────────────────────────────────
+-- ── Induction along the stripping ────────────────────────────────────────────────────────────────────────────────────
 
 abbrev Of : (List (List Literal) → List ℕ → List (List Literal) → Type 0) → List (List Literal) → Stripped → Type 0
 Of P cs s = P cs (s .noted) (s .left)
@@ -109,8 +109,9 @@ module _ (n : ℕ) (P : List (List Literal) → List ℕ → List (List Literal)
   pub strip-ind : (cs : List (List Literal)) → P cs (stripped n cs .noted) (stripped n cs .left)
   strip-ind cs = strip-from n cs (count-le (named cs) n)
 
--- ── What is left ──────────────────────────────────────────────────────────────────────────────────────────────────────
+-- ── What is left ─────────────────────────────────────────────────────────────────────────────────────────────────────
 
+-- a sub-list is left
 pub left-sub : (n : ℕ) (cs : List (List Literal)) → Sublistᴰ (stripped n cs .left) cs
 left-sub n =
     strip-ind n (λ cs l left. Sublistᴰ left cs) (λ cs _. Sublistᴰ·refl cs) (λ cs left l x _ _ s. Sublistᴰ·trans s (not-naming-sub x cs))
@@ -149,8 +150,9 @@ left-keeps n ds cs s off =
 pub left-greatest : (n : ℕ) (ds cs : List (List Literal)) → Sublistᴰ ds cs → NonePure ds → Sublistᴰ ds (stripped n cs .left)
 left-greatest n ds cs s np = left-keeps n ds cs s (none-noted n ds np cs (sub-within s))
 
--- ── What is noted ─────────────────────────────────────────────────────────────────────────────────────────────────────
+-- ── What is noted ────────────────────────────────────────────────────────────────────────────────────────────────────
 
+-- a noted variable is named
 pub noted-named : (n : ℕ) (cs : List (List Literal)) (y : ℕ) → among (stripped n cs .noted) y ≡ true → named cs y ≡ true
 noted-named n =
     strip-ind n (λ cs l left. (y : ℕ) → among l y ≡ true → named cs y ≡ true)
@@ -170,7 +172,7 @@ unnoted-left n cs c =
     (λ cs left l x _ _ rec m off. rec (not-naming-in x cs c m (off x (among-here x l))) (λ y t. off y (among-more y x l t)))
     cs
 
--- ── Lemma 4.5 of the source ───────────────────────────────────────────────────────────────────────────────────────────
+-- ── Lemma 4.5 of the source ──────────────────────────────────────────────────────────────────────────────────────────
 
 -- where x stands in the rest of a list, if it is the last or stands nowhere
 tail-case : (x y : ℕ) (l : List ℕ) → (among (y ∷ l) x ≡ false) ⊎ (last (y ∷ l) ≡ x) → (among l x ≡ false) ⊎ (last l ≡ x)

@@ -9,7 +9,6 @@ use lib.ListN.{length}
 use Rattle.lists.specs.Every.{Every}
 use Rattle.masks.specs.Mask.{bit, full}
 use Rattle.matching.specs.Matched.{Matched}
-use Rattle.matching.specs.Search.{expansions}
 use Rattle.formula.specs.Format.{Literal, names, ClauseOver}
 use Rattle.formula.specs.Models.{Model}
 use Rattle.formula.specs.Masked.{variables}
@@ -18,13 +17,6 @@ use Rattle.splitting.specs.Stripping.{stripped}
 use Rattle.splitting.specs.Choosing.{trial, first-passing, candidates, among, listed, last, emptied, unassigned-of, choice}
 use Rattle.splitting.proofs.Terms.{Below, NonePure, Sound, Trail, Agrees, opened}
 use Rattle.splitting.proofs.ClauseLaws.{named-by}
-use Rattle.splitting.proofs.StrippingLaws.{left-sub}
-use Rattle.splitting.proofs.MatchedLaws.{splits}
-use Rattle.splitting.proofs.SoundLaws.{noted-some, last-of, last-named, last-none, emptied-unsatisfied, sound-satisfies}
-use Rattle.splitting.proofs.TrialLaws.{passes-matched, matched-passes, candidates-named, named-candidates, candidates-length}
-use Rattle.splitting.proofs.NodeLaws.{below-remaining}
-use Rattle.splitting.proofs.ModelLaws.{mask, mask-model, model-satisfies}
-use Rattle.splitting.proofs.ChoiceLaws.{chosen-open}
 use Rattle.splitting.proofs.StrippingLaws as stripping
 use Rattle.splitting.proofs.NodeLaws as nodes
 use Rattle.splitting.proofs.MatchedLaws as matchings
@@ -35,7 +27,7 @@ use Rattle.splitting.proofs.ChoiceLaws as choices
 use Rattle.splitting.proofs.TrailLaws as trails
 use Rattle.splitting.proofs.OpenLaws as opens
 
--- ── Stripping (source, lemmas 4.3 and 4.4) ────────────────────────────────────────────────────────────────────────────
+-- ── Stripping (source, lemma 4.3 and corollary 4.4) ──────────────────────────────────────────────────────────────────
 
 -- 'drop the rules that name it': what stripping leaves are clauses of the list, in order.
 pub left-sub-list : (n : ℕ) (cs : List (List Literal)) → Sublistᴰ (stripped n cs .left) cs
@@ -49,7 +41,7 @@ left-none-pure n cs low = stripping.left-none-pure n cs low
 pub left-greatest : (n : ℕ) (ds cs : List (List Literal)) → Sublistᴰ ds cs → NonePure ds → Sublistᴰ ds (stripped n cs .left)
 left-greatest n ds cs s np = stripping.left-greatest n ds cs s np
 
--- ── Something is left (source, theorem 5.9) ───────────────────────────────────────────────────────────────────────────
+-- ── Something is left (source, theorem 5.9) ──────────────────────────────────────────────────────────────────────────
 
 -- The splitting theorem: of matched clauses with no pure variable, equal ones counted apart, some variable can get both values.
 pub splitting : (cs : List (List Literal)) → Matched (map variables cs) → 0 < length cs → NonePure cs
@@ -75,7 +67,7 @@ pub chosen-passes : (n : ℕ) (cs : List (List Literal)) → n ≤ 64 → Below 
 chosen-passes n cs fits low S some =
     choices.left-chosen n (stripped n cs .left) 0 fits (choices.left-below n cs fits low) (stripping.left-none-pure n cs low) S some
 
--- ── Nothing is left, but clauses remain (source, lemma 4.5) ───────────────────────────────────────────────────────────
+-- ── Nothing is left, but clauses remain (source, lemma 4.5) ──────────────────────────────────────────────────────────
 
 -- 'The last in that list is chosen': it is named at this node.
 pub last-listed-named : (n : ℕ) (cs : List (List Literal)) → Below n cs → 0 < length cs → stripped n cs .left ≡ []
@@ -99,7 +91,7 @@ one-open n cs v S = sound.one-open n v cs S
 pub emptied-no-model : (n : ℕ) (cs : List (List Literal)) (v : ℕ) (b : Bool) (a : ℕ) → emptied (assign v b cs) ≡ true → Model n cs a → bit a v ≡ b → ⊥
 emptied-no-model n cs v b a t M e = sound.emptied-unsatisfied v b cs t (bit a) (models.model-satisfies n cs a M) e
 
--- ── The invariant (source, definition 5.2 and theorem 5.10) ───────────────────────────────────────────────────────────
+-- ── The invariant (source, definition 5.2 and theorem 5.3) ───────────────────────────────────────────────────────────
 
 -- What stripping leaves of matched clauses is matched: the invariant holds at the root of a matched formula.
 pub matched-sound : (n : ℕ) (cs : List (List Literal)) → Matched (map variables cs) → Sound n cs
@@ -115,7 +107,7 @@ open-sound n settle cs t fits low S = choices.chosen-open n (unassigned-of settl
 pub sound-model : (n : ℕ) (cs : List (List Literal)) → Below n cs → Sound n cs → (a : ℕ) × Model n cs a
 sound-model n cs low S = let w = sound.sound-satisfies n cs S in (models.mask n (w .0), models.mask-model n (w .0) cs low (w .1))
 
--- ── Nodes ─────────────────────────────────────────────────────────────────────────────────────────────────────────────
+-- ── Nodes ────────────────────────────────────────────────────────────────────────────────────────────────────────────
 
 -- A formula over n variables names no others.
 pub formula-below : (n : ℕ) (cs : List (List Literal)) → Every (ClauseOver n) cs → Below n cs
@@ -137,7 +129,7 @@ full-model n cs t low T h S a g above =
     (models.remaining-satisfies (bit a) t cs (rw (trails.full-none n t cs low T h S) (λ c m. absurd (List·Memᴰ·not-nil m))) g)
     above
 
--- ── The choice ────────────────────────────────────────────────────────────────────────────────────────────────────────
+-- ── The choice ───────────────────────────────────────────────────────────────────────────────────────────────────────
 
 -- 'Open means that some permitted set-up agrees with everything settled so far.' At a sound node that is not full the chosen variable is
 -- one of the n and not yet assigned, and a value of it is open exactly if some model agrees with the trail and has it.
@@ -147,8 +139,12 @@ pub open-means : (n : ℕ) (cs : List (List Literal)) (t : List Literal) → n �
     × ((b : Bool) → (opened (choice n (full n) cs t) b ≡ true) ↔ ((a : ℕ) × Model n cs a × Agrees (bit a) t × (bit a (choice n (full n) cs t .variable) ≡ b)))
 open-means n cs t fits over T short S =
     let low = nodes.clauses-below n cs over in
-    let w = opens.choice-new n cs t fits low T S short in
-    (w .0, w .1, λ b. (opens.open-model n cs t fits low T S short b, λ m. opens.model-open n cs t fits low T S b (m .0) (m .1) (m .2) (m .3)))
+    let w = opens.full-new n cs t fits low S T short in
+    (w .0, w .1, λ b. (opens.open-model n (full n) cs t fits low S T w b, λ m. opens.model-open n (full n) cs t b (m .0) (m .1) (m .2) (m .3)))
+
+-- So some value is open at every sound node.
+pub some-open : (n settle : ℕ) (cs : List (List Literal)) (t : List Literal) → Sound n (remaining t cs) → (b : Bool) × (opened (choice n settle cs t) b ≡ true)
+some-open n settle cs t S = opens.some-open n settle cs t S
 
 -- One choice makes at most n × m × (m + 1) expansions, m the formula's clauses.
 pub choice-cost : (n settle : ℕ) (cs : List (List Literal)) (t : List Literal) → n ≤ 64 → Below n cs

@@ -22,7 +22,7 @@ use Rattle.splitting.proofs.NodeLaws.{named-remaining, below-remaining}
 use Rattle.splitting.proofs.SoundLaws.{sound-satisfies}
 
 -- a trail has as many variables as literals
-pub trail-count : (n : ℕ) (t : List Literal) → Trail n t → count (names t) n ≡ length t
+trail-count : (n : ℕ) (t : List Literal) → Trail n t → count (names t) n ≡ length t
 unfolding names
 trail-count n [] T = count-none (names []) n (λ i. refl)
 trail-count n (l ∷ t) T =
@@ -44,7 +44,7 @@ pub trail-free : (n : ℕ) (t : List Literal) → Trail n t → length t < n →
 trail-free n t T h = let e = trail-count n t T in count-missing (names t) n (omega arith)
 
 -- a trail of n variables has them all
-pub trail-full : (n : ℕ) (t : List Literal) → Trail n t → length t ≡ n → (v : ℕ) → v < n → names t v ≡ true
+trail-full : (n : ℕ) (t : List Literal) → Trail n t → length t ≡ n → (v : ℕ) → v < n → names t v ≡ true
 trail-full n t T h = count-full (names t) n (trail-count n t T ∙ h)
 
 -- no clause remains at a sound node where all variables are assigned

@@ -12,7 +12,6 @@ use Rattle.lists.proofs.EveryLaws.{every-of}
 use Rattle.matching.specs.Matched.{Matched, Words}
 use Rattle.matching.specs.Search.{succeeds, expansions}
 use Rattle.matching.proofs.Counting.{clash}
-use Rattle.matching.proofs.Theorems.{outcome-cost}
 use Rattle.formula.specs.Format.{Literal}
 use Rattle.formula.specs.Masked.{variables}
 use Rattle.formula.proofs.ClauseLaws.{variables-lt, named-as}
@@ -26,7 +25,7 @@ use Rattle.splitting.proofs.NodeLaws.{below-assign, length-assign}
 use Rattle.splitting.proofs.MatchedLaws.{variables-at}
 use Rattle.matching.proofs.Theorems as theorems
 
--- ── One matching ──────────────────────────────────────────────────────────────────────────────────────────────────────
+-- ── One matching ─────────────────────────────────────────────────────────────────────────────────────────────────────
 
 -- the masks are below 2 ^ 64
 words : (n : ℕ) (cs : List (List Literal)) → n ≤ 64 → Below n cs → Words (map variables cs)
@@ -56,7 +55,7 @@ matched-cost n m cs fits low few =
     let c = theorems.outcome-cost (map variables cs) (words n cs fits low) in
     omega arith
 
--- ── One trial ─────────────────────────────────────────────────────────────────────────────────────────────────────────
+-- ── One trial ────────────────────────────────────────────────────────────────────────────────────────────────────────
 
 -- a trial, by whether v = false succeeds
 abbrev tried : List (List Literal) → ℕ → Bool → Trial
@@ -94,7 +93,7 @@ matched-passes n cs v fits low M =
     let decided : (b : Bool) → succeeds (matched (assign v b cs)) ≡ true = λ b. matched-succeeds n (assign v b cs) fits (below-assign n v b cs low) (M b) in
     subst (λ s. tried cs v s .passes ≡ true) (sym (decided false)) (decided true)
 
-pub trial-cost : (n m : ℕ) (cs : List (List Literal)) (v : ℕ) → n ≤ 64 → Below n cs → length cs ≤ m → trial cs v .cost ≤ m * suc m
+trial-cost : (n m : ℕ) (cs : List (List Literal)) (v : ℕ) → n ≤ 64 → Below n cs → length cs ≤ m → trial cs v .cost ≤ m * suc m
 unfolding trial
 trial-cost n m cs v fits low few = go (succeeds (matched (assign v false cs)))
   where
@@ -105,7 +104,7 @@ trial-cost n m cs v fits low few = go (succeeds (matched (assign v false cs)))
     go true = omega (arith, each false, each true)
     go false = omega (arith, each false)
 
--- ── The candidates ────────────────────────────────────────────────────────────────────────────────────────────────────
+-- ── The candidates ───────────────────────────────────────────────────────────────────────────────────────────────────
 
 -- The candidates are exactly the variables that the left clauses name, whatever their order.
 pub candidates-named : (n : ℕ) (left : List (List Literal)) (v : ℕ) → among (candidates n left) v ≡ true → named left v ≡ true
@@ -121,7 +120,7 @@ pub candidates-length : (n : ℕ) (left : List (List Literal)) → length (candi
 unfolding candidates
 candidates-length n left = upward-length (named left) n
 
--- ── The first that passes ─────────────────────────────────────────────────────────────────────────────────────────────
+-- ── The first that passes ────────────────────────────────────────────────────────────────────────────────────────────
 
 -- the choice, by whether the trial of the first passes
 abbrev chosen : List (List Literal) → List ℕ → ℕ → ℕ → Bool → Choice

@@ -22,6 +22,11 @@ pub core : choice 2 3 ((on 0 ∷ on 1 ∷ []) ∷ (off 0 ∷ off 1 ∷ []) ∷ [
 unfolding choice remaining assign less names names-as occurs named first-from upward-from pure not-naming strip variables matched trial first-passing candidates among listed last emptied last-listed outcome match-rest search-from expand take-front scan see begin no-links owner rematch-from bit members xor
 core = refl
 
+-- variable 0 false empties the first clause: its failed trial's one expansion counts, and variable 1 is chosen at two for each value
+pub failed : choice 3 7 ((on 0 ∷ []) ∷ (off 0 ∷ on 1 ∷ off 2 ∷ []) ∷ (off 1 ∷ on 2 ∷ []) ∷ []) [] ≡ both-open 1 5
+unfolding choice remaining assign less names names-as occurs named first-from upward-from pure not-naming strip variables matched trial first-passing candidates among listed last emptied last-listed outcome match-rest search-from expand take-front scan see begin no-links owner rematch-from bit members xor
+failed = refl
+
 -- variable 0 is noted and stripping leaves nothing: the last listed is variable 2
 pub pures : choice 3 7 ((on 0 ∷ on 1 ∷ []) ∷ (on 0 ∷ on 2 ∷ []) ∷ (on 1 ∷ on 2 ∷ []) ∷ []) [] ≡ both-open 2 0
 unfolding choice remaining assign less names names-as occurs named first-from upward-from pure not-naming strip variables matched trial first-passing candidates among listed last emptied last-listed outcome match-rest search-from expand take-front scan see begin no-links owner rematch-from bit members xor
