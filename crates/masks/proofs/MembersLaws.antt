@@ -8,11 +8,12 @@ use native.Mathlib.Omega.{arith}
 use native.Mathlib.Decide.{decLt}
 use native.Mathlib.Numerals.{add-one}
 use lib.Arith.{lt-one}
+use lib.Pow.{pow-mono}
 use lib.Count.{trailingZeros, under}
 use lib.ListN.{length, getD, length-append, List·getD-append}
 use lib.Seq.{getD-append-seam}
 use Rattle.masks.specs.Mask.{bit, without, only-if, members}
-use Rattle.masks.proofs.BitLaws.{bit-first, bit-none, bit-suc, bit-above, bit-below, bit-without-same, bit-without-other}
+use Rattle.masks.proofs.BitLaws.{mask-ext, bit-first, bit-none, bit-suc, bit-above, bit-below, bit-without-same, bit-without-other}
 
 -- t is the least member of m, and below k
 pub record Lowest (m t k : ℕ) : Type 0 where
@@ -42,7 +43,16 @@ self-lt : (m : ℕ) → m < 2 ^ m
 self-lt zero = omega arith
 self-lt (suc m) = omega (arith, self-lt m)
 
--- so it has a member
+-- two masks with the same members are equal
+pub mask-same : (a b : ℕ) → ((i : ℕ) → bit a i ≡ bit b i) → a ≡ b
+mask-same a b e =
+    let l : a ≤ a + b = omega arith in
+    let r : b ≤ a + b = omega arith in
+    let p : 2 ^ a ≤ 2 ^ (a + b) = pow-mono l in
+    let q : 2 ^ b ≤ 2 ^ (a + b) = pow-mono r in
+    mask-ext (a + b) a b (omega (arith, self-lt a)) (omega (arith, self-lt b)) (λ i _. e i)
+
+-- a mask that is not 0 has a member
 pub some-member : (m : ℕ) → (m ≡ 0 → ⊥) → (i : ℕ) × (bit m i ≡ true)
 some-member m e = (trailingZeros m m, lowest-is m m (self-lt m) (omega arith) .set)
 

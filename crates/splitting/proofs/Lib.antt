@@ -14,3 +14,4 @@ pub mod ChoiceLaws
 pub mod TrailLaws
 pub mod OpenLaws
 pub mod Theorems
+pub mod MaskNodeLaws

@@ -9,6 +9,7 @@ use Rattle.masks.specs.Mask.{bit, with, minus, meets, lowest, members}
 use Rattle.matching.specs.Search.{Outcome, outcome, succeeds, expansions}
 use Rattle.formula.specs.declared.Clause.{Clause}
 use Rattle.formula.specs.declared.Formula.{Formula}
+use Rattle.formula.specs.Format.{Literal}
 use Rattle.formula.specs.Masked.{no-clause, named}
 use Rattle.splitting.specs.declared.Assignment.{Assignment}
 use Rattle.splitting.specs.declared.Choice.{Choice}
@@ -127,3 +128,11 @@ chosen f settle a =
     (passing f (reduced f a .assignment) (members (bitOr (reduced f a .survey .positive) (reduced f a .survey .negative)) 64) 0)
     (listed-last f a (cond (eqb (others-of f a) 0) (reduced f a .last) (greatest (others-of f a)))))
     (both-open (lowest (minus settle (assigned a))) 0)
+
+-- the assignment of a trail
+unfoldable pub assign-all : Assignment → List Literal → Assignment
+assign-all a [] = a
+assign-all a (l ∷ t) = assign-all (set-to a (l .variable) (l .positive)) t
+
+abbrev pub assignment-of : List Literal → Assignment
+assignment-of t = assign-all (record { trues = 0; falses = 0 }) t
