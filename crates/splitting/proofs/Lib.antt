@@ -15,3 +15,4 @@ pub mod TrailLaws
 pub mod OpenLaws
 pub mod Theorems
 pub mod MaskNodeLaws
+pub mod MaskSearchLaws
