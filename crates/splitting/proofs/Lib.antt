@@ -16,3 +16,4 @@ pub mod OpenLaws
 pub mod Theorems
 pub mod MaskNodeLaws
 pub mod MaskSearchLaws
+pub mod MaskChoiceLaws

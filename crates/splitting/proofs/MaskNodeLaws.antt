@@ -208,7 +208,7 @@ open-none [] = refl
 open-none (c ∷ cs) =
     let a : Assignment = record { trues = 0; falses = 0 } in
     let whole : left-under a c ≡ c =
-            clause-same (left-under a c) c (λ sign i. left-side a c sign i ∙ rw (bit-none i) (and-true (bit (side c sign) i))) in
+    clause-same (left-under a c) c (λ sign i. left-side a c sign i ∙ rw (bit-none i) (and-true (bit (side c sign) i))) in
     rw (meets-none (c .positive), meets-none (c .negative), whole, open-none cs)
 
 -- The node of a trail over masks has the masks of the clauses that remain there.

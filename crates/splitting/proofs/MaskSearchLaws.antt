@@ -71,17 +71,16 @@ module _ (n m : ℕ) (f : ℕ → Bool) (fits : n ≤ 64) (same : (v : ℕ) → 
   lowest-member ne =
       let l = lowest-is 64 m mask-word (omega arith) in
       let t : f (lowest m) ≡ true = sym (same (lowest m)) ∙ l .set in
-      let w = lowest-found f n (lowest m) (low (lowest m) t) t in
-      (
+      let w = lowest-found f n (lowest m) (low (lowest m) t) t in (
         w .0,
         ⊎-elim
-        (λ (h : lowest m < lowest-with f n). clash t (first-least f 0 n (lowest m) zero-le h))
-        (λ (h : lowest-with f n ≤ lowest m).
-        ⊎-elim
-        (λ (e : lowest-with f n ≡ lowest m). sym e)
-        (λ (g : lowest-with f n < lowest m). clash (same (lowest-with f n) ∙ w .1) (l .first (lowest-with f n) g))
-        (eq-or-lt-of-le h))
-        (lt-or-le (lowest m) (lowest-with f n)),
+            (λ (h : lowest m < lowest-with f n). clash t (first-least f 0 n (lowest m) zero-le h))
+            (λ (h : lowest-with f n ≤ lowest m).
+            ⊎-elim
+            (λ (e : lowest-with f n ≡ lowest m). sym e)
+            (λ (g : lowest-with f n < lowest m). clash (same (lowest-with f n) ∙ w .1) (l .first (lowest-with f n) g))
+            (eq-or-lt-of-le h))
+            (lt-or-le (lowest m) (lowest-with f n)),
       )
 
   -- the members are the variables with it, upward
