@@ -13,3 +13,4 @@ pub mod ChoiceLaws
 pub mod TrailLaws
 pub mod OpenLaws
 pub mod Theorems
+pub mod InnerLaws
