@@ -1,21 +1,39 @@
 -- Laws of what the code of the choice computes over masks: one clause, one variable or one turn more.
 use Prim.Native.Nat.{ℕ, zero, suc, _+_, _*_, _^_, _-_, _≤_, _<_}
-use mathlib.Core.Bool.{Bool, true, false, _||_, or-true, or-false, or-assoc}
+use mathlib.Core.Bool.{Bool, true, false, cond, _||_, or-true, or-false, or-assoc}
 use mathlib.Core.List.{List, [], _∷_, _++_, map, map-append, append-nil}
 use mathlib.Core.Path.{_≡_, refl, sym, ap, _∙_}
+use native.Mathlib.Decide.{ℕ-discrete}
+use native.Mathlib.Nat.{mul-le-mul}
 use native.Mathlib.Numerals.{add-one}
 use native.Mathlib.Omega.{arith}
+use lib.Bits.{bitXor, or-lt, xor-lt}
 use lib.Dec.{eqb}
 use borrow.Author.Tests.{eq-eqb, ne-eqb}
-use lib.ListN.{length, getD, set, length-append, length-map}
+use lib.ListN.{length, getD, take, drop, set, length-append, length-map}
+use lib.Pow.{pow-mono}
+use lib.Seq.{take-at}
+use Rattle.lists.specs.Every.{Every}
 use Rattle.lists.specs.Over.{over}
-use Rattle.lists.proofs.OverLaws.{over-set}
+use Rattle.lists.proofs.EveryLaws.{every-append, every-getD}
+use Rattle.lists.proofs.OverLaws.{over-length, over-set}
+use Rattle.masks.specs.Mask.{bit, with, without, lowest, only-if, members}
+use Rattle.masks.proofs.BitLaws.{minus-lt, bit-none}
+use Rattle.masks.proofs.MembersLaws.{lowest-is, members-none, members-lowest, members-le}
+use Rattle.matching.specs.declared.Matching.{Matching}
+use Rattle.matching.specs.Result.{Clauses, packed}
+use Rattle.matching.specs.Search.{succeeds, expansions}
+use Rattle.matching.proofs.ResultLaws.{packed-complete, packed-expansions}
+use Rattle.matching.proofs.Theorems.{outcome-cost}
 use Rattle.formula.specs.declared.Clause.{Clause}
 use Rattle.formula.specs.declared.Formula.{Formula}
-use Rattle.formula.specs.Masked.{no-clause, named, FormulaFits}
+use Rattle.formula.specs.Masked.{no-clause, named, side, FormulaFits}
 use Rattle.splitting.specs.declared.Assignment.{Assignment}
+use Rattle.splitting.specs.declared.Reduced.{Reduced}
+use Rattle.splitting.specs.declared.Trial.{Trial}
 use Rattle.splitting.specs.declared.Survey.{Survey}
-use Rattle.splitting.specs.InnerChoose.{satisfied-under, left-under, open-clauses, node, surveys, survey-from, survey-of, some-empty}
+use Rattle.splitting.specs.InnerChoose.{assigned, set-to, satisfied-under, left-under, open-clauses, node, surveys, survey-from, survey-of, some-empty, matched-node, reduced-at, pure-of, reduce-from, reduced, tried, passing, greatest}
+use Rattle.splitting.specs.Choosing.{both-open, last}
 
 -- ---- one clause more
 
@@ -87,3 +105,221 @@ gather-more cs a i n b s e q l h =
       rw (open-more cs a i e) (simp length-append (omega arith)),
       rw (open-more cs a i e, map-append, h, m) (over-set (map named o) b (named x) k),
     )
+
+-- ---- the matching of a node
+
+abbrev Word : ℕ → Type 0
+Word x = x < 2 ^ 64
+
+-- a clause of 64-bit masks
+abbrev Words : Clause → Type 0
+Words c = Word (c .positive) × Word (c .negative)
+
+words-named : (l : List Clause) → Every Words l → Every Word (map named l)
+words-named [] h = tt
+words-named (c ∷ l) h = (or-lt 64 (c .positive) (c .negative) (h .0 .0) (h .0 .1), words-named l (h .1))
+
+every-drop : (P : ℕ → Type 0) (n : ℕ) (l : List ℕ) → Every P l → Every P (drop n l)
+every-drop P zero l h = h
+every-drop P (suc n) [] h = tt
+every-drop P (suc n) (x ∷ l) h = every-drop P n l (h .1)
+
+module _ (f : Formula) (fits : FormulaFits f) (a : Assignment) where
+  side-word : (i : ℕ) → i < f .count → (sign : Bool) → Word (side (getD (f .clauses) i no-clause) sign)
+  side-word i l sign =
+      let n : f .variables ≤ 64 = omega (arith, fits .most) in
+      let p : 2 ^ f .variables ≤ 2 ^ 64 = pow-mono n in
+      omega (arith, fits .clauses i l .below sign)
+
+  open-words : (n : ℕ) → n ≤ f .count → Every Words (open-clauses (f .clauses) a n)
+  unfolding open-clauses
+  open-words zero l = tt
+  open-words (suc n) l = every-append Words (open-clauses (f .clauses) a n) _ (open-words n (omega arith)) (go (satisfied-under a c))
+    where
+      c : Clause
+      c = getD (f .clauses) n no-clause
+      go : (b : Bool) → Every Words (cond b [] (left-under a c ∷ []))
+      go true = tt
+      go false =
+          ((minus-lt 64 (c .positive) (assigned a) (side-word n (omega arith) true), minus-lt 64 (c .negative) (assigned a) (side-word n (omega arith) false)), tt)
+
+  open-length : (n : ℕ) → length (open-clauses (f .clauses) a n) ≤ n
+  unfolding open-clauses
+  open-length zero = omega arith
+  open-length (suc n) = simp length-append (go (satisfied-under a (getD (f .clauses) n no-clause)) (open-length n))
+    where
+      go : (b : Bool) → length (open-clauses (f .clauses) a n) ≤ n
+          → length (open-clauses (f .clauses) a n) + length (cond b [] (left-under a (getD (f .clauses) n no-clause) ∷ [])) ≤ suc n
+      go true h = omega arith
+      go false h = omega arith
+
+  node-words : Every Word (map named (node f a))
+  node-words = words-named (node f a) (open-words (f .count) (omega arith))
+
+  node-few : length (map named (node f a)) ≤ 96
+  node-few = let e = length-map (node f a) named in omega (arith, open-length (f .count), fits .few)
+
+  -- over zeros, what the clauses name is what the matching asks
+  pub node-clauses : (b : List ℕ) → length b ≡ 96 → Every Word b → Clauses (over (map named (node f a)) b) (length (node f a))
+  node-clauses b e w =
+      let l = map named (node f a) in
+      let h : length (node f a) ≤ 96 = omega (arith, length-map (node f a) named, node-few) in
+      record {
+        few = h;
+        present = let q = over-length l b (omega (arith, node-few)) in omega arith;
+        words = λ i m. every-getD Word (over l b) i 0 m (every-append Word l (drop (length l) b) node-words (every-drop Word (length l) b w));
+      }
+
+  -- and its first clauses are those of the node
+  pub node-taken : (b : List ℕ) → take (length (node f a)) (over (map named (node f a)) b) ≡ map named (node f a)
+  node-taken b = take-at (map named (node f a)) _ (length (node f a)) (length-map (node f a) named)
+
+  -- the matching of a node costs at most 96 * 97 / 2 expansions
+  pub node-cost : expansions (matched-node f a) ≤ 4656
+  node-cost =
+      let l = map named (node f a) in
+      let k = length l in
+      let s : k + 1 ≤ 97 = omega (arith, node-few) in
+      let p : k * (k + 1) ≤ 96 * 97 = mul-le-mul node-few s in
+      omega (arith, outcome-cost l (λ i m. every-getD Word l i 0 m node-words))
+
+-- ---- pure literals
+
+survey-words : (s : Survey) (l : List Clause) → Word (s .positive) → Word (s .negative) → Every Words l
+    → Word (survey-from s l .positive) × Word (survey-from s l .negative)
+unfolding survey-from
+survey-words s [] p n h = (p, n)
+survey-words s (c ∷ l) p n h =
+    survey-words (surveys s c) l (or-lt 64 (s .positive) (c .positive) p (h .0 .0)) (or-lt 64 (s .negative) (c .negative) n (h .0 .1)) (h .1)
+
+module _ (f : Formula) (fits : FormulaFits f) (a : Assignment) where
+  -- the lowest pure variable is below 64
+  pub pure-low : (pure-of f a ≡ 0 → ⊥) → lowest (pure-of f a) < 64
+  pure-low h =
+      let s = survey-of (node f a) in
+      let w = survey-words (record { positive = 0; negative = 0; any = false }) (node f a) (omega arith) (omega arith) (open-words f fits a (f .count) (omega arith)) in
+      lowest-is 64 (pure-of f a) (xor-lt 64 (s .positive) (s .negative) (w .0) (w .1)) (omega arith) .below
+
+-- the lowest pure variable has its value as well
+abbrev next-of : Formula → Assignment → Assignment
+next-of f a = set-to a (lowest (pure-of f a)) (bit (survey-of (node f a) .positive) (lowest (pure-of f a)))
+
+module _ (f : Formula) (a : Assignment) (noted v : ℕ) where
+  -- no variable is pure
+  pub reduce-done : (k : ℕ) → pure-of f a ≡ 0 → reduce-from k f a noted v ≡ reduced-at f a noted v
+  unfolding reduce-from
+  reduce-done zero e = refl
+  reduce-done (suc k) e = rw (reduce-from, eq-eqb (pure-of f a) 0 e)
+
+  -- the lowest pure variable is assigned its way and noted
+  reduce-turn : (k : ℕ) → (pure-of f a ≡ 0 → ⊥)
+      → reduce-from (suc k) f a noted v ≡ reduce-from k f (next-of f a) (with noted (lowest (pure-of f a))) (lowest (pure-of f a))
+  unfolding reduce-from
+  reduce-turn k z = rw (reduce-from, ne-eqb (pure-of f a) 0 z)
+
+  -- as the code has it
+  pub reduce-more : (n k : ℕ) (s : Survey) (x : ℕ) (b : Bool) (next : Assignment) (noted′ : ℕ) → k < n → s ≡ survey-of (node f a)
+      → (bitXor (s .positive) (s .negative) ≡ 0 → ⊥) → x ≡ lowest (bitXor (s .positive) (s .negative)) → b ≡ bit (s .positive) x → next ≡ set-to a x b
+      → noted′ ≡ with noted x → reduce-from (n - k) f a noted v ≡ reduce-from (n - (k + 1)) f next noted′ x
+  reduce-more n k s x b next noted′ l es p ex eb en ew =
+      let q : n - k ≡ suc (n - (k + 1)) = omega arith in
+      let z : pure-of f a ≡ 0 → ⊥ = λ e. p (ap (λ (t : Survey). bitXor (t .positive) (t .negative)) es ∙ e) in
+      rw (q, en, ew, eb, ex, es) (reduce-turn (n - (k + 1)) z)
+
+-- the last noted variable is below 64
+pub reduce-last : (k : ℕ) (f : Formula) (a : Assignment) (noted v : ℕ) → FormulaFits f → v < 64 → reduce-from k f a noted v .last < 64
+unfolding reduce-from
+reduce-last zero f a noted v fits l = l
+reduce-last (suc k) f a noted v fits l =
+    go (λ m. reduce-last k f (next-of f a) (with noted (lowest (pure-of f a))) (lowest (pure-of f a)) fits m) (ℕ-discrete (pure-of f a) 0)
+  where
+    go : (lowest (pure-of f a) < 64 → reduce-from k f (next-of f a) (with noted (lowest (pure-of f a))) (lowest (pure-of f a)) .last < 64)
+        → Dec (pure-of f a ≡ 0) → reduce-from (suc k) f a noted v .last < 64
+    go h (yes e) = rw (reduce-done f a noted v (suc k) e) l
+    go h (no z) = rw (reduce-turn f a noted v k z) (h (pure-low f fits a z))
+
+-- ---- trials
+
+module _ (f : Formula) (a : Assignment) (v : ℕ) where
+  -- the matching with v false fails
+  pub tried-false : (m : Matching) → m ≡ packed (length (node f (set-to a v false))) (matched-node f (set-to a v false)) → m .complete ≡ false
+      → _≡_ {A = Trial} (record { passes = false; cost = m .expansions }) (tried f a v)
+  unfolding tried
+  tried-false m e h =
+      let o = matched-node f (set-to a v false) in
+      let n = length (node f (set-to a v false)) in
+      let t : succeeds o ≡ false = sym (packed-complete n o) ∙ ap (λ (x : Matching). x .complete) (sym e) ∙ h in
+      rw (e, packed-expansions, tried, t)
+
+  -- it succeeds, and the one with v true decides
+  pub tried-true : (m n : Matching) → m ≡ packed (length (node f (set-to a v false))) (matched-node f (set-to a v false)) → m .complete ≡ true
+      → n ≡ packed (length (node f (set-to a v true))) (matched-node f (set-to a v true))
+      → _≡_ {A = Trial} (record { passes = n .complete; cost = m .expansions + n .expansions }) (tried f a v)
+  unfolding tried
+  tried-true m n e h d =
+      let o = matched-node f (set-to a v false) in
+      let q = matched-node f (set-to a v true) in
+      let t : succeeds o ≡ true = sym (packed-complete (length (node f (set-to a v false))) o) ∙ ap (λ (x : Matching). x .complete) (sym e) ∙ h in
+      rw (e, d, packed-expansions (length (node f (set-to a v false))) o, packed-expansions (length (node f (set-to a v true))) q,
+        packed-complete (length (node f (set-to a v true))) q, tried, t)
+
+  -- a trial costs at most two matchings
+  pub tried-cost : FormulaFits f → tried f a v .cost ≤ 9312
+  unfolding tried
+  tried-cost fits = go (succeeds (matched-node f (set-to a v false))) refl
+    where
+      go : (b : Bool) → succeeds (matched-node f (set-to a v false)) ≡ b → tried f a v .cost ≤ 9312
+      go true e = rw (tried, e) (omega (arith, node-cost f fits (set-to a v false), node-cost f fits (set-to a v true)))
+      go false e = rw (tried, e) (omega (arith, node-cost f fits (set-to a v false)))
+
+module _ (f : Formula) (a : Assignment) (rest e : ℕ) (h : rest < 2 ^ 64) (z : rest ≡ 0 → ⊥) where
+  -- the lowest candidate passes
+  pub passing-found : tried f a (lowest rest) .passes ≡ true → passing f a (members rest 64) e ≡ both-open (lowest rest) (e + tried f a (lowest rest) .cost)
+  unfolding passing
+  passing-found t = rw (members-lowest 64 64 rest h h (omega arith), passing, t)
+
+  -- or it does not
+  pub passing-more : tried f a (lowest rest) .passes ≡ false
+      → passing f a (members rest 64) e ≡ passing f a (members (without rest (lowest rest)) 64) (e + tried f a (lowest rest) .cost)
+  unfolding passing
+  passing-more t = rw (members-lowest 64 64 rest h h (omega arith), passing, t)
+
+-- no candidate is left
+pub passing-none : (f : Formula) (a : Assignment) (e : ℕ) → passing f a (members 0 64) e ≡ both-open 0 e
+unfolding passing
+passing-none f a e = rw (members-none 0 64 (λ i l. bit-none i))
+
+-- ---- the last member
+
+-- 0 before a list is its last element only where there is none
+pub last-after : (l : List ℕ) → last (0 ∷ l) ≡ last l
+unfolding last
+last-after [] = refl
+last-after (x ∷ l) = refl
+
+pub last-more : (v m : ℕ) → m < 2 ^ 64 → (m ≡ 0 → ⊥) → last (v ∷ members m 64) ≡ last (lowest m ∷ members (without m (lowest m)) 64)
+unfolding last
+last-more v m h z = rw (members-lowest 64 64 m h h (omega arith), last)
+
+pub last-none : (v : ℕ) → last (v ∷ members 0 64) ≡ v
+unfolding last
+last-none v = rw (members-none 0 64 (λ i l. bit-none i))
+
+-- the greatest member is below 64
+members-below : (m k n : ℕ) → n ≤ k → Every (λ x. x < k) (members m n)
+unfolding members
+members-below m k zero l = tt
+members-below m k (suc n) l = every-append (λ x. x < k) (members m n) (only-if (bit m n) n) (members-below m k n (omega arith)) (go (bit m n))
+  where
+    go : (b : Bool) → Every (λ x. x < k) (only-if b n)
+    go true = (omega arith, tt)
+    go false = tt
+
+last-every : (P : ℕ → Type 0) (l : List ℕ) → P 0 → Every P l → P (last l)
+unfolding last
+last-every P [] p h = p
+last-every P (x ∷ []) p h = h .0
+last-every P (x ∷ (y ∷ l)) p h = last-every P (y ∷ l) p (h .1)
+
+pub greatest-below : (m : ℕ) → greatest m < 64
+greatest-below m = last-every (λ x. x < 64) (members m 64) (omega arith) (members-below m 64 64 (omega arith))
