@@ -10,12 +10,12 @@ use native.Mathlib.Omega.{arith}
 use lib.Bits.{bitXor, or-lt, xor-lt}
 use lib.Dec.{eqb}
 use borrow.Author.Tests.{eq-eqb, ne-eqb}
-use lib.ListN.{length, getD, take, drop, set, length-append, length-map}
+use lib.ListN.{length, getD, take, drop, set, replicate, length-append, length-map, length-replicate}
 use lib.Pow.{pow-mono}
 use lib.Seq.{take-at}
 use Rattle.lists.specs.Every.{Every}
 use Rattle.lists.specs.Over.{over}
-use Rattle.lists.proofs.EveryLaws.{every-append, every-getD}
+use Rattle.lists.proofs.EveryLaws.{every-append, every-replicate, every-getD}
 use Rattle.lists.proofs.OverLaws.{over-length, over-set}
 use Rattle.masks.specs.Mask.{bit, with, without, lowest, only-if, members}
 use Rattle.masks.proofs.BitLaws.{minus-lt, bit-none}
@@ -160,13 +160,14 @@ module _ (f : Formula) (fits : FormulaFits f) (a : Assignment) where
   node-few = let e = length-map (node f a) named in omega (arith, open-length (f .count), fits .few)
 
   -- over zeros, what the clauses name is what the matching asks
-  pub node-clauses : (b : List ℕ) → length b ≡ 96 → Every Word b → Clauses (over (map named (node f a)) b) (length (node f a))
-  node-clauses b e w =
+  pub node-clauses : (b : List ℕ) → b ≡ replicate 96 0 → Clauses (over (map named (node f a)) b) (length (node f a))
+  node-clauses b e =
       let l = map named (node f a) in
-      let h : length (node f a) ≤ 96 = omega (arith, length-map (node f a) named, node-few) in
+      let n : length b ≡ 96 = ap length e ∙ length-replicate {A = ℕ} 96 0 in
+      let w : Every Word b = rw e (every-replicate Word 96 0 (omega arith)) in
       record {
-        few = h;
-        present = let q = over-length l b (omega (arith, node-few)) in omega arith;
+        few = omega (arith, length-map (node f a) named, node-few);
+        present = omega (arith, length-map (node f a) named, node-few, over-length l b (omega (arith, node-few)));
         words = λ i m. every-getD Word (over l b) i 0 m (every-append Word l (drop (length l) b) node-words (every-drop Word (length l) b w));
       }
 
@@ -175,13 +176,16 @@ module _ (f : Formula) (fits : FormulaFits f) (a : Assignment) where
   node-taken b = take-at (map named (node f a)) _ (length (node f a)) (length-map (node f a) named)
 
   -- the matching of a node costs at most 96 * 97 / 2 expansions
-  pub node-cost : expansions (matched-node f a) ≤ 4656
+  node-cost : expansions (matched-node f a) ≤ 4656
   node-cost =
       let l = map named (node f a) in
       let k = length l in
       let s : k + 1 ≤ 97 = omega (arith, node-few) in
       let p : k * (k + 1) ≤ 96 * 97 = mul-le-mul node-few s in
       omega (arith, outcome-cost l (λ i m. every-getD Word l i 0 m node-words))
+
+  pub match-cost : (m : Matching) → m ≡ packed (length (node f a)) (matched-node f a) → m .expansions ≤ 4656
+  match-cost m e = rw (e, packed-expansions) node-cost
 
 -- ---- pure literals
 
@@ -264,7 +268,7 @@ module _ (f : Formula) (a : Assignment) (v : ℕ) where
         packed-complete (length (node f (set-to a v true))) q, tried, t)
 
   -- a trial costs at most two matchings
-  pub tried-cost : FormulaFits f → tried f a v .cost ≤ 9312
+  tried-cost : FormulaFits f → tried f a v .cost ≤ 9312
   unfolding tried
   tried-cost fits = go (succeeds (matched-node f (set-to a v false))) refl
     where
@@ -272,17 +276,35 @@ module _ (f : Formula) (a : Assignment) (v : ℕ) where
       go true e = rw (tried, e) (omega (arith, node-cost f fits (set-to a v false), node-cost f fits (set-to a v true)))
       go false e = rw (tried, e) (omega (arith, node-cost f fits (set-to a v false)))
 
-module _ (f : Formula) (a : Assignment) (rest e : ℕ) (h : rest < 2 ^ 64) (z : rest ≡ 0 → ⊥) where
-  -- the lowest candidate passes
-  pub passing-found : tried f a (lowest rest) .passes ≡ true → passing f a (members rest 64) e ≡ both-open (lowest rest) (e + tried f a (lowest rest) .cost)
-  unfolding passing
-  passing-found t = rw (members-lowest 64 64 rest h h (omega arith), passing, t)
+-- a mask without its lowest member
+pub record Lowered (m : ℕ) : Type 0 where
+  pub below : lowest m < 64
+  pub fits : without m (lowest m) < 2 ^ 64
+  pub less : suc (length (members (without m (lowest m)) 64)) ≡ length (members m 64)
+  pub listed : members m 64 ≡ lowest m ∷ members (without m (lowest m)) 64
 
-  -- or it does not
-  pub passing-more : tried f a (lowest rest) .passes ≡ false
-      → passing f a (members rest 64) e ≡ passing f a (members (without rest (lowest rest)) 64) (e + tried f a (lowest rest) .cost)
+pub lowered : (m : ℕ) → m < 2 ^ 64 → (m ≡ 0 → ⊥) → Lowered m
+lowered m h z =
+    let e = members-lowest 64 64 m h h (omega arith) in
+    record { below = lowest-is 64 m h (omega arith) .below; fits = minus-lt 64 m (2 ^ lowest m) h; less = sym (ap length e); listed = e }
+
+-- the lowest candidate v is tried
+module _ (f : Formula) (a : Assignment) (rest e v : ℕ) (t : Trial) (w : Lowered rest) (q : v ≡ lowest rest) (p : t ≡ tried f a v) where
+  trial : tried f a (lowest rest) ≡ t
+  trial = ap (tried f a) (sym q) ∙ sym p
+
+  -- it passes
+  pub passing-found : t .passes ≡ true → passing f a (members rest 64) e ≡ both-open v (e + t .cost)
   unfolding passing
-  passing-more t = rw (members-lowest 64 64 rest h h (omega arith), passing, t)
+  passing-found h = rw (w .listed, passing, trial, h, trial, q)
+
+  -- it does not
+  pub passing-more : (next : ℕ) → t .passes ≡ false → next ≡ without rest v → passing f a (members rest 64) e ≡ passing f a (members next 64) (e + t .cost)
+  unfolding passing
+  passing-more next h n = rw (w .listed, passing, trial, h, trial, n, q)
+
+  pub trial-cost : FormulaFits f → t .cost ≤ 9312
+  trial-cost fits = rw p (tried-cost f a v fits)
 
 -- no candidate is left
 pub passing-none : (f : Formula) (a : Assignment) (e : ℕ) → passing f a (members 0 64) e ≡ both-open 0 e
@@ -297,9 +319,9 @@ unfolding last
 last-after [] = refl
 last-after (x ∷ l) = refl
 
-pub last-more : (v m : ℕ) → m < 2 ^ 64 → (m ≡ 0 → ⊥) → last (v ∷ members m 64) ≡ last (lowest m ∷ members (without m (lowest m)) 64)
+pub last-more : (v m : ℕ) → Lowered m → last (v ∷ members m 64) ≡ last (lowest m ∷ members (without m (lowest m)) 64)
 unfolding last
-last-more v m h z = rw (members-lowest 64 64 m h h (omega arith), last)
+last-more v m w = rw (w .listed, last)
 
 pub last-none : (v : ℕ) → last (v ∷ members 0 64) ≡ v
 unfolding last
