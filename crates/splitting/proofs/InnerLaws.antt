@@ -7,7 +7,7 @@ use native.Mathlib.Decide.{ℕ-discrete}
 use native.Mathlib.Nat.{mul-le-mul}
 use native.Mathlib.Numerals.{add-one}
 use native.Mathlib.Omega.{arith}
-use lib.Bits.{bitXor, or-lt, xor-lt}
+use lib.Bits.{bitOr, bitXor, or-lt, xor-lt}
 use lib.Dec.{eqb}
 use borrow.Author.Tests.{eq-eqb, ne-eqb}
 use lib.ListN.{length, getD, take, drop, set, replicate, length-append, length-map, length-replicate}
@@ -17,9 +17,9 @@ use Rattle.lists.specs.Every.{Every}
 use Rattle.lists.specs.Over.{over}
 use Rattle.lists.proofs.EveryLaws.{every-append, every-replicate, every-getD}
 use Rattle.lists.proofs.OverLaws.{over-length, over-set}
-use Rattle.masks.specs.Mask.{bit, with, without, lowest, only-if, members}
+use Rattle.masks.specs.Mask.{bit, with, minus, without, lowest, only-if, members}
 use Rattle.masks.proofs.BitLaws.{minus-lt, bit-none}
-use Rattle.masks.proofs.MembersLaws.{lowest-is, members-none, members-lowest, members-le}
+use Rattle.masks.proofs.MembersLaws.{lowest-is, members-none, members-lowest}
 use Rattle.matching.specs.declared.Matching.{Matching}
 use Rattle.matching.specs.Result.{Clauses, packed}
 use Rattle.matching.specs.Search.{succeeds, expansions}
@@ -32,7 +32,7 @@ use Rattle.splitting.specs.declared.Assignment.{Assignment}
 use Rattle.splitting.specs.declared.Reduced.{Reduced}
 use Rattle.splitting.specs.declared.Trial.{Trial}
 use Rattle.splitting.specs.declared.Survey.{Survey}
-use Rattle.splitting.specs.InnerChoose.{assigned, set-to, satisfied-under, left-under, open-clauses, node, surveys, survey-from, survey-of, some-empty, matched-node, reduced-at, pure-of, reduce-from, reduced, tried, passing, greatest}
+use Rattle.splitting.specs.InnerChoose.{assigned, set-to, satisfied-under, left-under, open-clauses, node, surveys, survey-from, survey-of, some-empty, matched-node, reduced-at, pure-of, reduce-from, reduced, tried, passing, greatest, listed-last, chosen}
 use Rattle.splitting.specs.Choosing.{both-open, last}
 
 -- ---- one clause more
@@ -138,6 +138,7 @@ module _ (f : Formula) (fits : FormulaFits f) (a : Assignment) where
     where
       c : Clause
       c = getD (f .clauses) n no-clause
+
       go : (b : Bool) → Every Words (cond b [] (left-under a c ∷ []))
       go true = tt
       go false =
@@ -264,8 +265,15 @@ module _ (f : Formula) (a : Assignment) (v : ℕ) where
       let o = matched-node f (set-to a v false) in
       let q = matched-node f (set-to a v true) in
       let t : succeeds o ≡ true = sym (packed-complete (length (node f (set-to a v false))) o) ∙ ap (λ (x : Matching). x .complete) (sym e) ∙ h in
-      rw (e, d, packed-expansions (length (node f (set-to a v false))) o, packed-expansions (length (node f (set-to a v true))) q,
-        packed-complete (length (node f (set-to a v true))) q, tried, t)
+      rw (
+        e,
+        d,
+        packed-expansions (length (node f (set-to a v false))) o,
+        packed-expansions (length (node f (set-to a v true))) q,
+        packed-complete (length (node f (set-to a v true))) q,
+        tried,
+        t,
+      )
 
   -- a trial costs at most two matchings
   tried-cost : FormulaFits f → tried f a v .cost ≤ 9312
@@ -345,3 +353,29 @@ last-every P (x ∷ (y ∷ l)) p h = last-every P (y ∷ l) p (h .1)
 
 pub greatest-below : (m : ℕ) → greatest m < 64
 greatest-below m = last-every (λ x. x < 64) (members m 64) (omega arith) (members-below m 64 64 (omega arith))
+
+-- ---- the choice
+
+module _ (f : Formula) (settle : ℕ) (a : Assignment) (names : Survey) (n : names ≡ survey-of (node f a)) where
+  -- no clause remains
+  pub chosen-free : names .any ≡ false → both-open (lowest (minus settle (assigned a))) 0 ≡ chosen f settle a
+  unfolding chosen
+  chosen-free t = rw (chosen, ← n, t)
+
+  module _ (t : names .any ≡ true) (r : Reduced) (e : r ≡ reduced f a) where
+    -- stripping leaves clauses
+    pub chosen-passing : r .survey .any ≡ true
+        → passing f (r .assignment) (members (bitOr (r .survey .positive) (r .survey .negative)) 64) 0 ≡ chosen f settle a
+    unfolding chosen
+    chosen-passing s = rw (chosen, ← n, t, ← e, s)
+
+    module _ (s : r .survey .any ≡ false) (others : ℕ) (o : others ≡ minus (bitOr (names .positive) (names .negative)) (r .noted)) where
+      -- it leaves none, and every variable that was named is noted
+      pub chosen-noted : others ≡ 0 → listed-last f a (r .last) ≡ chosen f settle a
+      unfolding chosen
+      chosen-noted z = rw (chosen, ← n, t, ← e, s, ← o, z)
+
+      -- or another one was named
+      pub chosen-other : (others ≡ 0 → ⊥) → listed-last f a (greatest others) ≡ chosen f settle a
+      unfolding chosen
+      chosen-other z = rw (chosen, ← n, t, ← e, s, ← o, ne-eqb others 0 z)

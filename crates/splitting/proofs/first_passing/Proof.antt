@@ -11,12 +11,6 @@ use Rattle.splitting.specs.InnerChoose.{passing}
 use Rattle.splitting.proofs.InnerLaws.{Lowered, lowered, passing-found, passing-more, passing-none, trial-cost}
 use Rattle.splitting.proofs.first_passing.Statement.{statement}
 use Rattle.splitting.proofs.first_passing.Tie as tie
-use Rattle.splitting.proofs.first_passing.Reads as reads
-use Rattle.splitting.proofs.first_passing.Lts as lts
-use Rattle.masks.proofs.lowest.Reads as lowest-reads
-use Rattle.masks.proofs.without.Reads as without-reads
-use Rattle.splitting.proofs.both_open.Reads as both-open-reads
-use Rattle.splitting.proofs.try_variable.Reads as try-variable-reads
 
 abbrev Inv-loop : tie.InvT-loop
 Inv-loop f a candidates rest₀ cost₀ rest cost =
@@ -38,25 +32,20 @@ cost c =
 loop-holds : tie.Need-loop-holds Inv-loop μ-loop
 loop-holds c = (search needs, refl, omega (arith, members-le (c .args .candidates) 64))
 
--- src/lib.rt:238:13
 lowest-requires : tie.Need-lowest-requires Inv-loop μ-loop
 lowest-requires c κs = search needs
 
--- src/lib.rt:239:13
 try-variable-requires : tie.Need-try-variable-requires Inv-loop μ-loop
 try-variable-requires c κs = (search needs, rw (c .lowest .ensures) (low (c .before) .below))
 
--- src/lib.rt:240:9
 add-cost : tie.Need-add-cost Inv-loop μ-loop
 add-cost c =
     let l = c .before .before .before .before in
     omega (arith, cost (c .before), low (c .before .before .before) .less, l .loop .inv .2)
 
--- src/lib.rt:242:13
 both-open-requires : tie.Need-both-open-requires Inv-loop μ-loop
 both-open-requires c κs = search needs
 
--- src/lib.rt:242:13
 returns : tie.Need-returns Inv-loop μ-loop
 returns c =
     let t = c .before .before .before in
@@ -66,15 +55,12 @@ returns c =
     (low (t .before .before)) (t .before .lowest .ensures) (t .try-variable .ensures) (c .before .if1 .taken))
     ∙ l .loop .inv .1
 
--- src/lib.rt:244:9
 without-requires : tie.Need-without-requires Inv-loop μ-loop
 without-requires c κs = let l = c .before .before .before in rw (l .lowest .ensures) (low (l .before) .below)
 
--- src/lib.rt:237:5
 loop-less : tie.Need-loop-less Inv-loop μ-loop
 loop-less c = let l = c .before .before .before .before in rw (c .without .ensures, l .lowest .ensures) (omega (arith, low (l .before) .less))
 
--- src/lib.rt:237:5
 loop-again : tie.Need-loop-again Inv-loop μ-loop
 loop-again c =
     let t = c .before .before .before in
@@ -82,16 +68,14 @@ loop-again c =
     let w = low (t .before .before) in (
       rw (c .without .ensures, t .before .lowest .ensures) (w .fits),
       sym (passing-more (l .before .args .f) (l .before .args .a) (l .loop .rest) (l .loop .cost) (t .before .lowest .result) (t .try-variable .result)
-      w (t .before .lowest .ensures) (t .try-variable .ensures) (c .without .result) (c .before .if1 .left) (c .without .ensures))
-      ∙ l .loop .inv .1,
+          w (t .before .lowest .ensures) (t .try-variable .ensures) (c .without .result) (c .before .if1 .left) (c .without .ensures))
+          ∙ l .loop .inv .1,
       rw (c .without .ensures, t .before .lowest .ensures) (omega (arith, cost t, w .less, l .loop .inv .2)),
     )
 
--- src/lib.rt:246:5
 both-open-requires-2 : tie.Need-both-open-requires-2 Inv-loop μ-loop
 both-open-requires-2 c κs = search needs
 
--- src/lib.rt:231:1
 returns-2 : tie.Need-returns-2 Inv-loop μ-loop
 returns-2 c =
     let l = c .before .before in

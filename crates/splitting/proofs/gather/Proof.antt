@@ -3,7 +3,7 @@ use Prim.Native.Nat.{_≤_, _-_}
 use native.Mathlib.Omega.{arith}
 use mathlib.Core.List.{map}
 use mathlib.Core.Logic.{⊎-elim}
-use mathlib.Core.Path.{_≡_, refl, sym, ap, _∙_}
+use mathlib.Core.Path.{_≡_, refl, sym, _∙_}
 use borrow.Author.Needs.{needs}
 use borrow.Author.Tests.{not-true, not-false}
 use lib.ListN.{length, length-set}
@@ -13,10 +13,6 @@ use Rattle.splitting.specs.InnerChoose.{open-clauses}
 use Rattle.splitting.proofs.InnerLaws.{open-gone, gather-more}
 use Rattle.splitting.proofs.gather.Statement.{statement}
 use Rattle.splitting.proofs.gather.Tie as tie
-use Rattle.splitting.proofs.gather.Reads as reads
-use Rattle.splitting.proofs.gather.Lts as lts
-use Rattle.splitting.proofs.is_satisfied.Reads as is-satisfied-reads
-use Rattle.splitting.proofs.left.Reads as left-reads
 
 abbrev Inv-loop : tie.InvT-loop
 Inv-loop a sets₀ f count₀ i₀ sets count i =
@@ -26,48 +22,37 @@ Inv-loop a sets₀ f count₀ i₀ sets count i =
 abbrev μ-loop : tie.MeasureT-loop
 μ-loop a sets₀ f count₀ i₀ sets count i = f .count - i
 
--- src/lib.rt:142:5
 loop-holds : tie.Need-loop-holds Inv-loop μ-loop
 unfolding open-clauses
 loop-holds c = (search needs, search needs, c .pre .1, refl, refl)
 
--- src/lib.rt:143:17
 mul-c : tie.Need-mul-c Inv-loop μ-loop
 mul-c c = search needs
 
--- src/lib.rt:143:17
 element-copy-out-c : tie.Need-element-copy-out-c Inv-loop μ-loop
 element-copy-out-c c = search needs
 
--- src/lib.rt:144:13
 is-satisfied-requires : tie.Need-is-satisfied-requires Inv-loop μ-loop
 is-satisfied-requires c κs = search needs
 
--- src/lib.rt:145:17
 left-requires : tie.Need-left-requires Inv-loop μ-loop
 left-requires c κs = search needs
 
--- src/lib.rt:146:13
 mul-sets : tie.Need-mul-sets Inv-loop μ-loop
 mul-sets c = search needs
 
--- src/lib.rt:146:13
 element-write-sets : tie.Need-element-write-sets Inv-loop μ-loop
 element-write-sets c = search needs
 
--- src/lib.rt:147:13
 add-count : tie.Need-add-count Inv-loop μ-loop
 add-count c = search needs
 
--- src/lib.rt:149:9
 add-i : tie.Need-add-i Inv-loop μ-loop
 add-i c = search needs
 
--- src/lib.rt:142:5
 loop-less : tie.Need-loop-less Inv-loop μ-loop
 loop-less c = search needs
 
--- src/lib.rt:142:5
 loop-again : tie.Need-loop-again Inv-loop μ-loop
 loop-again c =
     let l = c .before .before .before .before in
@@ -77,14 +62,13 @@ loop-again c =
     ⊎-elim
     (λ w.
     let g = gather-more cs a (v .i) (v .count) (l .before .args .sets .now) (v .sets) (sym (c .before .is-satisfied .ensures) ∙ not-true _ (w .0 .taken)) (v .inv .3)
-        (omega (arith, l .before .pre .1)) (v .inv .4) in
+    (omega (arith, l .before .pre .1)) (v .inv .4) in
     (omega arith, omega arith, rw (w .3, length-set) (v .inv .2), w .4 ∙ g .0, rw (w .3, w .1 .ensures) (g .1)))
     (λ w.
     let e = open-gone cs a (v .i) (sym (c .before .is-satisfied .ensures) ∙ not-false _ (w .0 .left)) in
     (omega arith, omega arith, rw (w .1) (v .inv .2), rw (w .2, e) (v .inv .3), rw (w .1, e) (v .inv .4)))
     (c .if1 .came)
 
--- src/lib.rt:135:1
 returns : tie.Need-returns Inv-loop μ-loop
 returns c =
     let e : c .before .loop .i ≡ c .before .before .args .t1 .count = omega arith in

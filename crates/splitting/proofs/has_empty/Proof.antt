@@ -11,10 +11,6 @@ use Rattle.splitting.specs.InnerChoose.{open-clauses, some-empty}
 use Rattle.splitting.proofs.InnerLaws.{open-gone, empty-found, empty-passed}
 use Rattle.splitting.proofs.has_empty.Statement.{statement}
 use Rattle.splitting.proofs.has_empty.Tie as tie
-use Rattle.splitting.proofs.has_empty.Reads as reads
-use Rattle.splitting.proofs.has_empty.Lts as lts
-use Rattle.splitting.proofs.is_satisfied.Reads as is-satisfied-reads
-use Rattle.splitting.proofs.left.Reads as left-reads
 
 abbrev Inv-loop : tie.InvT-loop
 Inv-loop a f i₀ i = (i ≤ f .count) × (some-empty (open-clauses (f .clauses) a i) ≡ false)
@@ -22,28 +18,22 @@ Inv-loop a f i₀ i = (i ≤ f .count) × (some-empty (open-clauses (f .clauses)
 abbrev μ-loop : tie.MeasureT-loop
 μ-loop a f i₀ i = f .count - i
 
--- src/lib.rt:121:5
 loop-holds : tie.Need-loop-holds Inv-loop μ-loop
 unfolding open-clauses some-empty
 loop-holds c = (search needs, refl)
 
--- src/lib.rt:122:17
 mul-c : tie.Need-mul-c Inv-loop μ-loop
 mul-c c = search needs
 
--- src/lib.rt:122:17
 element-copy-out-c : tie.Need-element-copy-out-c Inv-loop μ-loop
 element-copy-out-c c = search needs
 
--- src/lib.rt:123:13
 is-satisfied-requires : tie.Need-is-satisfied-requires Inv-loop μ-loop
 is-satisfied-requires c κs = search needs
 
--- src/lib.rt:124:17
 left-requires : tie.Need-left-requires Inv-loop μ-loop
 left-requires c κs = search needs
 
--- src/lib.rt:126:17
 returns : tie.Need-returns Inv-loop μ-loop
 returns c =
     let t = c .before .before .before .before in
@@ -51,15 +41,12 @@ returns c =
     sym (empty-found (l .before .args .t1 .clauses) (l .before .args .a) (l .loop .i) (l .before .args .t1 .count) (omega arith)
     (sym (t .is-satisfied .ensures) ∙ not-true _ (c .before .before .before .if1 .taken)) (ap named (sym (c .before .before .left .ensures)) ∙ c .if2 .taken))
 
--- src/lib.rt:129:9
 add-i : tie.Need-add-i Inv-loop μ-loop
 add-i c = search needs
 
--- src/lib.rt:121:5
 loop-less : tie.Need-loop-less Inv-loop μ-loop
 loop-less c = search needs
 
--- src/lib.rt:121:5
 loop-again : tie.Need-loop-again Inv-loop μ-loop
 loop-again c =
     let l = c .before .before .before .before in
@@ -69,12 +56,11 @@ loop-again c =
     (λ w. (
       omega arith,
       empty-passed cs a (l .loop .i) (l .loop .inv .1) (sym (c .before .is-satisfied .ensures) ∙ not-true _ (w .0 .taken))
-      (λ z. w .3 .left (ap named (w .1 .ensures) ∙ z)),
+          (λ z. w .3 .left (ap named (w .1 .ensures) ∙ z)),
     ))
     (λ w. (omega arith, rw (open-gone cs a (l .loop .i) (sym (c .before .is-satisfied .ensures) ∙ not-false _ (w .left))) (l .loop .inv .1)))
     (c .if1 .came)
 
--- src/lib.rt:116:1
 returns-2 : tie.Need-returns-2 Inv-loop μ-loop
 returns-2 c = let e : c .before .loop .i ≡ c .before .before .args .t1 .count = omega arith in sym (rw e at (c .before .loop .inv .1))
 

@@ -11,10 +11,6 @@ use Rattle.splitting.specs.InnerChoose.{greatest}
 use Rattle.splitting.proofs.InnerLaws.{Lowered, lowered, last-after, last-more, last-none}
 use Rattle.splitting.proofs.highest.Statement.{statement}
 use Rattle.splitting.proofs.highest.Tie as tie
-use Rattle.splitting.proofs.highest.Reads as reads
-use Rattle.splitting.proofs.highest.Lts as lts
-use Rattle.masks.proofs.lowest.Reads as lowest-reads
-use Rattle.masks.proofs.without.Reads as without-reads
 
 abbrev Inv-loop : tie.InvT-loop
 Inv-loop mask rest₀ v₀ rest v = (rest < 2 ^ 64) × (last (v ∷ members rest 64) ≡ greatest mask)
@@ -28,26 +24,21 @@ low c = lowered (c .before .loop .rest) (c .before .loop .inv .0) (c .loop-test 
 loop-holds : tie.Need-loop-holds Inv-loop μ-loop
 loop-holds c = (search needs, last-after (members (c .args .mask) 64))
 
--- src/lib.rt:256:9
 lowest-requires : tie.Need-lowest-requires Inv-loop μ-loop
 lowest-requires c κs = search needs
 
--- src/lib.rt:257:9
 without-requires : tie.Need-without-requires Inv-loop μ-loop
 without-requires c κs = rw (c .lowest .ensures) (low (c .before) .below)
 
--- src/lib.rt:255:5
 loop-less : tie.Need-loop-less Inv-loop μ-loop
 loop-less c = rw (c .without .ensures, c .before .lowest .ensures) (omega (arith, low (c .before .before) .less))
 
--- src/lib.rt:255:5
 loop-again : tie.Need-loop-again Inv-loop μ-loop
 loop-again c =
     let v = c .before .before .before .loop in
     let w = low (c .before .before) in
     rw (c .without .ensures, c .before .lowest .ensures) (w .fits, sym (last-more (v .v) (v .rest) w) ∙ v .inv .1)
 
--- src/lib.rt:250:1
 returns : tie.Need-returns Inv-loop μ-loop
 returns c =
     let v = c .before .loop in

@@ -3,28 +3,19 @@ use borrow.Author.Needs.{needs}
 use Rattle.splitting.specs.InnerChoose.{listed-last}
 use Rattle.splitting.proofs.last_listed.Statement.{statement}
 use Rattle.splitting.proofs.last_listed.Tie as tie
-use Rattle.splitting.proofs.last_listed.Reads as reads
-use Rattle.splitting.proofs.last_listed.Lts as lts
-use Rattle.splitting.proofs.assign.Reads as assign-reads
-use Rattle.splitting.proofs.has_empty.Reads as has-empty-reads
 
--- src/lib.rt:269:35
 assign-requires : tie.Need-assign-requires
 assign-requires c κs = search needs
 
--- src/lib.rt:269:22
 has-empty-requires : tie.Need-has-empty-requires
 has-empty-requires c κs = search needs
 
--- src/lib.rt:270:34
 assign-requires-2 : tie.Need-assign-requires-2
 assign-requires-2 c κs = search needs
 
--- src/lib.rt:270:21
 has-empty-requires-2 : tie.Need-has-empty-requires-2
 has-empty-requires-2 c κs = search needs
 
--- src/lib.rt:263:1
 returns : tie.Need-returns
 unfolding listed-last
 returns c = rw (c .has-empty2 .ensures, c .before .before .has-empty .ensures, c .before .assign2 .ensures, c .before .before .before .assign .ensures)

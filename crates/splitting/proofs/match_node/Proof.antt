@@ -4,22 +4,15 @@ use borrow.Author.Needs.{needs}
 use Rattle.splitting.proofs.InnerLaws.{node-clauses, node-taken}
 use Rattle.splitting.proofs.match_node.Statement.{statement}
 use Rattle.splitting.proofs.match_node.Tie as tie
-use Rattle.splitting.proofs.match_node.Reads as reads
-use Rattle.splitting.proofs.match_node.Lts as lts
-use Rattle.matching.proofs.match_sets.Reads as match-sets-reads
-use Rattle.splitting.proofs.gather.Reads as gather-reads
 
--- src/lib.rt:160:9
 gather-requires : tie.Need-gather-requires
 gather-requires c κs = search needs
 
--- src/lib.rt:161:5
 match-sets-requires : tie.Need-match-sets-requires
 match-sets-requires c κs =
     let s = c .before .before .before in
     rw (c .before .gather .ensures .0, c .before .gather .ensures .1) (node-clauses (s .args .f) (s .pre) (s .args .a) _ refl)
 
--- src/lib.rt:155:1
 returns : tie.Need-returns
 returns c =
     let g = c .before .before in

@@ -1,21 +1,14 @@
 -- `reduce` strips pure literals. The invariant: from here on stripping gives the whole result.
 use Prim.Native.Nat.{_-_, _≤_, _<_}
 use native.Mathlib.Omega.{arith}
-use mathlib.Core.Path.{_≡_, refl, sym, ap, _∙_}
+use mathlib.Core.Path.{_≡_, sym, ap, _∙_}
 use borrow.Author.Needs.{needs}
 use lib.Bits.{bitXor}
 use Rattle.splitting.specs.declared.Survey.{Survey}
-use Rattle.splitting.specs.InnerChoose.{pure-of, reduce-from, reduced}
+use Rattle.splitting.specs.InnerChoose.{reduce-from, reduced}
 use Rattle.splitting.proofs.InnerLaws.{pure-low, reduce-done, reduce-more}
 use Rattle.splitting.proofs.reduce.Statement.{statement}
 use Rattle.splitting.proofs.reduce.Tie as tie
-use Rattle.splitting.proofs.reduce.Reads as reads
-use Rattle.splitting.proofs.reduce.Lts as lts
-use Rattle.masks.proofs.lowest.Reads as lowest-reads
-use Rattle.masks.proofs.member.Reads as member-reads
-use Rattle.masks.proofs.with.Reads as with-reads
-use Rattle.splitting.proofs.assign.Reads as assign-reads
-use Rattle.splitting.proofs.survey_node.Reads as survey-node-reads
 
 abbrev Inv-loop : tie.InvT-loop
 Inv-loop f assignment₀ noted₀ last₀ k₀ assignment noted last k = (k ≤ f .variables) × (reduce-from (f .variables - k) f assignment noted last ≡ reduced f assignment₀)
@@ -34,11 +27,9 @@ low c =
 loop-holds : tie.Need-loop-holds Inv-loop μ-loop
 loop-holds c = let e : c .args .f .variables - 0 ≡ c .args .f .variables = omega arith in (search needs, rw e)
 
--- src/lib.rt:175:13
 survey-node-requires : tie.Need-survey-node-requires Inv-loop μ-loop
 survey-node-requires c κs = search needs
 
--- src/lib.rt:178:13
 returns : tie.Need-returns Inv-loop μ-loop
 returns c =
     let s = c .before .before in
@@ -47,31 +38,24 @@ returns c =
     (sym (reduce-done (l .before .args .f) (l .loop .assignment) (l .loop .noted) (l .loop .last) (l .before .args .f .variables - l .loop .k)
     (ap (λ (t : Survey). bitXor (t .positive) (t .negative)) (sym (s .survey-node .ensures)) ∙ c .if2 .taken)) ∙ l .loop .inv .1)
 
--- src/lib.rt:185:13
 lowest-requires : tie.Need-lowest-requires Inv-loop μ-loop
 lowest-requires c κs = search needs
 
--- src/lib.rt:186:44
 member-requires : tie.Need-member-requires Inv-loop μ-loop
 member-requires c κs = low c
 
--- src/lib.rt:186:9
 assign-requires : tie.Need-assign-requires Inv-loop μ-loop
 assign-requires c κs = low (c .before)
 
--- src/lib.rt:187:9
 with-requires : tie.Need-with-requires Inv-loop μ-loop
 with-requires c κs = low (c .before .before)
 
--- src/lib.rt:189:9
 add-k : tie.Need-add-k Inv-loop μ-loop
 add-k c = search needs
 
--- src/lib.rt:174:5
 loop-less : tie.Need-loop-less Inv-loop μ-loop
 loop-less c = search needs
 
--- src/lib.rt:174:5
 loop-again : tie.Need-loop-again Inv-loop μ-loop
 loop-again c =
     let x = c .before .before .before in
@@ -79,15 +63,13 @@ loop-again c =
     let l = s .before .before .before in (
       omega arith,
       sym (reduce-more (l .before .args .f) (l .loop .assignment) (l .loop .noted) (l .loop .last) (l .before .args .f .variables) (l .loop .k) (s .survey-node .result)
-      (x .lowest .result) (c .before .before .member .result) (c .before .assign .result) (c .with .result) (s .before .if1 .taken) (s .survey-node .ensures)
-      (x .before .if2 .left) (x .lowest .ensures) (c .before .before .member .ensures) (c .before .assign .ensures) (c .with .ensures)) ∙ l .loop .inv .1,
+          (x .lowest .result) (c .before .before .member .result) (c .before .assign .result) (c .with .result) (s .before .if1 .taken) (s .survey-node .ensures)
+          (x .before .if2 .left) (x .lowest .ensures) (c .before .before .member .ensures) (c .before .assign .ensures) (c .with .ensures)) ∙ l .loop .inv .1,
     )
 
--- src/lib.rt:195:17
 survey-node-requires-2 : tie.Need-survey-node-requires-2 Inv-loop μ-loop
 survey-node-requires-2 c κs = search needs
 
--- src/lib.rt:166:1
 returns-2 : tie.Need-returns-2 Inv-loop μ-loop
 unfolding reduce-from
 returns-2 c =

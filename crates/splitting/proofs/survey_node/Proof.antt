@@ -10,10 +10,6 @@ use Rattle.splitting.specs.declared.Survey.{Survey}
 use Rattle.splitting.proofs.InnerLaws.{open-gone, survey-more}
 use Rattle.splitting.proofs.survey_node.Statement.{statement}
 use Rattle.splitting.proofs.survey_node.Tie as tie
-use Rattle.splitting.proofs.survey_node.Reads as reads
-use Rattle.splitting.proofs.survey_node.Lts as lts
-use Rattle.splitting.proofs.is_satisfied.Reads as is-satisfied-reads
-use Rattle.splitting.proofs.left.Reads as left-reads
 
 abbrev Inv-loop : tie.InvT-loop
 Inv-loop a f positive₀ negative₀ any₀ i₀ positive negative any i =
@@ -22,36 +18,28 @@ Inv-loop a f positive₀ negative₀ any₀ i₀ positive negative any i =
 abbrev μ-loop : tie.MeasureT-loop
 μ-loop a f positive₀ negative₀ any₀ i₀ positive negative any i = f .count - i
 
--- src/lib.rt:98:5
 loop-holds : tie.Need-loop-holds Inv-loop μ-loop
 unfolding open-clauses survey-from
 loop-holds c = (search needs, refl)
 
--- src/lib.rt:99:17
 mul-c : tie.Need-mul-c Inv-loop μ-loop
 mul-c c = search needs
 
--- src/lib.rt:99:17
 element-copy-out-c : tie.Need-element-copy-out-c Inv-loop μ-loop
 element-copy-out-c c = search needs
 
--- src/lib.rt:100:13
 is-satisfied-requires : tie.Need-is-satisfied-requires Inv-loop μ-loop
 is-satisfied-requires c κs = search needs
 
--- src/lib.rt:101:17
 left-requires : tie.Need-left-requires Inv-loop μ-loop
 left-requires c κs = search needs
 
--- src/lib.rt:106:9
 add-i : tie.Need-add-i Inv-loop μ-loop
 add-i c = search needs
 
--- src/lib.rt:98:5
 loop-less : tie.Need-loop-less Inv-loop μ-loop
 loop-less c = search needs
 
--- src/lib.rt:98:5
 loop-again : tie.Need-loop-again Inv-loop μ-loop
 loop-again c =
     let v = c .before .before .before .before .loop in
@@ -60,16 +48,15 @@ loop-again c =
     (λ w. (
       omega arith,
       rw (w .4, w .5, w .6, w .1 .ensures)
-      (survey-more (s .args .t1 .clauses) (s .args .a) (v .i) _ (v .inv .1) (sym (c .before .is-satisfied .ensures) ∙ not-true _ (w .0 .taken))),
+          (survey-more (s .args .t1 .clauses) (s .args .a) (v .i) _ (v .inv .1) (sym (c .before .is-satisfied .ensures) ∙ not-true _ (w .0 .taken))),
     ))
     (λ w. (
       omega arith,
       rw (w .1, w .2, w .3, open-gone (s .args .t1 .clauses) (s .args .a) (v .i) (sym (c .before .is-satisfied .ensures) ∙ not-false _ (w .0 .left)))
-      (v .inv .1),
+          (v .inv .1),
     ))
     (c .if1 .came)
 
--- src/lib.rt:90:1
 returns : tie.Need-returns Inv-loop μ-loop
 returns c = let e : c .before .loop .i ≡ c .before .before .args .t1 .count = omega arith in rw e at (c .before .loop .inv .1)
 

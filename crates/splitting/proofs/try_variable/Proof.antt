@@ -1,29 +1,22 @@
 -- `try_variable` is the trial of v: the matching with v false and, if that succeeds, the one with v true.
 use native.Mathlib.Omega.{arith}
-use mathlib.Core.Path.{_≡_, ap, _∙_}
+use mathlib.Core.Path.{ap, _∙_}
 use borrow.Author.Needs.{needs}
 use borrow.Author.Tests.{not-true, not-false}
 use lib.ListN.{length}
 use Rattle.matching.specs.Result.{packed}
 use Rattle.splitting.specs.declared.Assignment.{Assignment}
-use Rattle.splitting.specs.InnerChoose.{set-to, node, matched-node}
+use Rattle.splitting.specs.InnerChoose.{node, matched-node}
 use Rattle.splitting.proofs.InnerLaws.{match-cost, tried-false, tried-true}
 use Rattle.splitting.proofs.try_variable.Statement.{statement}
 use Rattle.splitting.proofs.try_variable.Tie as tie
-use Rattle.splitting.proofs.try_variable.Reads as reads
-use Rattle.splitting.proofs.try_variable.Lts as lts
-use Rattle.splitting.proofs.assign.Reads as assign-reads
-use Rattle.splitting.proofs.match_node.Reads as match-node-reads
 
--- src/lib.rt:204:36
 assign-requires : tie.Need-assign-requires
 assign-requires c κs = search needs
 
--- src/lib.rt:204:9
 match-node-requires : tie.Need-match-node-requires
 match-node-requires c κs = search needs
 
--- src/lib.rt:206:9
 returns : tie.Need-returns
 returns c =
     let m = c .before .before in
@@ -32,24 +25,23 @@ returns c =
     (m .match-node .ensures ∙ ap (λ (x : Assignment). packed (length (node (s .args .f) x)) (matched-node (s .args .f) x)) (m .before .assign .ensures))
     (not-true _ (c .if1 .taken))
 
--- src/lib.rt:211:35
 assign-requires-2 : tie.Need-assign-requires-2
 assign-requires-2 c κs = search needs
 
--- src/lib.rt:211:9
 match-node-requires-2 : tie.Need-match-node-requires-2
 match-node-requires-2 c κs = search needs
 
--- src/lib.rt:214:15
 add-t8 : tie.Need-add-t8
 add-t8 c =
     let n = c .before .before in
     let m = n .before .before .before .before in
     let s = m .before .before in
-    omega (arith, match-cost (s .args .f) (s .pre .0) (m .before .assign .result) (m .match-node .result) (m .match-node .ensures),
-      match-cost (s .args .f) (s .pre .0) (n .before .assign2 .result) (n .match-node2 .result) (n .match-node2 .ensures))
+    omega (
+      arith,
+      match-cost (s .args .f) (s .pre .0) (m .before .assign .result) (m .match-node .result) (m .match-node .ensures),
+      match-cost (s .args .f) (s .pre .0) (n .before .assign2 .result) (n .match-node2 .result) (n .match-node2 .ensures),
+    )
 
--- src/lib.rt:200:1
 returns-2 : tie.Need-returns-2
 returns-2 c =
     let n = c .before .before in
