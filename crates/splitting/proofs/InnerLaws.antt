@@ -1,5 +1,5 @@
 -- Laws of what the code of the choice computes over masks: one clause, one variable or one turn more.
-use Prim.Native.Nat.{ℕ, zero, suc, _+_, _*_, _^_, _-_, _≤_, _<_}
+use Prim.Native.Nat.{ℕ, zero, suc, _+_, _*_, _^_, _-_, _≤_, _<_, suc-le-suc}
 use mathlib.Core.Bool.{Bool, true, false, cond, _||_, or-true, or-false, or-assoc}
 use mathlib.Core.List.{List, [], _∷_, _++_, map, map-append, append-nil}
 use mathlib.Core.Path.{_≡_, refl, sym, ap, _∙_}
@@ -17,9 +17,9 @@ use Rattle.lists.specs.Every.{Every}
 use Rattle.lists.specs.Over.{over}
 use Rattle.lists.proofs.EveryLaws.{every-append, every-replicate, every-getD}
 use Rattle.lists.proofs.OverLaws.{over-length, over-set}
-use Rattle.masks.specs.Mask.{bit, with, minus, without, lowest, only-if, members}
+use Rattle.masks.specs.Mask.{bit, with, minus, without, lowest, members}
 use Rattle.masks.proofs.BitLaws.{minus-lt, bit-none}
-use Rattle.masks.proofs.MembersLaws.{lowest-is, members-none, members-lowest}
+use Rattle.masks.proofs.MembersLaws.{lowest-is, members-none, members-are, members-lowest}
 use Rattle.matching.specs.declared.Matching.{Matching}
 use Rattle.matching.specs.Result.{Clauses, packed}
 use Rattle.matching.specs.Search.{succeeds, expansions}
@@ -70,7 +70,6 @@ survey-more cs a i s e f =
 -- a clause of which nothing is left empties the list, whatever comes after it
 module _ (cs : List Clause) (a : Assignment) where
   empty-next : (i : ℕ) → some-empty (open-clauses cs a i) ≡ true → some-empty (open-clauses cs a (i + 1)) ≡ true
-  unfolding open-clauses
   empty-next i e = go (satisfied-under a (getD cs i no-clause)) refl
     where
       go : (b : Bool) → satisfied-under a (getD cs i no-clause) ≡ b → some-empty (open-clauses cs a (i + 1)) ≡ true
@@ -85,7 +84,8 @@ module _ (cs : List Clause) (a : Assignment) where
       → some-empty (open-clauses cs a n) ≡ true
   empty-found i n l e z =
       let q : n ≡ i + 1 + (n - (i + 1)) = omega arith in
-      let t : some-empty (open-clauses cs a (i + 1)) ≡ true = rw (open-more cs a i e, empty-snoc, eq-eqb (named (left-under a (getD cs i no-clause))) 0 z) (or-true (some-empty (open-clauses cs a i))) in
+      let t : some-empty (open-clauses cs a (i + 1)) ≡ true =
+      rw (open-more cs a i e, empty-snoc, eq-eqb (named (left-under a (getD cs i no-clause))) 0 z) (or-true (some-empty (open-clauses cs a i))) in
       rw q (empty-stays (i + 1) (n - (i + 1)) t)
 
   -- a clause of which something is left does not
@@ -112,10 +112,10 @@ abbrev Word : ℕ → Type 0
 Word x = x < 2 ^ 64
 
 -- a clause of 64-bit masks
-abbrev Words : Clause → Type 0
-Words c = Word (c .positive) × Word (c .negative)
+abbrev WordClause : Clause → Type 0
+WordClause c = Word (c .positive) × Word (c .negative)
 
-words-named : (l : List Clause) → Every Words l → Every Word (map named l)
+words-named : (l : List Clause) → Every WordClause l → Every Word (map named l)
 words-named [] h = tt
 words-named (c ∷ l) h = (or-lt 64 (c .positive) (c .negative) (h .0 .0) (h .0 .1), words-named l (h .1))
 
@@ -131,15 +131,15 @@ module _ (f : Formula) (fits : FormulaFits f) (a : Assignment) where
       let p : 2 ^ f .variables ≤ 2 ^ 64 = pow-mono n in
       omega (arith, fits .clauses i l .below sign)
 
-  open-words : (n : ℕ) → n ≤ f .count → Every Words (open-clauses (f .clauses) a n)
+  open-words : (n : ℕ) → n ≤ f .count → Every WordClause (open-clauses (f .clauses) a n)
   unfolding open-clauses
   open-words zero l = tt
-  open-words (suc n) l = every-append Words (open-clauses (f .clauses) a n) _ (open-words n (omega arith)) (go (satisfied-under a c))
+  open-words (suc n) l = every-append WordClause (open-clauses (f .clauses) a n) _ (open-words n (omega arith)) (go (satisfied-under a c))
     where
       c : Clause
       c = getD (f .clauses) n no-clause
 
-      go : (b : Bool) → Every Words (cond b [] (left-under a c ∷ []))
+      go : (b : Bool) → Every WordClause (cond b [] (left-under a c ∷ []))
       go true = tt
       go false =
           ((minus-lt 64 (c .positive) (assigned a) (side-word n (omega arith) true), minus-lt 64 (c .negative) (assigned a) (side-word n (omega arith) false)), tt)
@@ -190,7 +190,7 @@ module _ (f : Formula) (fits : FormulaFits f) (a : Assignment) where
 
 -- ---- pure literals
 
-survey-words : (s : Survey) (l : List Clause) → Word (s .positive) → Word (s .negative) → Every Words l
+survey-words : (s : Survey) (l : List Clause) → Word (s .positive) → Word (s .negative) → Every WordClause l
     → Word (survey-from s l .positive) × Word (survey-from s l .negative)
 unfolding survey-from
 survey-words s [] p n h = (p, n)
@@ -336,23 +336,14 @@ unfolding last
 last-none v = rw (members-none 0 64 (λ i l. bit-none i))
 
 -- the greatest member is below 64
-members-below : (m k n : ℕ) → n ≤ k → Every (λ x. x < k) (members m n)
-unfolding members
-members-below m k zero l = tt
-members-below m k (suc n) l = every-append (λ x. x < k) (members m n) (only-if (bit m n) n) (members-below m k n (omega arith)) (go (bit m n))
-  where
-    go : (b : Bool) → Every (λ x. x < k) (only-if b n)
-    go true = (omega arith, tt)
-    go false = tt
-
-last-every : (P : ℕ → Type 0) (l : List ℕ) → P 0 → Every P l → P (last l)
+last-is : (P : ℕ → Type 0) (l : List ℕ) → P 0 → ((j : ℕ) → j < length l → P (getD l j 0)) → P (last l)
 unfolding last
-last-every P [] p h = p
-last-every P (x ∷ []) p h = h .0
-last-every P (x ∷ (y ∷ l)) p h = last-every P (y ∷ l) p (h .1)
+last-is P [] p h = p
+last-is P (x ∷ []) p h = h 0 (omega arith)
+last-is P (x ∷ (y ∷ l)) p h = last-is P (y ∷ l) p (λ j m. h (suc j) (suc-le-suc m))
 
 pub greatest-below : (m : ℕ) → greatest m < 64
-greatest-below m = last-every (λ x. x < 64) (members m 64) (omega arith) (members-below m 64 64 (omega arith))
+greatest-below m = last-is (λ x. x < 64) (members m 64) (omega arith) (λ j l. members-are m 64 j l .0)
 
 -- ---- the choice
 

@@ -1,4 +1,5 @@
 pub mod Terms
+pub mod InnerLaws
 pub mod ClauseLaws
 pub mod CountLaws
 pub mod SearchLaws
@@ -13,4 +14,3 @@ pub mod ChoiceLaws
 pub mod TrailLaws
 pub mod OpenLaws
 pub mod Theorems
-pub mod InnerLaws
