@@ -25,6 +25,11 @@ pub or-cases : (x y : Bool) → x || y ≡ true → (x ≡ true) ⊎ (y ≡ true
 or-cases true y e = inl refl
 or-cases false y e = inr e
 
+-- where a disjunction fails, both parts do
+pub or-none : (x y : Bool) → x || y ≡ false → (x ≡ false) × (y ≡ false)
+or-none true y e = (e, cc)
+or-none false y e = (refl, e)
+
 -- the last two of three may be swapped
 pub or-swap : (x y z : Bool) → (x || z) || y ≡ (x || y) || z
 or-swap true y z = refl

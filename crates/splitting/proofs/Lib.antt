@@ -1,4 +1,5 @@
 pub mod Terms
+pub mod InnerLaws
 pub mod ClauseLaws
 pub mod CountLaws
 pub mod SearchLaws
@@ -14,3 +15,6 @@ pub mod ChoiceLaws
 pub mod TrailLaws
 pub mod OpenLaws
 pub mod Theorems
+pub mod MaskNodeLaws
+pub mod MaskSearchLaws
+pub mod MaskChoiceLaws
