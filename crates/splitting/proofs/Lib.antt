@@ -1,4 +1,3 @@
-pub mod Terms
 pub mod InnerLaws
 pub mod ClauseLaws
 pub mod CountLaws
@@ -18,3 +17,4 @@ pub mod Theorems
 pub mod MaskNodeLaws
 pub mod MaskSearchLaws
 pub mod MaskChoiceLaws
+pub mod Cases

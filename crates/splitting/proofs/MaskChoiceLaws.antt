@@ -33,7 +33,7 @@ use Rattle.splitting.specs.Stripping.{pure, not-naming, Stripped, note, 
 use Rattle.splitting.specs.Choosing as choosing
 use Rattle.splitting.specs.Choosing.{matched, trial, both-open, first-passing, candidates, among, listed, last, emptied, last-listed, by-left, by-remaining, unassigned-of, choice}
 use Rattle.splitting.specs.InnerChoose.{assigned, set-to, node, surveys, survey-from, survey-of, some-empty, matched-node, reduced-at, pure-of, reduce-from, reduced, tried, passing, greatest, listed-last, others-of, chosen, assignment-of}
-use Rattle.splitting.proofs.Terms.{Below, Trail}
+use Rattle.splitting.specs.Terms.{Below, Trail}
 use Rattle.splitting.proofs.ClauseLaws.{names-some, pure-named}
 use Rattle.splitting.proofs.NodeLaws.{remaining-snoc, named-remaining, below-remaining}
 use Rattle.splitting.proofs.SearchLaws.{lowest-some, among-here, among-more, upward-of, upward-in, last-append}

@@ -1,5 +1,5 @@
 pub mod Nodes
 pub mod Stripping
 pub mod Choosing
+pub mod Terms
 pub mod InnerChoose
-pub mod Cases
