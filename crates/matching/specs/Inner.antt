@@ -1,11 +1,12 @@
 -- What the functions of src/lib.rt hold and compute inside.
-use Prim.Native.Nat.{ℕ, zero, suc, _+_, _^_, _≤_, _<_}
+use Prim.Native.Nat.{ℕ, zero, suc, _^_, _≤_, _<_}
 use mathlib.Core.Path.{_≡_}
 use mathlib.Core.Bool.{true, false, cond}
-use mathlib.Core.List.{List, [], _∷_, _++_}
+use mathlib.Core.List.{List}
 use lib.ListN.{length, getD, take, set}
 use lib.Dec.{eqb, ltb}
 use Rattle.lists.specs.Padded.{padded}
+use Rattle.lists.specs.Tabulated.{tabulated}
 use Rattle.masks.specs.Mask.{bit, size}
 use Rattle.matching.specs.Search.{owner, Search, rematch, bound, next-search}
 use Rattle.matching.specs.declared.Front.{Front}
@@ -28,14 +29,9 @@ pub record Partial (sets matching : List ℕ) : Type 0 where
   pub named : (i : ℕ) → i < length matching → bit (at sets i) (at matching i) ≡ true
   pub distinct : Distinct matching
 
--- f of the numbers below n, in order
-unfoldable pub listing : (ℕ → ℕ) → ℕ → List ℕ
-listing f zero = []
-listing f (suc n) = listing f n ++ (f n ∷ [])
-
 -- the owner of each variable
 abbrev pub owners-of : List ℕ → List ℕ
-owners-of matching = listing (owner matching) 64
+owners-of matching = tabulated (owner matching) 64
 
 -- the arrays hold a matching of the first n clauses, and its owners
 pub record Tables (sets : List ℕ) (n : ℕ) (table owners : List ℕ) : Type 0 where

@@ -1,14 +1,13 @@
 -- The choice over masks is the choice over written clauses.
 use Prim.Native.Nat.{ℕ, zero, suc, _+_, _≤_, _<_}
 use mathlib.Core.Path.{_≡_, refl, sym, _∙_, ap, ap₂, subst}
-use mathlib.Core.Bool.{Bool, true, false, not, xor, cond, _&&_, _||_, or-assoc, or-false, or-true}
+use mathlib.Core.Bool.{Bool, true, false, not, xor, cond, _&&_, _||_, or-assoc, or-false}
 use mathlib.Core.List.{List, [], _∷_, _++_, map, append-nil}
-use mathlib.Core.Logic.{_⊎_, inl, inr, ⊎-elim}
+use mathlib.Core.Logic.{⊎-elim}
 use native.Mathlib.Omega.{arith}
 use lib.Bits.{bitOr, bitXor}
 use lib.Dec.{eqb}
-use lib.ListN.{length}
-use borrow.Author.Tests.{eqb-true, eqb-false, eq-eqb, ne-eqb}
+use borrow.Author.Tests.{eqb-true, eqb-false}
 use Rattle.lists.proofs.TestLaws.{and-left, or-none, both-signs, eqb-comm}
 use Rattle.masks.specs.Mask.{bit, with, minus, lowest, members}
 use Rattle.masks.proofs.MembersLaws.{some-member, member-some, members-none}
@@ -17,9 +16,8 @@ use Rattle.matching.specs.Search.{Outcome, outcome, succeeds, expansions}
 use Rattle.matching.proofs.Counting.{look, clash}
 use Rattle.formula.specs.declared.Clause.{Clause}
 use Rattle.formula.specs.declared.Formula.{Formula}
-use Rattle.formula.specs.Format.{Literal, names, names-as, distinct, ClauseOver}
+use Rattle.formula.specs.Format.{Literal, names, names-as}
 use Rattle.formula.specs.Masked.{named, side, variables, clause-of, formula-of}
-use Rattle.formula.specs.Decode.{none-yet}
 use Rattle.formula.proofs.ClauseLaws.{clause-side, clause-empty, variables-named, named-as}
 use Rattle.formula.proofs.FormatLaws.{clause-more}
 use Rattle.splitting.specs.declared.Assignment.{Assignment}

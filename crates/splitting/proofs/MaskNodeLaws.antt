@@ -1,5 +1,5 @@
 -- The clauses at a node, over masks and over written clauses, are the same.
-use Prim.Native.Nat.{ℕ, zero, suc, _≤_, _<_}
+use Prim.Native.Nat.{ℕ, zero, suc, _≤_}
 use mathlib.Core.Path.{_≡_, refl, sym, _∙_, ap}
 use mathlib.Core.Bool.{Bool, true, false, not, cond, _&&_, _||_, or-assoc, or-false, or-true, and-false, and-true}
 use mathlib.Core.List.{List, [], _∷_, _++_, map, append-nil, append-assoc}
@@ -12,15 +12,14 @@ use borrow.Author.Tests.{eqb-true, eqb-false, eq-eqb, ne-eqb}
 use Rattle.lists.specs.Padded.{padded}
 use Rattle.lists.proofs.PaddedLaws.{getD-padded}
 use Rattle.lists.proofs.TestLaws.{or-swap, eqb-comm}
-use Rattle.masks.specs.Mask.{bit, with, without, minus, meets}
+use Rattle.masks.specs.Mask.{bit, with, without, meets}
 use Rattle.masks.proofs.BitLaws.{bit-and, bit-or, bit-with, bit-minus, bit-without, bit-none}
 use Rattle.masks.proofs.MeetLaws.{meets-with}
 use Rattle.masks.proofs.MembersLaws.{mask-same}
 use Rattle.matching.proofs.Counting.{look, clash}
 use Rattle.formula.specs.declared.Clause.{Clause}
-use Rattle.formula.specs.declared.Formula.{Formula}
 use Rattle.formula.specs.Format.{Literal, names, names-as, distinct}
-use Rattle.formula.specs.Masked.{no-clause, with-literals, side, clause-of, formula-of}
+use Rattle.formula.specs.Masked.{no-clause, side, clause-of, formula-of}
 use Rattle.formula.proofs.ClauseLaws.{clause-side}
 use Rattle.formula.proofs.FormatLaws.{distinct-rest}
 use Rattle.splitting.specs.declared.Assignment.{Assignment}
