@@ -16,8 +16,7 @@ use Rattle.lists.proofs.PaddedLaws.{getD-padded}
 use Rattle.lists.proofs.TestLaws.{and-left, and-right, and-both, or-cases, or-swap}
 use Rattle.masks.specs.Mask.{bit, with, minus}
 use Rattle.masks.proofs.BitLaws.{bit-and, bit-minus, bit-with, bit-with-same}
-use Rattle.masks.proofs.MeetLaws.{both-are}
-use Rattle.masks.proofs.MembersLaws.{some-member, member-some}
+use Rattle.masks.proofs.MeetLaws.{both-are, nonempty-or}
 use Rattle.formula.specs.declared.Clause.{Clause}
 use Rattle.formula.specs.declared.Formula.{Formula}
 use Rattle.formula.specs.declared.Refusal.{Refusal}
@@ -29,30 +28,6 @@ use Rattle.formula.specs.InnerCheck.{clause-holds, clauses-hold}
 use Rattle.formula.specs.Masked.{no-clause, with-literal, with-literals, clause-of}
 use Rattle.formula.specs.Models.{stands, holds, satisfied, stray}
 use Rattle.formula.proofs.MaskedLaws.{Accepts}
-
--- ---- masks that are not empty
-
-some : (m : ℕ) → not (eqb m 0) ≡ true → (i : ℕ) × (bit m i ≡ true)
-some m e = some-member m (eqb-false m 0 (not-true (eqb m 0) e))
-
-nonempty : (m i : ℕ) → bit m i ≡ true → not (eqb m 0) ≡ true
-nonempty m i e = ap not (ne-eqb m 0 (member-some m i e))
-
--- m has the members of m′, and one more if b holds
-nonempty-or : (m m′ : ℕ) (b : Bool) → ((i : ℕ) → bit m i ≡ true → (bit m′ i ≡ true) ⊎ (b ≡ true)) → ((i : ℕ) → bit m′ i ≡ true → bit m i ≡ true)
-    → (b ≡ true → (i : ℕ) × (bit m i ≡ true)) → not (eqb m 0) ≡ not (eqb m′ 0) || b
-nonempty-or m m′ b down up new = go (not (eqb m′ 0)) b refl refl
-  where
-    go : (x y : Bool) → not (eqb m′ 0) ≡ x → b ≡ y → not (eqb m 0) ≡ x || y
-    go true y p q = let w = some m′ p in nonempty m (w .0) (up (w .0) (w .1))
-    go false true p q = let w = new q in nonempty m (w .0) (w .1)
-    go false false p q = none (not (eqb m 0)) refl
-      where
-        none : (t : Bool) → not (eqb m 0) ≡ t → not (eqb m 0) ≡ false
-        none false e = e
-        none true e =
-            let w = some m e in
-            ⊎-elim (λ h. absurd (true≢false (sym (nonempty m′ (w .0) h) ∙ p))) (λ h. absurd (true≢false (sym h ∙ q))) (down (w .0) (w .1))
 
 -- ---- a clause of masks, a literal more
 

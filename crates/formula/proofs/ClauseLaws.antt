@@ -13,7 +13,7 @@ use Rattle.lists.proofs.TestLaws.{and-left, and-right, or-cases, or-swap, eqb-c
 use Rattle.masks.specs.Mask.{bit}
 use Rattle.masks.proofs.BitLaws.{bit-or, bit-pow, bit-with, bit-none, with-lt, mask-ext}
 use Rattle.masks.proofs.MeetLaws.{apart-of}
-use Rattle.masks.proofs.MembersLaws.{member-some}
+use Rattle.masks.proofs.MembersLaws.{mask-same, member-some}
 use Rattle.formula.specs.declared.Clause.{Clause}
 use Rattle.formula.specs.Decode.{none-yet}
 use Rattle.formula.specs.Format.{Literal, names, names-as, distinct, ClauseOver}
@@ -65,6 +65,10 @@ pub variables-bit : (c : List Literal) (v : ℕ) → bit (variables c) v ≡ nam
 unfolding variables names
 variables-bit [] v = bit-none v
 variables-bit (l ∷ c) v = bit-with (variables c) (l .variable) v ∙ rw (variables-bit c v, eqb-comm v (l .variable)) (or-comm (names c v) (eqb (l .variable) v))
+
+-- those that its masks name
+pub variables-named : (c : List Literal) → variables c ≡ named (clause-of c)
+variables-named c = mask-same (variables c) (named (clause-of c)) (λ i. variables-bit c i ∙ sym (clause-names c i))
 
 -- and is a mask of n digits for a clause over n variables
 pub variables-lt : (n : ℕ) (c : List Literal) → Every (λ l. l .variable < n) c → variables c < 2 ^ n
@@ -160,10 +164,3 @@ clause-fits {n} {c} o =
     go : (i : ℕ) → bit ((clause-of c) .positive) i ≡ true → (t : Bool) → bit ((clause-of c) .negative) i ≡ t → t ≡ false
     go i e true f = absurd (one-way c i (o .once) (sym (clause-side c true i) ∙ e) (sym (clause-side c false i) ∙ f))
     go i e false f = refl
-
--- the variables of a clause are those that its masks name
-pub variables-named : {n : ℕ} {c : List Literal} → ClauseOver n c → variables c ≡ named (clause-of c)
-variables-named {n} {c} o =
-    let f = clause-fits o in
-    mask-ext n (variables c) (named (clause-of c)) (variables-lt n c (o .below)) (or-lt n ((clause-of c) .positive) ((clause-of c) .negative) (f .below true) (f .below false))
-    (λ i l. variables-bit c i ∙ sym (clause-names c i))

@@ -133,7 +133,7 @@ formula-sets {n} {cs} z =
     same i l =
         let m : i < length (map clause-of cs) = rw (length-map cs clause-of) l in
         ap named (getD-padded 96 no-clause (map clause-of cs) i no-clause m ∙ List·getD-map clause-of cs i [])
-        ∙ sym (variables-named (every-getD (ClauseOver n) cs i [] l (z .clauses)))
+        ∙ sym (variables-named (getD cs i []))
 
 -- judge of an accepted input, a refused one, and a short buffer
 pub judge-accepted : (s b : List ℕ) (f : Formula) → 96 ≤ length b → Accepts s f → judge s b ≡ judged-formula f b

@@ -1,20 +1,21 @@
 -- Laws of re-matching in arrays: it ends, and the owners stay right.
-use mathlib.Core.Path.{_≡_, refl, sym, _∙_, ap, subst, fun-ext}
+use mathlib.Core.Path.{_≡_, sym, _∙_, ap, subst, fun-ext}
 use mathlib.Core.Bool.{true, false}
 use mathlib.Core.Logic.{_⊎_, inl, inr, ⊎-elim}
 use mathlib.Core.List.{List, [], _∷_, _++_}
-use Prim.Native.Nat.{ℕ, zero, suc, _+_, _≤_, _<_}
+use Prim.Native.Nat.{ℕ, zero, suc, _≤_, _<_}
 use native.Mathlib.Omega.{arith}
 use lib.ListN.{length, set, take, length-set, length-append, List·getD-append, List·getD-eq-default}
-use lib.Seq.{getD-set-same, getD-set-other, getD-append-seam, getD-take, ext-getD, take-set-lt}
+use lib.Seq.{getD-set-same, getD-set-other, getD-append-seam, getD-take, take-set-lt}
 use lib.Dec.{eqb}
 use borrow.Author.Tests.{eqb-true, eqb-false, eq-eqb, ne-eqb, lt-ltb, le-ltb}
 use Rattle.lists.specs.Padded.{padded}
 use Rattle.lists.proofs.PaddedLaws.{padded-set}
 use Rattle.lists.proofs.StoreLaws.{padded-store, held-length}
 use Rattle.matching.specs.Search.{owner, rematch-from, bound}
-use Rattle.matching.specs.Inner.{at, Free, Distinct, listing, owners-of, Augments, distance}
-use Rattle.matching.proofs.Counting.{look, below-cases, lt-or-le}
+use Rattle.lists.proofs.TabulatedLaws.{length-tabulated, getD-tabulated, tabulated-of}
+use Rattle.matching.specs.Inner.{at, Free, Distinct, owners-of, Augments, distance}
+use Rattle.matching.proofs.Counting.{look, lt-or-le}
 use Rattle.matching.proofs.OwnerLaws.{zero-or-suc, owner-free, owner-some, free-owner, owner-is}
 use Rattle.matching.proofs.Augmenting.{Path, snoc-cases, set-cases, grow-distinct, swap-distinct, swap-free, rematch-end, rematch-on}
 
@@ -137,30 +138,12 @@ path-distance sets links m v P k l = go k v (P .here) l (omega arith)
 
 -- ── Owners ────────────────────────────────────────────────────────────────────────────────────────────────────────────
 
-pub length-listing : (f : ℕ → ℕ) (n : ℕ) → length (listing f n) ≡ n
-unfolding listing
-length-listing f zero = refl
-length-listing f (suc n) = let e = length-append (listing f n) (f n ∷ []) in let d = length-listing f n in omega arith
-
-pub listing-at : (f : ℕ → ℕ) (n i : ℕ) → i < n → at (listing f n) i ≡ f i
-unfolding listing
-listing-at f zero i h = absurd (omega arith)
-listing-at f (suc n) i h =
-    let d = length-listing f n in
-    ⊎-elim
-    (λ (e : i ≡ n). rw e (let q : n ≡ length (listing f n) = sym d in ap (at (listing f n ++ (f n ∷ []))) q ∙ getD-append-seam (listing f n) (f n) [] 0))
-    (λ (l : i < n). List·getD-append (listing f n) (f n ∷ []) 0 i (omega arith) ∙ listing-at f n i l)
-    (below-cases h)
-
-pub listing-ext : (f : ℕ → ℕ) (n : ℕ) (l : List ℕ) → length l ≡ n → ((i : ℕ) → i < n → at l i ≡ f i) → l ≡ listing f n
-listing-ext f n l e h = ext-getD 0 l (listing f n) (e ∙ sym (length-listing f n)) (λ i k. h i (omega arith) ∙ sym (listing-at f n i (omega arith)))
-
 -- a table of owners is the owner function, where all variables are below 64
 pub owners-fun : (m : List ℕ) → ((i : ℕ) → i < length m → at m i < 64) → at (owners-of m) ≡ owner m
 owners-fun m low = fun-ext (λ v. ⊎-elim
-    (λ (l : v < 64). listing-at (owner m) 64 v l)
+    (λ (l : v < 64). getD-tabulated (owner m) 64 v 0 l)
     (λ (g : 64 ≤ v).
-    List·getD-eq-default (owners-of m) 0 {n = v} (let d = length-listing (owner m) 64 in omega arith)
+    List·getD-eq-default (owners-of m) 0 {n = v} (let d = length-tabulated (owner m) 64 in omega arith)
     ∙ sym (free-owner m v (λ i h e. let k = low i h in omega arith)))
     (lt-or-le v 64))
 
@@ -187,10 +170,10 @@ owner-swap m c v x d free nv nc =
 pub owners-swap : (m owners : List ℕ) (c v : ℕ) → Distinct m → Free m v → c < length m → v < 64 → set owners v 0 ≡ owners-of m
     → set (set owners v (suc c)) (at m c) 0 ≡ owners-of (set m c v)
 owners-swap m owners c v d free lc lv e =
-    let long : length owners ≡ 64 = sym (length-set owners v 0) ∙ ap length e ∙ length-listing (owner m) 64 in
+    let long : length owners ≡ 64 = sym (length-set owners v 0) ∙ ap length e ∙ length-tabulated (owner m) 64 in
     let old = at m c in
     let far : v ≡ old → ⊥ = λ q. free c lc (sym q) in
-    listing-ext (owner (set m c v)) 64 (set (set owners v (suc c)) old 0) (length-set (set owners v (suc c)) old 0 ∙ length-set owners v (suc c) ∙ long)
+    tabulated-of (owner (set m c v)) 64 (set (set owners v (suc c)) old 0) 0 (length-set (set owners v (suc c)) old 0 ∙ length-set owners v (suc c) ∙ long)
     (λ x l. ⊎-elim
     (λ (t : eqb x old ≡ true).
     let q = eqb-true x old t in
@@ -206,7 +189,7 @@ owners-swap m owners c v d free lc lv e =
     ∙ sym (owner-is (set m c v) v c (swap-distinct m c v d free) (let s = length-set m c v in omega arith) (getD-set-same m c v 0 lc))))
     (λ (g : eqb x v ≡ false).
     let nv = eqb-false x v g in
-    getD-set-other owners v x (suc c) 0 nv ∙ sym (getD-set-other owners v x 0 0 nv) ∙ ap (λ (w : List ℕ). at w x) e ∙ listing-at (owner m) 64 x l
+    getD-set-other owners v x (suc c) 0 nv ∙ sym (getD-set-other owners v x 0 0 nv) ∙ ap (λ (w : List ℕ). at w x) e ∙ getD-tabulated (owner m) 64 x 0 l
     ∙ sym (owner-swap m c v x d free nv no))
     (look (eqb x v)))
     (look (eqb x old)))
@@ -231,8 +214,8 @@ owner-grow m v x d free nv =
 pub owners-grow : (m owners : List ℕ) (v : ℕ) → Distinct m → Free m v → v < 64 → set owners v 0 ≡ owners-of m
     → set owners v (suc (length m)) ≡ owners-of (m ++ (v ∷ []))
 owners-grow m owners v d free lv e =
-    let long : length owners ≡ 64 = sym (length-set owners v 0) ∙ ap length e ∙ length-listing (owner m) 64 in
-    listing-ext (owner (m ++ (v ∷ []))) 64 (set owners v (suc (length m))) (length-set owners v (suc (length m)) ∙ long)
+    let long : length owners ≡ 64 = sym (length-set owners v 0) ∙ ap length e ∙ length-tabulated (owner m) 64 in
+    tabulated-of (owner (m ++ (v ∷ []))) 64 (set owners v (suc (length m))) 0 (length-set owners v (suc (length m)) ∙ long)
     (λ x l. ⊎-elim
     (λ (t : eqb x v ≡ true).
     let q = eqb-true x v t in
@@ -240,7 +223,7 @@ owners-grow m owners v d free lv e =
     ∙ sym (owner-is (m ++ (v ∷ [])) v (length m) (grow-distinct m v d free) (let s = length-append m (v ∷ []) in omega arith) (getD-append-seam m v [] 0))))
     (λ (g : eqb x v ≡ false).
     let nv = eqb-false x v g in
-    getD-set-other owners v x (suc (length m)) 0 nv ∙ sym (getD-set-other owners v x 0 0 nv) ∙ ap (λ (w : List ℕ). at w x) e ∙ listing-at (owner m) 64 x l
+    getD-set-other owners v x (suc (length m)) 0 nv ∙ sym (getD-set-other owners v x 0 0 nv) ∙ ap (λ (w : List ℕ). at w x) e ∙ getD-tabulated (owner m) 64 x 0 l
     ∙ sym (owner-grow m v x d free nv))
     (look (eqb x v)))
 

@@ -1,7 +1,7 @@
 -- Laws of the clauses' searches in arrays.
 use mathlib.Core.Path.{_≡_, refl, sym, _∙_, ap, subst}
 use mathlib.Core.Bool.{true, false}
-use mathlib.Core.Logic.{_⊎_, ⊎-elim}
+use mathlib.Core.Logic.{⊎-elim}
 use mathlib.Core.List.{List, [], _∷_, _++_}
 use Prim.Native.Nat.{ℕ, zero, suc, _+_, _-_, _*_, _≤_, _<_}
 use native.Mathlib.Numerals.{add-one}
@@ -17,6 +17,7 @@ use Rattle.masks.specs.Mask.{bit, members}
 use Rattle.masks.proofs.BitLaws.{bit-below}
 use Rattle.matching.specs.Matched.{Words}
 use Rattle.matching.specs.Search.{owner, Search, begin, see, scan, take-front, front, expand, search-from, rematch-from, bound, next-search, success, failure, match-rest, outcome, marks}
+use Rattle.lists.proofs.TabulatedLaws.{tabulated-of}
 use Rattle.matching.specs.Inner.{at, owners-of, Tables, search-of, Sound, Owned, Augments, augmented, Augmented}
 use Rattle.matching.specs.Result.{Clauses, packed}
 use Rattle.matching.specs.declared.Front.{Front}
@@ -26,7 +27,7 @@ use Rattle.matching.proofs.Augmenting.{snoc-cases, rematch-partial}
 use Rattle.matching.proofs.SearchLaws.{see-free, see-matched, scan-none, scan-old, scan-new, scan-stop, search-on, search-found, search-empty, Stuck, Reached, Ended, search-next, word-all}
 use Rattle.matching.proofs.OutcomeLaws.{match-none, match-fails, match-on}
 use Rattle.matching.proofs.FrontLaws.{sound-tail}
-use Rattle.matching.proofs.RematchLaws.{path-distance, listing-ext, owners-fun, augments-of}
+use Rattle.matching.proofs.RematchLaws.{path-distance, owners-fun, augments-of}
 use Rattle.matching.proofs.MatchedLaws.{length-marks}
 
 -- ── Only the clauses of the list count ────────────────────────────────────────────────────────────────────────────────
@@ -248,7 +249,7 @@ running-begin sets count = record {
   tables = record {
     room = omega arith;
     held = sym (padded-none 96 0);
-    owned = listing-ext (owner []) 64 (replicate 64 0) (length-replicate {A = ℕ} 64 0) (λ i h. getD-replicate {A = ℕ} 64 i 0 0 h);
+    owned = tabulated-of (owner []) 64 (replicate 64 0) 0 (length-replicate {A = ℕ} 64 0) (λ i h. getD-replicate {A = ℕ} 64 i 0 0 h);
     partial = record { named = λ i h. absurd (omega arith); distinct = λ i j h. absurd (omega arith) };
   };
   long = length-replicate {A = ℕ} 96 0;

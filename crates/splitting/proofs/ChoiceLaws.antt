@@ -15,7 +15,7 @@ use Rattle.formula.specs.Masked.{variables}
 use Rattle.splitting.specs.Nodes.{assign, named, lowest-with}
 use Rattle.splitting.specs.Stripping.{stripped}
 use Rattle.splitting.specs.Choosing.{trial, first-passing, candidates, among, listed, last, emptied, last-listed, by-left, by-remaining}
-use Rattle.splitting.proofs.Terms.{Below, NonePure, Sound, Satisfies, opened}
+use Rattle.splitting.specs.Terms.{Below, NonePure, Sound, Satisfies, opened}
 use Rattle.splitting.proofs.ClauseLaws.{named-by, named-within}
 use Rattle.splitting.proofs.SearchLaws.{lowest-found}
 use Rattle.splitting.proofs.StrippingLaws.{left-sub, left-none-pure}

@@ -75,7 +75,7 @@ names-none c v f s = ⊎-elim (λ t. clash (named-as c v s t) f) (λ e. e) (look
 
 -- ── A clause less a variable ─────────────────────────────────────────────────────────────────────────────────────────
 
-less-self : (x : ℕ) (c : List Literal) (s : Bool) → names-as (less x c) x s ≡ false
+pub less-self : (x : ℕ) (c : List Literal) (s : Bool) → names-as (less x c) x s ≡ false
 unfolding less names-as
 less-self x [] s = refl
 less-self x (l ∷ c) s =

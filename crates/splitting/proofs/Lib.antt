@@ -1,4 +1,4 @@
-pub mod Terms
+pub mod InnerLaws
 pub mod ClauseLaws
 pub mod CountLaws
 pub mod SearchLaws
@@ -14,3 +14,7 @@ pub mod ChoiceLaws
 pub mod TrailLaws
 pub mod OpenLaws
 pub mod Theorems
+pub mod MaskNodeLaws
+pub mod MaskSearchLaws
+pub mod MaskChoiceLaws
+pub mod Cases

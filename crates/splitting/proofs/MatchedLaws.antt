@@ -20,7 +20,7 @@ use Rattle.formula.specs.Format.{Literal, names, names-as, distinct}
 use Rattle.formula.specs.Masked.{variables}
 use Rattle.formula.proofs.ClauseLaws.{named-as, variables-bit}
 use Rattle.splitting.specs.Nodes.{less, assign, named}
-use Rattle.splitting.proofs.Terms.{NonePure}
+use Rattle.splitting.specs.Terms.{NonePure}
 use Rattle.splitting.proofs.ClauseLaws.{names-some, less-other, occurs-some, occurs-in, named-in, other-way}
 use Rattle.splitting.proofs.CoreLaws.{Core, core, turn}
 

@@ -23,7 +23,7 @@ use Rattle.formula.proofs.ClauseLaws.{named-as}
 use Rattle.formula.proofs.FormatLaws.{distinct-rest}
 use Rattle.splitting.specs.Nodes.{less, assign, remaining, occurs, named}
 use Rattle.splitting.specs.Stripping.{not-naming, stripped}
-use Rattle.splitting.proofs.Terms.{Below, Satisfies, Agrees}
+use Rattle.splitting.specs.Terms.{Below, Satisfies, Agrees}
 use Rattle.splitting.proofs.ClauseLaws.{literal-names, names-literal, names-some, less-of, less-other, occurs-in, named-in, pure-ways}
 use Rattle.splitting.proofs.StrippingLaws.{not-naming-in, strip-ind}
 use Rattle.splitting.proofs.NodeLaws.{assign-in, assign-of, named-assign, named-remaining}

@@ -14,7 +14,7 @@ use Rattle.formula.specs.Format.{Literal, names, names-as, ClauseOver}
 use Rattle.formula.proofs.ClauseLaws.{named-as}
 use Rattle.splitting.specs.Nodes.{less, assign, remaining, named}
 use Rattle.splitting.specs.Choosing.{emptied}
-use Rattle.splitting.proofs.Terms.{Below}
+use Rattle.splitting.specs.Terms.{Below}
 use Rattle.splitting.proofs.ClauseLaws.{literal-names, names-literal, less-of, occurs-some, occurs-in, named-some, named-in}
 
 -- ── One assignment ───────────────────────────────────────────────────────────────────────────────────────────────────

@@ -15,7 +15,7 @@ use Rattle.formula.specs.Format.{Literal, names}
 use Rattle.formula.specs.Models.{Model}
 use Rattle.splitting.specs.Nodes.{assign, remaining, named}
 use Rattle.splitting.specs.Choosing.{by-remaining, unassigned-of, choice}
-use Rattle.splitting.proofs.Terms.{Below, Sound, Trail, Agrees, opened}
+use Rattle.splitting.specs.Terms.{Below, Sound, Trail, Agrees, opened}
 use Rattle.splitting.proofs.NodeLaws.{named-remaining, below-remaining}
 use Rattle.splitting.proofs.ModelLaws.{satisfies-remaining, under, under-other, under-agrees, under-satisfies, given, given-same, given-satisfies, mask, mask-below, mask-model, model-satisfies}
 use Rattle.splitting.proofs.SoundLaws.{sound-satisfies}

@@ -18,7 +18,7 @@ use Rattle.formula.proofs.ClauseLaws.{named-as}
 use Rattle.splitting.specs.Nodes.{less, assign, occurs, named, upward}
 use Rattle.splitting.specs.Stripping.{stripped}
 use Rattle.splitting.specs.Choosing.{among, listed, last, emptied}
-use Rattle.splitting.proofs.Terms.{Below, NonePure, Sound, Satisfies}
+use Rattle.splitting.specs.Terms.{Below, NonePure, Sound, Satisfies}
 use Rattle.splitting.proofs.ClauseLaws.{names-some, less-of, occurs-in, occurs-append, occurs-less, named-some, named-by, not-pure, pure-not, other-way}
 use Rattle.splitting.proofs.SearchLaws.{among-here, among-more, among-cases, among-none, among-append, among-left, among-right, last-among, last-append, upward-of, upward-in}
 use Rattle.splitting.proofs.StrippingLaws.{left-sub, left-none-pure, none-noted, left-keeps, noted-named, unnoted-left, none-noted-but}

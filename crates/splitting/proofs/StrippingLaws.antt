@@ -13,7 +13,7 @@ use Rattle.formula.specs.Format.{Literal, names, names-as}
 use Rattle.splitting.specs.Nodes.{less, occurs, named, lowest-with}
 use Rattle.splitting.specs.Stripping.{pure, not-naming, Stripped, note, strip, stripped}
 use Rattle.splitting.specs.Choosing.{among, last}
-use Rattle.splitting.proofs.Terms.{Below, NonePure}
+use Rattle.splitting.specs.Terms.{Below, NonePure}
 use Rattle.splitting.proofs.ClauseLaws.{names-some, names-none, occurs-in, occurs-within, occurs-less, named-some, named-within, pure-named, outside}
 use Rattle.splitting.proofs.CountLaws.{count-le, count-drop}
 use Rattle.splitting.proofs.SearchLaws.{lowest-some, lowest-none, among-here, among-more, among-cases, among-none, last-among}

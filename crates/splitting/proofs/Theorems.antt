@@ -15,7 +15,7 @@ use Rattle.formula.specs.Masked.{variables}
 use Rattle.splitting.specs.Nodes.{assign, remaining, named}
 use Rattle.splitting.specs.Stripping.{stripped}
 use Rattle.splitting.specs.Choosing.{trial, first-passing, candidates, among, listed, last, emptied, unassigned-of, choice}
-use Rattle.splitting.proofs.Terms.{Below, NonePure, Sound, Trail, Agrees, opened}
+use Rattle.splitting.specs.Terms.{Below, NonePure, Sound, Trail, Agrees, opened}
 use Rattle.splitting.proofs.ClauseLaws.{named-by}
 use Rattle.splitting.proofs.StrippingLaws as stripping
 use Rattle.splitting.proofs.NodeLaws as nodes

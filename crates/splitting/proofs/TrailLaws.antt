@@ -15,7 +15,7 @@ use Rattle.formula.specs.Format.{Literal, names}
 use Rattle.formula.proofs.ClauseLaws.{named-as}
 use Rattle.formula.proofs.FormatLaws.{distinct-rest}
 use Rattle.splitting.specs.Nodes.{remaining, less}
-use Rattle.splitting.proofs.Terms.{Below, Sound, Trail}
+use Rattle.splitting.specs.Terms.{Below, Sound, Trail}
 use Rattle.splitting.proofs.ClauseLaws.{named-by}
 use Rattle.splitting.proofs.CountLaws.{except-of, count-sub, count-missing, count-full, count-none}
 use Rattle.splitting.proofs.NodeLaws.{named-remaining, below-remaining}

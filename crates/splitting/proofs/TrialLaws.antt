@@ -18,7 +18,7 @@ use Rattle.formula.proofs.ClauseLaws.{variables-lt, named-as}
 use Rattle.splitting.specs.declared.Choice.{Choice}
 use Rattle.splitting.specs.Nodes.{assign, named}
 use Rattle.splitting.specs.Choosing.{matched, Trial, trial, both-open, first-passing, candidates, among}
-use Rattle.splitting.proofs.Terms.{Below}
+use Rattle.splitting.specs.Terms.{Below}
 use Rattle.splitting.proofs.ClauseLaws.{named-by, literal-names}
 use Rattle.splitting.proofs.SearchLaws.{among-here, among-more, among-cases, among-none, upward-of, upward-in, upward-length}
 use Rattle.splitting.proofs.NodeLaws.{below-assign, length-assign}

@@ -23,12 +23,12 @@ turn k n cs b =
       | false ↦ record { noted = []; left = cs }
     ]
 
-strip-next : (k n : ℕ) (cs : List (List Literal)) → lowest-with (pure cs) n < n
+pub strip-next : (k n : ℕ) (cs : List (List Literal)) → lowest-with (pure cs) n < n
     → strip (suc k) n cs ≡ note (lowest-with (pure cs) n) (strip k n (not-naming (lowest-with (pure cs) n) cs))
 unfolding strip
 strip-next k n cs l = ap (turn k n cs) (lt-ltb (lowest-with (pure cs) n) n l)
 
-strip-end : (k n : ℕ) (cs : List (List Literal)) → n ≤ lowest-with (pure cs) n → strip k n cs ≡ record { noted = []; left = cs }
+pub strip-end : (k n : ℕ) (cs : List (List Literal)) → n ≤ lowest-with (pure cs) n → strip k n cs ≡ record { noted = []; left = cs }
 unfolding strip
 strip-end zero n cs l = refl
 strip-end (suc k) n cs l = ap (turn k n cs) (le-ltb (lowest-with (pure cs) n) n l)

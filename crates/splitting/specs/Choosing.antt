@@ -1,6 +1,6 @@
 -- 01, 'Which switch is settled next': the choice at a node of a formula of n variables.
 use Prim.Native.Nat.{ℕ, _+_}
-use mathlib.Core.Bool.{Bool, true, false, not, cond, _&&_, _||_}
+use mathlib.Core.Bool.{Bool, true, false, not, _&&_, _||_}
 use mathlib.Core.List.{List, [], _∷_, _++_, map}
 use lib.Dec.{eqb}
 use Rattle.masks.specs.Mask.{bit}
@@ -9,7 +9,7 @@ use Rattle.formula.specs.Format.{Literal, names}
 use Rattle.formula.specs.Masked.{variables}
 use Rattle.splitting.specs.declared.Choice.{Choice}
 use Rattle.splitting.specs.Nodes.{assign, remaining, named, lowest-with, upward}
-use Rattle.splitting.specs.Stripping.{Stripped, stripped}
+use Rattle.splitting.specs.Stripping.{stripped}
 
 -- ---- a trial
 

@@ -1,4 +1,5 @@
 pub mod Nodes
 pub mod Stripping
 pub mod Choosing
-pub mod Cases
+pub mod Terms
+pub mod InnerChoose

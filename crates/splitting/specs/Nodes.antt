@@ -3,7 +3,7 @@ use Prim.Native.Nat.{ℕ, zero, suc}
 use mathlib.Core.Bool.{Bool, true, false, cond, _||_}
 use mathlib.Core.List.{List, [], _∷_}
 use lib.Dec.{eqb}
-use Rattle.formula.specs.Format.{Literal, names, names-as}
+use Rattle.formula.specs.Format.{Literal, names-as}
 
 -- the clause less the variable v
 unfoldable pub less : ℕ → List Literal → List Literal

@@ -11,7 +11,7 @@ use lib.ListN.{length, length-append}
 use lib.Pow.{pow-pos}
 use borrow.Author.Tests.{eqb-true, eqb-false, eq-eqb, not-false}
 use Rattle.lists.specs.Every.{Every}
-use Rattle.lists.proofs.TestLaws.{or-cases, or-right, or-false}
+use Rattle.lists.proofs.TestLaws.{or-cases, or-right, or-none}
 use Rattle.masks.specs.Mask.{bit, with}
 use Rattle.masks.proofs.BitLaws.{bit-none, bit-with-same, bit-with-other, mask-ext, with-lt}
 use Rattle.formula.specs.Format.{Literal, names, distinct}
@@ -19,7 +19,7 @@ use Rattle.formula.specs.Models.{Model}
 use Rattle.formula.proofs.FormatLaws.{distinct-rest, clause-more}
 use Rattle.formula.proofs.LengthLaws.{clause-le}
 use Rattle.formula.proofs.ModelLaws.{model-tests}
-use Rattle.splitting.proofs.Terms.{Trail, Agrees}
+use Rattle.splitting.specs.Terms.{Trail, Agrees}
 use Rattle.walk.specs.Plain.{assignment}
 
 -- a literal of the trail is named
@@ -67,7 +67,7 @@ pub assignment-none : (t : List Literal) (v : ℕ) → names t v ≡ false → b
 unfolding assignment names
 assignment-none [] v e = bit-none v
 assignment-none (l ∷ t) v e =
-    let w = or-false (eqb (l .variable) v) (names t v) e in
+    let w = or-none (eqb (l .variable) v) (names t v) e in
     bit-other (l .positive) (assignment t) (l .variable) v (λ q. eqb-false (l .variable) v (w .0) (sym q)) ∙ assignment-none t v (w .1)
 
 agrees-distinct : (t : List Literal) → distinct t ≡ true → Agrees (bit (assignment t)) t

@@ -1,4 +1,4 @@
--- 01's marked walks, computed from the plain machine. The calls have budgets of 96. A line is a model with its steps and expansions.
+-- Checkpoints and refusals of small walks, computed. 01's marked walks are in the table of edge cases.
 use Prim.Native.Nat.{ℕ}
 use mathlib.Core.Bool.{true, false, xor}
 use mathlib.Core.List.{[], _∷_, map}
@@ -28,45 +28,6 @@ abbrev off : ℕ → Literal
 off v = record { variable = v; positive = false }
 
 -- the answer, the steps and the expansions of a call
-abbrev line : Call → Answer × ℕ × ℕ
-line c = (c .answer, c .steps, c .expansions)
-
--- (1, 2), (¬1, ¬2): 01 at 2 steps and 2 expansions, 10 at 4 and none, the end 2 after it
-pub first-walk : map line (plain-calls 2 ((on 0 ∷ on 1 ∷ []) ∷ (off 0 ∷ off 1 ∷ []) ∷ []) 0 (96 ∷ 96 ∷ 96 ∷ []))
-    ≡ (found 2, 2, 2) ∷ (found 1, 4, 0) ∷ (ended, 2, 0) ∷ []
-unfolding plain-calls plain-call go-on plain-walk node-walk assignment choice remaining assign less names names-as occurs named first-from upward-from pure not-naming strip variables matched trial first-passing candidates among listed last emptied last-listed outcome match-rest search-from expand take-front scan see begin no-links owner rematch-from bit members xor
-first-walk = refl
-
--- (1, 2), (1, 3), (2, 3): 110, 101, 011, 111 at 3, 6, 4, 2 steps, the end 3 after, no expansions
-pub second-walk : map line (plain-calls 3 ((on 0 ∷ on 1 ∷ []) ∷ (on 0 ∷ on 2 ∷ []) ∷ (on 1 ∷ on 2 ∷ []) ∷ []) 0 (96 ∷ 96 ∷ 96 ∷ 96 ∷ 96 ∷ []))
-    ≡ (found 3, 3, 0) ∷ (found 5, 6, 0) ∷ (found 6, 4, 0) ∷ (found 7, 2, 0) ∷ (ended, 3, 0) ∷ []
-unfolding plain-calls plain-call go-on plain-walk node-walk assignment choice remaining assign less names names-as occurs named first-from upward-from pure not-naming strip variables matched trial first-passing candidates among listed last emptied last-listed outcome match-rest search-from expand take-front scan see begin no-links owner rematch-from bit members xor
-second-walk = refl
-
--- (1, 2), (1, ¬2): 10, 11 at 2, 4 steps, the end 2 after
-pub third-walk : map line (plain-calls 2 ((on 0 ∷ on 1 ∷ []) ∷ (on 0 ∷ off 1 ∷ []) ∷ []) 0 (96 ∷ 96 ∷ 96 ∷ []))
-    ≡ (found 1, 2, 0) ∷ (found 3, 4, 0) ∷ (ended, 2, 0) ∷ []
-unfolding plain-calls plain-call go-on plain-walk node-walk assignment choice remaining assign less names names-as occurs named first-from upward-from pure not-naming strip variables matched trial first-passing candidates among listed last emptied last-listed outcome match-rest search-from expand take-front scan see begin no-links owner rematch-from bit members xor
-third-walk = refl
-
--- no clauses: 00, 01, 10, 11 at 2, 2, 4, 2 steps, the end 2 after
-pub free-walk : map line (plain-calls 2 [] 0 (96 ∷ 96 ∷ 96 ∷ 96 ∷ 96 ∷ []))
-    ≡ (found 0, 2, 0) ∷ (found 2, 2, 0) ∷ (found 1, 4, 0) ∷ (found 3, 2, 0) ∷ (ended, 2, 0) ∷ []
-unfolding plain-calls plain-call go-on plain-walk node-walk assignment choice remaining assign less names names-as occurs named first-from upward-from pure not-naming strip variables matched trial first-passing candidates among listed last emptied last-listed outcome match-rest search-from expand take-front scan see begin no-links owner rematch-from bit members xor
-free-walk = refl
-
--- the first candidates fail: their trials are counted too
-pub failed-trials : map line (plain-calls 4 ((off 0 ∷ off 1 ∷ off 2 ∷ []) ∷ (on 1 ∷ on 2 ∷ on 3 ∷ []) ∷ (on 0 ∷ on 3 ∷ []) ∷ (on 0 ∷ off 3 ∷ []) ∷ []) 0 (96 ∷ 96 ∷ 96 ∷ 96 ∷ 96 ∷ 96 ∷ []))
-    ≡ (found 5, 4, 11) ∷ (found 9, 6, 0) ∷ (found 13, 2, 0) ∷ (found 3, 8, 0) ∷ (found 11, 6, 0) ∷ (ended, 4, 0) ∷ []
-unfolding plain-calls plain-call go-on plain-walk node-walk assignment choice remaining assign less names names-as occurs named first-from upward-from pure not-naming strip variables matched trial first-passing candidates among listed last emptied last-listed outcome match-rest search-from expand take-front scan see begin no-links owner rematch-from bit members xor
-failed-trials = refl
-
--- and another such
-pub more-failed-trials : map line (plain-calls 4 ((on 2 ∷ on 3 ∷ []) ∷ (on 1 ∷ off 2 ∷ off 3 ∷ []) ∷ (on 0 ∷ on 1 ∷ []) ∷ (off 1 ∷ off 2 ∷ []) ∷ []) 0 (96 ∷ 96 ∷ 96 ∷ 96 ∷ 96 ∷ []))
-    ≡ (found 9, 4, 7) ∷ (found 5, 6, 0) ∷ (found 10, 8, 0) ∷ (found 11, 2, 0) ∷ (ended, 4, 0) ∷ []
-unfolding plain-calls plain-call go-on plain-walk node-walk assignment choice remaining assign less names names-as occurs named first-from upward-from pure not-naming strip variables matched trial first-passing candidates among listed last emptied last-listed outcome match-rest search-from expand take-front scan see begin no-links owner rematch-from bit members xor
-more-failed-trials = refl
-
 -- the answer, the steps and the checkpoint of a call on the first formula
 abbrev stop : Call → Answer × ℕ × Checkpoint
 stop c = (c .answer, c .steps, checkpoint-after 2 ((on 0 ∷ on 1 ∷ []) ∷ (off 0 ∷ off 1 ∷ []) ∷ []) (c .behind))

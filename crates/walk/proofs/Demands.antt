@@ -16,7 +16,7 @@ use Rattle.formula.specs.Masked.{variables}
 use Rattle.formula.specs.Models.{Model}
 use Rattle.matched.specs.Judge.{refusal, judge}
 use Rattle.matched.specs.Pairing.{Pairs, Pairable}
-use Rattle.splitting.proofs.Terms.{Agrees}
+use Rattle.splitting.specs.Terms.{Agrees}
 use Rattle.walk.specs.Plain.{assign, plain-walk, listing}
 use Rattle.walk.specs.Checkpoints.{Checkpoint, checkpoint-of, start, behind}
 use Rattle.walk.specs.PlainMachine.{spent, ended, plain-call, plain-calls, state-after, Has}

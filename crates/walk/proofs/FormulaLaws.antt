@@ -20,7 +20,7 @@ use Rattle.formula.specs.Masked.{variables}
 use Rattle.formula.specs.Models.{Model}
 use Rattle.formula.proofs.Demands.{accepted-only}
 use Rattle.matched.proofs.PairingLaws.{masks-words}
-use Rattle.splitting.proofs.Terms as terms
+use Rattle.splitting.specs.Terms as terms
 use Rattle.walk.specs.Plain.{Entry, assign, plain-walk, models-of, listing}
 use Rattle.walk.specs.Checkpoints.{Checkpoint, Behind, checkpoint-of, start, past-all, behind, checkpoint-after}
 use Rattle.walk.specs.PlainMachine.{Answer, found, spent, ended, Call, plain-call, plain-calls, state-after, Has}

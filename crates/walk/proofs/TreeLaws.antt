@@ -18,8 +18,8 @@ use Rattle.formula.proofs.FormatLaws.{clause-more}
 use Rattle.splitting.specs.declared.Choice.{Choice}
 use Rattle.splitting.specs.Nodes.{remaining}
 use Rattle.splitting.specs.Choosing.{choice}
-use Rattle.splitting.proofs.Terms as terms
-use Rattle.splitting.proofs.Terms.{Sound, Trail, opened}
+use Rattle.splitting.specs.Terms as terms
+use Rattle.splitting.specs.Terms.{Sound, Trail, opened}
 use Rattle.splitting.proofs.Theorems.{matched-sound, open-sound, sound-model, formula-below, remaining-snoc, full-model, open-means, choice-cost}
 use Rattle.walk.specs.Plain.{Entry, end, assignment, chosen, node-walk, plain-walk}
 use Rattle.walk.specs.InnerStack.{Stack, empty, push, depth, trail-of, tree}

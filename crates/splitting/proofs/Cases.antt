@@ -1,7 +1,7 @@
 -- Small choices, computed from the definitions.
 use Prim.Native.Nat.{ℕ}
 use mathlib.Core.Bool.{true, false, xor}
-use mathlib.Core.List.{List, [], _∷_}
+use mathlib.Core.List.{[], _∷_}
 use mathlib.Core.Path.{_≡_, refl}
 use Rattle.masks.specs.Mask.{bit, members}
 use Rattle.matching.specs.Search.{owner, no-links, begin, see, scan, take-front, expand, search-from, rematch-from, match-rest, outcome}

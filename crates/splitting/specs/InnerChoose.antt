@@ -1,0 +1,138 @@
+-- What the code of the choice computes over masks; proofs/MaskLaws.antt ties it to Choosing.
+use Prim.Native.Nat.{ℕ, zero, suc, _+_}
+use mathlib.Core.Bool.{Bool, true, false, not, cond, _||_}
+use mathlib.Core.List.{List, [], _∷_, _++_, map}
+use lib.Bits.{bitOr, bitXor}
+use lib.Dec.{eqb}
+use lib.ListN.{getD}
+use Rattle.masks.specs.Mask.{bit, with, minus, meets, lowest, members}
+use Rattle.matching.specs.Search.{Outcome, outcome, succeeds, expansions}
+use Rattle.formula.specs.declared.Clause.{Clause}
+use Rattle.formula.specs.declared.Formula.{Formula}
+use Rattle.formula.specs.Format.{Literal}
+use Rattle.formula.specs.Masked.{no-clause, named}
+use Rattle.splitting.specs.declared.Assignment.{Assignment}
+use Rattle.splitting.specs.declared.Choice.{Choice}
+use Rattle.splitting.specs.declared.Reduced.{Reduced}
+use Rattle.splitting.specs.declared.Survey.{Survey}
+use Rattle.splitting.specs.declared.Trial.{Trial}
+use Rattle.splitting.specs.Choosing.{both-open, last}
+
+-- ---- the clauses at a node
+
+abbrev pub assigned : Assignment → ℕ
+assigned a = bitOr (a .trues) (a .falses)
+
+-- v gets the value b as well
+abbrev pub set-to : Assignment → ℕ → Bool → Assignment
+set-to a v true = record { trues = with (a .trues) v; falses = a .falses }
+set-to a v false = record { trues = a .trues; falses = with (a .falses) v }
+
+-- an assigned variable stands the way that the clause names it
+abbrev pub satisfied-under : Assignment → Clause → Bool
+satisfied-under a c = meets (c .positive) (a .trues) || meets (c .negative) (a .falses)
+
+-- what is left of a clause
+abbrev pub left-under : Assignment → Clause → Clause
+left-under a c = record { positive = minus (c .positive) (assigned a); negative = minus (c .negative) (assigned a) }
+
+-- what is left of those of the first n clauses of an array that are not satisfied
+unfoldable pub open-clauses : List Clause → Assignment → ℕ → List Clause
+open-clauses cs a zero = []
+open-clauses cs a (suc n) =
+    open-clauses cs a n ++ cond (satisfied-under a (getD cs n no-clause)) [] (left-under a (getD cs n no-clause) ∷ [])
+
+abbrev pub node : Formula → Assignment → List Clause
+node f a = open-clauses (f .clauses) a (f .count)
+
+-- the variables that clauses name as true and as false, and whether there is a clause
+abbrev pub surveys : Survey → Clause → Survey
+surveys s c = record { positive = bitOr (s .positive) (c .positive); negative = bitOr (s .negative) (c .negative); any = true }
+
+unfoldable pub survey-from : Survey → List Clause → Survey
+survey-from s [] = s
+survey-from s (c ∷ cs) = survey-from (surveys s c) cs
+
+abbrev pub survey-of : List Clause → Survey
+survey-of cs = survey-from (record { positive = 0; negative = 0; any = false }) cs
+
+-- some clause names nothing
+unfoldable pub some-empty : List Clause → Bool
+some-empty [] = false
+some-empty (c ∷ cs) = eqb (named c) 0 || some-empty cs
+
+-- the outcome of matching the clauses
+abbrev pub matched-node : Formula → Assignment → Outcome
+matched-node f a = outcome (map named (node f a))
+
+-- ---- pure literals
+
+abbrev pub reduced-at : Formula → Assignment → ℕ → ℕ → Reduced
+reduced-at f a noted v = record { assignment = a; noted = noted; last = v; survey = survey-of (node f a) }
+
+abbrev pub pure-of : Formula → Assignment → ℕ
+pure-of f a = bitXor (survey-of (node f a) .positive) (survey-of (node f a) .negative)
+
+-- at most k times: the lowest variable that is named in one way only gets that value, and is noted; v is the last one noted
+unfoldable pub reduce-from : ℕ → Formula → Assignment → ℕ → ℕ → Reduced
+reduce-from zero f a noted v = reduced-at f a noted v
+reduce-from (suc k) f a noted v =
+    elim (eqb (pure-of f a) 0) [
+      | true ↦ reduced-at f a noted v
+      | false ↦ reduce-from k f (set-to a (lowest (pure-of f a)) (bit (survey-of (node f a) .positive) (lowest (pure-of f a)))) (with noted (lowest (pure-of f a)))
+          (lowest (pure-of f a))
+    ]
+
+abbrev pub reduced : Formula → Assignment → Reduced
+reduced f a = reduce-from (f .variables) f a 0 0
+
+-- ---- trials
+
+unfoldable pub tried : Formula → Assignment → ℕ → Trial
+tried f a v =
+    elim (succeeds (matched-node f (set-to a v false))) [
+      | true ↦ record {
+        passes = succeeds (matched-node f (set-to a v true));
+        cost = expansions (matched-node f (set-to a v false)) + expansions (matched-node f (set-to a v true));
+      }
+      | false ↦ record { passes = false; cost = expansions (matched-node f (set-to a v false)) }
+    ]
+
+-- the first of the variables that passes, and the expansions of all trials made
+unfoldable pub passing : Formula → Assignment → List ℕ → ℕ → Choice
+passing f a [] e = both-open 0 e
+passing f a (v ∷ vs) e = elim (tried f a v .passes) [ true ↦ both-open v (e + tried f a v .cost) | false ↦ passing f a vs (e + tried f a v .cost) ]
+
+-- ---- the choice
+
+-- the greatest member of a mask, 0 if there is none
+abbrev pub greatest : ℕ → ℕ
+greatest m = last (members m 64)
+
+unfoldable pub listed-last : Formula → Assignment → ℕ → Choice
+listed-last f a v = record {
+  variable = v;
+  false_open = not (some-empty (node f (set-to a v false)));
+  true_open = not (some-empty (node f (set-to a v true)));
+  expansions = 0;
+}
+
+-- the variables that are named at the node and were not noted
+abbrev pub others-of : Formula → Assignment → ℕ
+others-of f a = minus (bitOr (survey-of (node f a) .positive) (survey-of (node f a) .negative)) (reduced f a .noted)
+
+unfoldable pub chosen : Formula → ℕ → Assignment → Choice
+chosen f settle a =
+    cond (survey-of (node f a) .any)
+    (cond (reduced f a .survey .any)
+    (passing f (reduced f a .assignment) (members (bitOr (reduced f a .survey .positive) (reduced f a .survey .negative)) 64) 0)
+    (listed-last f a (cond (eqb (others-of f a) 0) (reduced f a .last) (greatest (others-of f a)))))
+    (both-open (lowest (minus settle (assigned a))) 0)
+
+-- the assignment of a trail
+unfoldable pub assign-all : Assignment → List Literal → Assignment
+assign-all a [] = a
+assign-all a (l ∷ t) = assign-all (set-to a (l .variable) (l .positive)) t
+
+abbrev pub assignment-of : List Literal → Assignment
+assignment-of t = assign-all (record { trues = 0; falses = 0 }) t
