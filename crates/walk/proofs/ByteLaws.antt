@@ -1,0 +1,143 @@
+-- A checkpoint's bytes: what is written is read back, and what is well formed is what was written.
+use Prim.Native.Nat.{ℕ, zero, suc, _+_, _-_, _≤_, _<_}
+use mathlib.Core.Bool.{Bool, true, false, cond, not, _&&_}
+use mathlib.Core.List.{List, [], _∷_, _++_, append-assoc, append-nil, map, map-append}
+use mathlib.Core.Path.{_≡_, refl, sym, ap, ap₂, _∙_, subst}
+use native.Mathlib.Omega.{arith}
+use lib.Dec.{eqb, leb}
+use lib.ListN.{length, take, drop, replicate, length-append, length-take, length-drop, length-map, take-append-drop}
+use borrow.Author.Tests.{eqb-true, eqb-false, eq-eqb, ne-eqb, leb-true, leb-false, le-leb, lt-leb, not-true}
+use Rattle.lists.specs.Padded.{padded}
+use Rattle.lists.proofs.PaddedLaws.{length-padded, take-padded, drop-padded}
+use Rattle.lists.proofs.TestLaws.{and-left, and-right, and-both}
+use Rattle.formula.specs.Format.{Literal}
+use Rattle.walk.specs.Checkpoints.{Checkpoint, byte, checkpoint-of}
+use Rattle.walk.specs.InnerStack.{Stack, empty, push, depth, trail-of}
+use Rattle.walk.specs.InnerTest.{byte-number, byte-value, pushed, read, numbered, zeros, formed}
+use Rattle.walk.proofs.PositionLaws.{length-trail}
+
+-- every variable of the trail is below n
+abbrev pub Below : ℕ → Stack → Type 0
+Below n empty = Unit {0}
+Below n (push v b t) = (v < n) × Below n t
+
+pushed-append : (xs ys : List ℕ) (t : Stack) → pushed t (xs ++ ys) ≡ pushed (pushed t xs) ys
+unfolding pushed
+pushed-append [] ys t = refl
+pushed-append (x ∷ xs) ys t = pushed-append xs ys (push (byte-number x - 1) (byte-value x) t)
+
+byte-back : (v : ℕ) (b : Bool) (t : Stack) → v < 48 → push (byte-number (byte (record { variable = v; positive = b })) - 1) (byte-value (byte (record { variable = v; positive = b }))) t ≡ push v b t
+byte-back v false t h =
+    let e : leb 128 (v + 1) ≡ false = lt-leb 128 (v + 1) (omega arith) in
+    let f : v + 1 - 1 ≡ v = omega arith in
+    rw (e, f)
+byte-back v true t h =
+    let e : leb 128 (v + 129) ≡ true = le-leb 128 (v + 129) (omega arith) in
+    let f : v + 129 - 128 - 1 ≡ v = omega arith in
+    rw (e, f)
+
+pushed-bytes : (n : ℕ) (t : Stack) → n ≤ 48 → Below n t → pushed empty (map byte (trail-of t)) ≡ t
+unfolding trail-of pushed
+pushed-bytes n empty h w = refl
+pushed-bytes n (push v b t) h w =
+    ap (pushed empty) (map-append byte (trail-of t) (record { variable = v; positive = b } ∷ []))
+    ∙ pushed-append (map byte (trail-of t)) (byte (record { variable = v; positive = b }) ∷ []) empty
+    ∙ ap (λ (u : Stack). push (byte-number (byte (record { variable = v; positive = b })) - 1) (byte-value (byte (record { variable = v; positive = b }))) u)
+      (pushed-bytes n t h (w .1))
+    ∙ byte-back v b t (let q = w .0 in omega arith)
+
+-- what is written is read back
+pub read-written : (n m : ℕ) (t : Stack) → n ≤ 48 → Below n t → read (checkpoint-of m (trail-of t)) ≡ t
+unfolding checkpoint-of
+read-written n m t h w =
+    ap (pushed empty) (ap (λ (k : ℕ). take k (padded 48 0 (map byte (trail-of t)))) (sym (length-map (trail-of t) byte)) ∙ take-padded 48 0 (map byte (trail-of t)))
+    ∙ pushed-bytes n t h w
+
+zeros-replicate : (k : ℕ) → zeros (replicate k 0) ≡ true
+unfolding zeros
+zeros-replicate zero = refl
+zeros-replicate (suc k) = zeros-replicate k
+
+zeros-are : (l : List ℕ) → zeros l ≡ true → l ≡ replicate (length l) 0
+unfolding zeros
+zeros-are [] e = refl
+zeros-are (x ∷ l) e = ap₂ {C = List ℕ} (λ y r. y ∷ r) (eqb-true x 0 (and-left (eqb x 0) (zeros l) e)) (zeros-are l (and-right (eqb x 0) (zeros l) e))
+
+byte-numbered : (v : ℕ) (b : Bool) → v < 48 → not (eqb (byte-number (byte (record { variable = v; positive = b }))) 0) ≡ true
+byte-numbered v false h =
+    let e : leb 128 (v + 1) ≡ false = lt-leb 128 (v + 1) (omega arith) in
+    let f : eqb (v + 1) 0 ≡ false = ne-eqb (v + 1) 0 (λ q. omega arith) in
+    rw (e, f)
+byte-numbered v true h =
+    let e : leb 128 (v + 129) ≡ true = le-leb 128 (v + 129) (omega arith) in
+    let f : eqb (v + 129 - 128) 0 ≡ false = ne-eqb (v + 129 - 128) 0 (λ q. omega arith) in
+    rw (e, f)
+
+numbered-append : (xs ys : List ℕ) → numbered xs ≡ true → numbered ys ≡ true → numbered (xs ++ ys) ≡ true
+unfolding numbered
+numbered-append [] ys h k = k
+numbered-append (x ∷ xs) ys h k =
+    and-both _ _ (and-left (not (eqb (byte-number x) 0)) (numbered xs) h) (numbered-append xs ys (and-right (not (eqb (byte-number x) 0)) (numbered xs) h) k)
+
+numbered-bytes : (n : ℕ) (t : Stack) → n ≤ 48 → Below n t → numbered (map byte (trail-of t)) ≡ true
+unfolding trail-of numbered
+numbered-bytes n empty h w = refl
+numbered-bytes n (push v b t) h w =
+    rw map-append (numbered-append (map byte (trail-of t)) (byte (record { variable = v; positive = b }) ∷ []) (numbered-bytes n t h (w .1))
+      (and-both _ _ (byte-numbered v b (let q = w .0 in omega arith)) refl))
+
+-- what is written is well formed
+pub written-formed : (n m : ℕ) (t : Stack) → n ≤ 48 → m ≤ 4 → depth t ≤ 48 → Below n t → formed (checkpoint-of m (trail-of t)) ≡ true
+unfolding formed checkpoint-of
+written-formed n m t h k d w =
+    let l : length (map byte (trail-of t)) ≡ length (trail-of t) = length-map (trail-of t) byte in
+    let e : length (trail-of t) ≡ depth t = length-trail t in
+    let p : take (length (trail-of t)) (padded 48 0 (map byte (trail-of t))) ≡ map byte (trail-of t) = rw (← l) (take-padded 48 0 (map byte (trail-of t))) in
+    let q : drop (length (trail-of t)) (padded 48 0 (map byte (trail-of t))) ≡ replicate (48 - length (map byte (trail-of t))) 0 =
+          ap (λ (k : ℕ). drop k (padded 48 0 (map byte (trail-of t)))) (sym l) ∙ drop-padded 48 0 (map byte (trail-of t)) in
+    let s : length (trail-of t) ≤ 48 = omega arith in
+    rw (le-leb m 4 k, le-leb (length (trail-of t)) 48 s, p, q) (and-both _ _ (numbered-bytes n t h w) (zeros-replicate (48 - length (map byte (trail-of t)))))
+
+pushed-depth : (xs : List ℕ) (t : Stack) → depth (pushed t xs) ≡ depth t + length xs
+unfolding pushed
+pushed-depth [] t = omega arith
+pushed-depth (x ∷ xs) t = pushed-depth xs (push (byte-number x - 1) (byte-value x) t) ∙ omega arith
+
+byte-forth : (x : ℕ) → not (eqb (byte-number x) 0) ≡ true → byte (record { variable = byte-number x - 1; positive = byte-value x }) ≡ x
+byte-forth x h = at (leb 128 x) refl (eqb-false (byte-number x) 0 (not-true _ h))
+  where
+    at : (y : Bool) → leb 128 x ≡ y → (cond y (x - 128) x ≡ 0 → ⊥) → cond y (cond y (x - 128) x - 1 + 129) (cond y (x - 128) x - 1 + 1) ≡ x
+    at true e ne = let h = leb-true 128 x e in omega arith
+    at false e ne = omega arith
+
+bytes-pushed : (xs : List ℕ) (t : Stack) → numbered xs ≡ true → map byte (trail-of (pushed t xs)) ≡ map byte (trail-of t) ++ xs
+unfolding pushed numbered trail-of
+bytes-pushed [] t h = sym (append-nil (map byte (trail-of t)))
+bytes-pushed (x ∷ xs) t h =
+    bytes-pushed xs (push (byte-number x - 1) (byte-value x) t) (and-right (not (eqb (byte-number x) 0)) (numbered xs) h)
+    ∙ simp (map-append, append-assoc) (ap (λ (y : ℕ). map byte (trail-of t) ++ (y ∷ xs)) (byte-forth x (and-left (not (eqb (byte-number x) 0)) (numbered xs) h)))
+
+refilled : (k : ℕ) (l : List ℕ) → length l ≡ 48 → k ≤ 48 → numbered (take k l) ≡ true → zeros (drop k l) ≡ true
+    → padded 48 0 (map byte (trail-of (pushed empty (take k l)))) ≡ l
+unfolding padded trail-of
+refilled k l h w num z =
+    let e : map byte (trail-of (pushed empty (take k l))) ≡ take k l = bytes-pushed (take k l) empty num in
+    let q : 48 - length (take k l) ≡ length (drop k l) = omega (arith, length-take k l, length-drop k l) in
+    rw (e, q, ← (zeros-are (drop k l) z)) (take-append-drop k l)
+
+-- what is well formed is what was written
+pub formed-written : (c : Checkpoint) → length (c .bytes) ≡ 48 → formed c ≡ true → checkpoint-of (c .mode) (trail-of (read c)) ≡ c
+unfolding formed checkpoint-of
+formed-written c h f =
+    let a = and-right (leb (c .mode) 4) _ f in
+    let b = and-right (leb (c .length) 48) _ a in
+    let l : c .length ≤ 48 = leb-true (c .length) 48 (and-left (leb (c .length) 48) _ a) in
+    let d : length (trail-of (read c)) ≡ c .length =
+          length-trail (read c) ∙ pushed-depth (take (c .length) (c .bytes)) empty ∙ omega (arith, length-take (c .length) (c .bytes)) in
+    let num = and-left (numbered (take (c .length) (c .bytes))) _ b in
+    let z = and-right (numbered (take (c .length) (c .bytes))) _ b in
+    λ i. record { mode = c .mode; length = d i; bytes = refilled (c .length) (c .bytes) h l num z i }
+
+pub formed-mode : (c : Checkpoint) → formed c ≡ true → c .mode ≤ 4
+unfolding formed
+formed-mode c f = leb-true (c .mode) 4 (and-left (leb (c .mode) 4) _ f)

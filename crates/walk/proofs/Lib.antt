@@ -1,0 +1,11 @@
+pub mod Cases
+pub mod RestLaws
+pub mod PositionLaws
+pub mod AgreeLaws
+pub mod ListingLaws
+pub mod CallLaws
+pub mod PartingLaws
+pub mod PaceLaws
+pub mod MetLaws
+pub mod TestLaws
+pub mod ByteLaws

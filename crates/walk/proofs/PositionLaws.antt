@@ -1,0 +1,98 @@
+-- Positions and what is shown of them: the mode and the trail behind one more entry, and the position that these give back.
+use Prim.Native.Nat.{ℕ, zero, suc, _+_, _<_}
+use mathlib.Core.Bool.{Bool, true, false, cond}
+use mathlib.Core.List.{List, [], _∷_, _++_}
+use mathlib.Core.Path.{_≡_, refl, ap}
+use native.Mathlib.Omega.{arith}
+use lib.Dec.{eqb}
+use lib.ListN.{length, length-append}
+use borrow.Author.Tests.{eq-eqb}
+use Rattle.formula.specs.Format.{Literal}
+use Rattle.splitting.specs.declared.Choice.{Choice}
+use Rattle.walk.specs.Plain.{Entry, assign, undo, model, end}
+use Rattle.walk.specs.Checkpoints.{Behind, without-last, last-value, undone-mode, past}
+use Rattle.walk.specs.InnerStack.{Stack, empty, push, depth, trail-of, Tree}
+use Rattle.walk.specs.InnerMachine.{Position, down, full, back, over, Next, nothing, hands, ends, steps, rise, enter, descend, turn, next}
+use Rattle.walk.specs.InnerTest.{mode-of, stack-of, position-of}
+use Rattle.walk.proofs.RestLaws.{Quiet, Replayed, Ok, Rising, from-full, from-back, Kind, k-model, k-assign, k-turn, k-undo, k-end}
+
+-- the last literal is dropped
+pub without-last-snoc : (t : List Literal) (l : Literal) → without-last (t ++ (l ∷ [])) ≡ t
+unfolding without-last
+without-last-snoc [] l = refl
+without-last-snoc (m ∷ []) l = refl
+without-last-snoc (m ∷ (k ∷ t)) l = ap {B = List Literal} (λ x. m ∷ x) (without-last-snoc (k ∷ t) l)
+
+-- its value is the last one
+pub last-value-snoc : (t : List Literal) (l : Literal) → last-value (t ++ (l ∷ [])) ≡ l .positive
+unfolding last-value
+last-value-snoc [] l = refl
+last-value-snoc (m ∷ []) l = refl
+last-value-snoc (m ∷ (k ∷ t)) l = last-value-snoc (k ∷ t) l
+
+-- the trail is as long as the stack is deep
+pub length-trail : (t : Stack) → length (trail-of t) ≡ depth t
+unfolding trail-of
+length-trail empty = refl
+length-trail (push v b t) = let i = length-trail t in simp length-append (omega arith)
+
+-- the mode and the trail at a position
+abbrev pub behind-of : Position → Behind
+behind-of p = record { mode = mode-of p; trail = trail-of (stack-of p) }
+
+module _ (K : Tree) where
+  mode-full : (t : Stack) → 0 < K .size → depth t ≡ K .size → mode-of (down t) ≡ 1
+  mode-full empty p h = absurd (omega arith)
+  mode-full (push v b t) p h = refl
+
+  undo-past : (p : Position) (v : ℕ) (b : Bool) (t : Stack) → stack-of p ≡ push v b t → past (behind-of p) undo ≡ behind-of (back b t)
+  unfolding trail-of
+  undo-past p v b t e = rw (e, last-value-snoc, without-last-snoc)
+
+  rising-stack : {p : Position} {t : Stack} → Rising K p t → stack-of p ≡ t
+  rising-stack (from-full h) = refl
+  rising-stack (from-back b h) = refl
+
+  -- the mode and the trail behind one more entry are those of the next position
+  pub past-next : {p q : Position} {e : Entry} → 0 < K .size → Kind K p e q → past (behind-of p) e ≡ behind-of q
+  unfolding trail-of
+  past-next z (k-model {t} h) = rw (mode-full t z h)
+  past-next z (k-assign b h) = refl
+  past-next z (k-turn h) = refl
+  past-next {p} z (k-undo v b {t} r) = undo-past p v b t (rising-stack r)
+  past-next z (k-end r) = refl
+
+  -- behind a model or the end a call can stop
+  abbrev pub Lands : Entry → Position → Type 0
+  Lands (assign l e) p = Unit {0}
+  Lands undo p = Unit {0}
+  Lands (model a) p = Quiet (next K p)
+  Lands end p = Quiet (next K p)
+
+  pub full-quiet : (t : Stack) → 0 < K .size → depth t ≡ K .size → Quiet (next K (full t))
+  unfolding next
+  full-quiet empty p h = absurd (omega arith)
+  full-quiet (push v b t) p h = tt
+
+  pub lands : {p q : Position} {e : Entry} → 0 < K .size → Kind K p e q → Lands e q
+  unfolding next
+  lands z (k-model {t} h) = full-quiet t z h
+  lands z (k-assign b h) = tt
+  lands z (k-turn h) = tt
+  lands z (k-undo v b r) = tt
+  lands z (k-end r) = tt
+
+  -- where a call can stop, the mode and the trail give the position back
+  pub position-back : (p : Position) → Ok K p → Quiet (next K p) → position-of (K .size) (mode-of p) (stack-of p) ≡ p
+  unfolding next
+  position-back (down empty) r q = refl
+  position-back (down (push v b t)) r q = at (eqb (suc (depth t)) (K .size)) q
+    where
+      at : (x : Bool) → Quiet (cond x (hands (K .result (push v b t)) (full (push v b t))) (descend (K .choose (push v b t)) (push v b t)))
+          → cond x (full (push v b t)) (down (push v b t)) ≡ down (push v b t)
+      at true q = absurd q
+      at false q = refl
+  position-back (full t) r q = rw (eq-eqb (depth t) (K .size) (r .1)) refl
+  position-back (back false t) r q = refl
+  position-back (back true t) r q = refl
+  position-back over r q = refl

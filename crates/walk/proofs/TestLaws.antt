@@ -1,0 +1,110 @@
+-- The mode's condition holds exactly where a call can stop. Over any tree.
+use Prim.Native.Nat.{ℕ, zero, suc, _≤_, _<_}
+use mathlib.Core.Bool.{Bool, true, false, cond, not, _&&_, _||_, false≢true}
+use mathlib.Core.Path.{_≡_, refl, sym, ap, _∙_, subst}
+use native.Mathlib.Omega.{arith}
+use lib.Dec.{eqb, ltb}
+use borrow.Author.Tests.{eqb-true, eqb-false, eq-eqb, ltb-true, lt-ltb}
+use Rattle.lists.proofs.TestLaws.{and-left, and-right, and-both}
+use Rattle.splitting.specs.declared.Choice.{Choice}
+use Rattle.walk.specs.InnerStack.{Stack, empty, push, depth, Tree}
+use Rattle.walk.specs.InnerMachine.{Position, down, full, back, over, Next, rise, enter, turn, next}
+use Rattle.walk.specs.InnerTest.{mode-of, stack-of, is-open, is-empty, replays, fits}
+use Rattle.walk.proofs.RestLaws.{Quiet, Replayed, Ok, Live}
+use Rattle.walk.proofs.PositionLaws.{full-quiet}
+use Rattle.walk.proofs.MetLaws.{down-quiet}
+
+module _ (K : Tree) where
+  pub replays-replayed : (t : Stack) → replays K t ≡ true → Replayed K t
+  unfolding replays
+  replays-replayed empty e = tt
+  replays-replayed (push v b t) e =
+      let x = and-right (replays K t) _ e in
+      let y = and-right (ltb (depth t) (K .size)) _ x in
+      ( replays-replayed t (and-left (replays K t) _ e)
+      , ltb-true _ _ (and-left (ltb (depth t) (K .size)) _ x)
+      , eqb-true _ _ (and-left (eqb v (K .choose t .variable)) _ y)
+      , and-right (eqb v (K .choose t .variable)) _ y )
+
+  pub replayed-replays : (t : Stack) → Replayed K t → replays K t ≡ true
+  unfolding replays
+  replayed-replays empty r = refl
+  replayed-replays (push v b t) r =
+      and-both _ _ (replayed-replays t (r .0)) (and-both _ _ (lt-ltb _ _ (r .1)) (and-both _ _ (eq-eqb _ _ (r .2)) (r .3)))
+
+  -- a position with this mode and trail, at which a call can stop
+  pub record Stop (m : ℕ) (t : Stack) : Type 0 where
+    pub position : Position
+    pub fine : Ok K position
+    pub quiet : Quiet (next K position)
+    pub mode : mode-of position ≡ m
+    pub stack : stack-of position ≡ t
+
+  pub fits-stop : Live K → (m : ℕ) (t : Stack) → m ≤ 4 → fits K m t ≡ true → Stop m t
+  unfolding fits
+  fits-stop L zero empty h e = record { position = down empty; fine = tt; quiet = down-quiet K L empty (L .positive); mode = refl; stack = refl }
+  fits-stop L zero (push v b t) h e = absurd (false≢true e)
+  fits-stop L (suc zero) empty h e = absurd (false≢true e)
+  fits-stop L (suc zero) (push v b t) h e = at (eqb (suc (depth t)) (K .size)) refl
+    where
+      r : Replayed K (push v b t)
+      r = replays-replayed (push v b t) e
+      at : (x : Bool) → eqb (suc (depth t)) (K .size) ≡ x → Stop 1 (push v b t)
+      at true q =
+          let h = eqb-true (suc (depth t)) (K .size) q in
+          record { position = full (push v b t); fine = (r, h); quiet = full-quiet K (push v b t) (L .positive) h; mode = refl; stack = refl }
+      at false q =
+          let ne : suc (depth t) ≡ K .size → ⊥ = eqb-false _ _ q in
+          let h : suc (depth t) < K .size = omega (arith, r .1) in
+          record { position = down (push v b t); fine = r; quiet = down-quiet K L (push v b t) h; mode = refl; stack = refl }
+  fits-stop L (suc (suc zero)) t h e =
+      let x = and-right (replays K t) _ e in
+      let y = and-right (ltb (depth t) (K .size)) _ x in
+      record {
+        position = back false t;
+        fine = (replays-replayed t (and-left (replays K t) _ e), ltb-true _ _ (and-left (ltb (depth t) (K .size)) _ x), and-left (K .choose t .false_open) _ y);
+        quiet = unfold next in (at (K .choose t .true_open) t (and-right (K .choose t .false_open) _ y));
+        mode = refl;
+        stack = refl }
+    where
+      at : (x : Bool) (u : Stack) → (not (is-empty u) || x) ≡ true → Quiet (cond x (enter 0 (K .choose t) true t) (rise u))
+      at true u h = tt
+      at false empty h = absurd (false≢true h)
+      at false (push v b u) h = tt
+  fits-stop L (suc (suc (suc zero))) t h e =
+      let x = and-right (replays K t) _ e in
+      let y = and-right (ltb (depth t) (K .size)) _ x in
+      record {
+        position = back true t;
+        fine = (replays-replayed t (and-left (replays K t) _ e), ltb-true _ _ (and-left (ltb (depth t) (K .size)) _ x), and-left (K .choose t .true_open) _ y);
+        quiet = unfold next in (at t (and-right (K .choose t .true_open) _ y));
+        mode = refl;
+        stack = refl }
+    where
+      at : (u : Stack) → not (is-empty u) ≡ true → Quiet (rise u)
+      at empty h = absurd (false≢true h)
+      at (push v b u) h = tt
+  fits-stop L (suc (suc (suc (suc zero)))) empty h e = record { position = over; fine = tt; quiet = unfold next in tt; mode = refl; stack = refl }
+  fits-stop L (suc (suc (suc (suc zero)))) (push v b t) h e = absurd (false≢true e)
+  fits-stop L (suc (suc (suc (suc (suc m))))) t h e = absurd (omega arith)
+
+  pub stop-fits : Live K → (p : Position) → Ok K p → Quiet (next K p) → fits K (mode-of p) (stack-of p) ≡ true
+  unfolding fits next
+  stop-fits L (down empty) o q = refl
+  stop-fits L (down (push v b t)) o q = replayed-replays (push v b t) o
+  stop-fits L (full empty) o q = let z = L .positive in let h = o .1 in absurd (omega arith)
+  stop-fits L (full (push v b t)) o q = replayed-replays (push v b t) (o .0)
+  stop-fits L (back false t) o q =
+      and-both _ _ (replayed-replays t (o .0)) (and-both _ _ (lt-ltb _ _ (o .1)) (and-both _ _ (o .2) (at t (K .choose t .true_open) q)))
+    where
+      at : (u : Stack) (x : Bool) → Quiet (cond x (enter 0 (K .choose t) true t) (rise u)) → (not (is-empty u) || x) ≡ true
+      at empty true h = refl
+      at empty false h = absurd h
+      at (push v b u) x h = refl
+  stop-fits L (back true t) o q =
+      and-both _ _ (replayed-replays t (o .0)) (and-both _ _ (lt-ltb _ _ (o .1)) (and-both _ _ (o .2) (at t q)))
+    where
+      at : (u : Stack) → Quiet (rise u) → not (is-empty u) ≡ true
+      at empty h = absurd h
+      at (push v b u) h = refl
+  stop-fits L over o q = refl
