@@ -40,17 +40,19 @@ module _ (K : Tree) where
   pub at-next : {k : ℕ} {p q : Position} {e : Entry} → 0 < K .size → At k p → Goes K p e q → At (suc k) q
   unfolding behind-after past-all
   at-next {k} {p} {q} {e} z a g = record {
-      ahead = drop-next k (walk K) (a .ahead ∙ g .ahead);
-      shown = ap (past-all (record { mode = 0; trail = [] })) (take-next k (walk K) (a .ahead ∙ g .ahead))
+    ahead = drop-next k (walk K) (a .ahead ∙ g .ahead);
+    shown = ap (past-all (record { mode = 0; trail = [] })) (take-next k (walk K) (a .ahead ∙ g .ahead))
         ∙ past-append (record { mode = 0; trail = [] }) (take k (walk K)) (e ∷ []) ∙ ap (λ (b : Behind). past b e) (a .shown) ∙ past-next K z (g .kind);
-      fine = g .fine }
+    fine = g .fine;
+  }
 
   at-over : {k : ℕ} → At k over → At (suc k) over
   unfolding behind-after rest
   at-over {k} a = record {
-      ahead = drop-none k (walk K) (a .ahead);
-      shown = ap (past-all (record { mode = 0; trail = [] })) (take-none k (walk K) (a .ahead)) ∙ a .shown;
-      fine = tt }
+    ahead = drop-none k (walk K) (a .ahead);
+    shown = ap (past-all (record { mode = 0; trail = [] })) (take-none k (walk K) (a .ahead)) ∙ a .shown;
+    fine = tt;
+  }
 
   -- wherever the plain machine may stand
   pub at-every : Live K → (k : ℕ) → (p : Position) × At k p
@@ -60,6 +62,7 @@ module _ (K : Tree) where
       at : (p : Position) → At k p → (p ≡ over) ⊎ Step K p → (q : Position) × At (suc k) q
       at p a (inl e) = (over, at-over (subst (λ (q : Position). At k q) e a))
       at p a (inr s) = (s .1, at-next (L .positive) a (s .2))
+
       on : (p : Position) × At k p → (q : Position) × At (suc k) q
       on x = at (x .0) (x .1) (step K L (x .0) (x .1 .fine))
 

@@ -43,7 +43,7 @@ pushed-bytes n (push v b t) h w =
     ap (pushed empty) (map-append byte (trail-of t) (record { variable = v; positive = b } ∷ []))
     ∙ pushed-append (map byte (trail-of t)) (byte (record { variable = v; positive = b }) ∷ []) empty
     ∙ ap (λ (u : Stack). push (byte-number (byte (record { variable = v; positive = b })) - 1) (byte-value (byte (record { variable = v; positive = b }))) u)
-      (pushed-bytes n t h (w .1))
+    (pushed-bytes n t h (w .1))
     ∙ byte-back v b t (let q = w .0 in omega arith)
 
 -- what is written is read back
@@ -84,7 +84,7 @@ unfolding trail-of numbered
 numbered-bytes n empty h w = refl
 numbered-bytes n (push v b t) h w =
     rw map-append (numbered-append (map byte (trail-of t)) (byte (record { variable = v; positive = b }) ∷ []) (numbered-bytes n t h (w .1))
-      (and-both _ _ (byte-numbered v b (let q = w .0 in omega arith)) refl))
+    (and-both _ _ (byte-numbered v b (let q = w .0 in omega arith)) refl))
 
 -- what is written is well formed
 pub written-formed : (n m : ℕ) (t : Stack) → n ≤ 48 → m ≤ 4 → depth t ≤ 48 → Below n t → formed (checkpoint-of m (trail-of t)) ≡ true
@@ -94,7 +94,7 @@ written-formed n m t h k d w =
     let e : length (trail-of t) ≡ depth t = length-trail t in
     let p : take (length (trail-of t)) (padded 48 0 (map byte (trail-of t))) ≡ map byte (trail-of t) = rw (← l) (take-padded 48 0 (map byte (trail-of t))) in
     let q : drop (length (trail-of t)) (padded 48 0 (map byte (trail-of t))) ≡ replicate (48 - length (map byte (trail-of t))) 0 =
-          ap (λ (k : ℕ). drop k (padded 48 0 (map byte (trail-of t)))) (sym l) ∙ drop-padded 48 0 (map byte (trail-of t)) in
+    ap (λ (k : ℕ). drop k (padded 48 0 (map byte (trail-of t)))) (sym l) ∙ drop-padded 48 0 (map byte (trail-of t)) in
     let s : length (trail-of t) ≤ 48 = omega arith in
     rw (le-leb m 4 k, le-leb (length (trail-of t)) 48 s, p, q) (and-both _ _ (numbered-bytes n t h w) (zeros-replicate (48 - length (map byte (trail-of t)))))
 
@@ -133,7 +133,7 @@ formed-written c h f =
     let b = and-right (leb (c .length) 48) _ a in
     let l : c .length ≤ 48 = leb-true (c .length) 48 (and-left (leb (c .length) 48) _ a) in
     let d : length (trail-of (read c)) ≡ c .length =
-          length-trail (read c) ∙ pushed-depth (take (c .length) (c .bytes)) empty ∙ omega (arith, length-take (c .length) (c .bytes)) in
+    length-trail (read c) ∙ pushed-depth (take (c .length) (c .bytes)) empty ∙ omega (arith, length-take (c .length) (c .bytes)) in
     let num = and-left (numbered (take (c .length) (c .bytes))) _ b in
     let z = and-right (numbered (take (c .length) (c .bytes))) _ b in
     λ i. record { mode = c .mode; length = d i; bytes = refilled (c .length) (c .bytes) h l num z i }

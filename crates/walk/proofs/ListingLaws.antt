@@ -62,7 +62,7 @@ pub record Splits (K : Tree) (Model : ℕ → Type 0) : Type 0 where
 module _ (K : Tree) (Model : ℕ → Type 0) (P : Splits K Model) where
   listing-split : (d : ℕ) (t : Stack) → models-of (entries K (suc d) t)
       ≡ when (K .choose t .false_open) (models-of (entries K d (push (K .choose t .variable) false t)))
-        ++ when (K .choose t .true_open) (models-of (entries K d (push (K .choose t .variable) true t)))
+      ++ when (K .choose t .true_open) (models-of (entries K d (push (K .choose t .variable) true t)))
   unfolding entries
   listing-split d t = models-append (value-walk (K .choose t .false_open) _ _ _) (value-walk (K .choose t .true_open) _ _ _)
       ∙ ap₂ {C = List ℕ} (λ x y. x ++ y) (models-value (K .choose t .false_open) _ _ _) (models-value (K .choose t .true_open) _ _ _)
@@ -77,14 +77,15 @@ module _ (K : Tree) (Model : ℕ → Type 0) (P : Splits K Model) where
       at (inr n) = absurd (List·Memᴰ·not-nil n)
   listed-model (suc d) t r h a m =
       at (listed-model d (push (K .choose t .variable) false t)) (listed-model d (push (K .choose t .variable) true t))
-        (List·Memᴰ·append-cases (when (K .choose t .false_open) _) (rw (listing-split d t) at m))
+      (List·Memᴰ·append-cases (when (K .choose t .false_open) _) (rw (listing-split d t) at m))
     where
       Sub : Bool → Type 0
       Sub b = Replayed K (push (K .choose t .variable) b t) → d + suc (depth t) ≡ K .size → (a : ℕ)
           → List·Memᴰ a (models-of (entries K d (push (K .choose t .variable) b t))) → Model a × Agrees a (push (K .choose t .variable) b t)
+
       at : Sub false → Sub true
           → List·Memᴰ a (when (K .choose t .false_open) (models-of (entries K d (push (K .choose t .variable) false t))))
-            ⊎ List·Memᴰ a (when (K .choose t .true_open) (models-of (entries K d (push (K .choose t .variable) true t))))
+          ⊎ List·Memᴰ a (when (K .choose t .true_open) (models-of (entries K d (push (K .choose t .variable) true t))))
           → Model a × Agrees a t
       at f g (inl n) =
           let w = when-element (K .choose t .false_open) _ n in
@@ -106,9 +107,11 @@ module _ (K : Tree) (Model : ℕ → Type 0) (P : Splits K Model) where
     where
       sub : (b : Bool) → List ℕ
       sub b = models-of (entries K d (push (K .choose t .variable) b t))
+
       open-at : (b : Bool) → bit a (K .choose t .variable) ≡ b → (x : Bool) → is-open (K .choose t) b ≡ x → is-open (K .choose t) b ≡ true
       open-at b e true o = o
       open-at b e false o = absurd (P .shut t r (omega arith) b o a p (e, g))
+
       value : ((b : Bool) → Lists d (push (K .choose t .variable) b t)) → (b : Bool) → bit a (K .choose t .variable) ≡ b
           → List·Memᴰ a (when (K .choose t .false_open) (sub false) ++ when (K .choose t .true_open) (sub true))
       value ih false e =
@@ -117,7 +120,7 @@ module _ (K : Tree) (Model : ℕ → Type 0) (P : Splits K Model) where
       value ih true e =
           let o = open-at true e (K .choose t .true_open) refl in
           Memᴰ·append-right (when (K .choose t .false_open) (sub false))
-            (element-when (K .choose t .true_open) _ o (ih true (r, omega arith, refl, o) (omega arith) a p (e, g)))
+          (element-when (K .choose t .true_open) _ o (ih true (r, omega arith, refl, o) (omega arith) a p (e, g)))
 
   -- each once
   pub listed-distinct : (d : ℕ) (t : Stack) → Replayed K t → d + depth t ≡ K .size → Distinct (models-of (entries K d t))
@@ -125,14 +128,14 @@ module _ (K : Tree) (Model : ℕ → Type 0) (P : Splits K Model) where
   listed-distinct zero t r h = (λ m. List·Memᴰ·not-nil m, tt)
   listed-distinct (suc d) t r h = rw (listing-split d t)
       (distinct-append (when (K .choose t .false_open) _) (when (K .choose t .true_open) _)
-        (when-distinct (K .choose t .false_open) _ (λ o. listed-distinct d _ (r, omega arith, refl, o) (omega arith)))
-        (when-distinct (K .choose t .true_open) _ (λ o. listed-distinct d _ (r, omega arith, refl, o) (omega arith)))
-        (λ a m₀ m₁.
-          let w₀ = when-element (K .choose t .false_open) _ m₀ in
-          let w₁ = when-element (K .choose t .true_open) _ m₁ in
-          let i₀ = listed-model d (push (K .choose t .variable) false t) (r, omega arith, refl, w₀ .0) (omega arith) a (w₀ .1) in
-          let i₁ = listed-model d (push (K .choose t .variable) true t) (r, omega arith, refl, w₁ .0) (omega arith) a (w₁ .1) in
-          true≢false (sym (i₁ .1 .0) ∙ i₀ .1 .0)))
+      (when-distinct (K .choose t .false_open) _ (λ o. listed-distinct d _ (r, omega arith, refl, o) (omega arith)))
+      (when-distinct (K .choose t .true_open) _ (λ o. listed-distinct d _ (r, omega arith, refl, o) (omega arith)))
+      (λ a m₀ m₁.
+      let w₀ = when-element (K .choose t .false_open) _ m₀ in
+      let w₁ = when-element (K .choose t .true_open) _ m₁ in
+      let i₀ = listed-model d (push (K .choose t .variable) false t) (r, omega arith, refl, w₀ .0) (omega arith) a (w₀ .1) in
+      let i₁ = listed-model d (push (K .choose t .variable) true t) (r, omega arith, refl, w₁ .0) (omega arith) a (w₁ .1) in
+      true≢false (sym (i₁ .1 .0) ∙ i₀ .1 .0)))
 
   walk-models : models-of (walk K) ≡ models-of (entries K (K .size) empty)
   unfolding walk models-of
@@ -140,9 +143,10 @@ module _ (K : Tree) (Model : ℕ → Type 0) (P : Splits K Model) where
 
   -- the walk lists the models and nothing else
   pub walk-lists : (a : ℕ) → List·Memᴰ a (models-of (walk K)) ↔ Model a
-  walk-lists a =
-      ( λ m. listed-model (K .size) empty tt (omega (arith, add-zero (K .size))) a (rw walk-models at m) .0
-      , λ p. rw walk-models (model-listed (K .size) empty tt (omega arith) a p tt) )
+  walk-lists a = (
+    λ m. listed-model (K .size) empty tt (omega (arith, add-zero (K .size))) a (rw walk-models at m) .0,
+    λ p. rw walk-models (model-listed (K .size) empty tt (omega arith) a p tt),
+  )
 
   pub walk-distinct : Distinct (models-of (walk K))
   walk-distinct = rw walk-models (listed-distinct (K .size) empty tt (omega arith))
@@ -153,7 +157,7 @@ module _ (K : Tree) (Model : ℕ → Type 0) (P : Splits K Model) where
   node-model L (suc d) t r h = at (λ b. node-model L d (push (K .choose t .variable) b t)) (K .choose t .false_open) refl
     where
       at : ((b : Bool) → Replayed K (push (K .choose t .variable) b t) → d + suc (depth t) ≡ K .size
-            → (a : ℕ) × Model a × Agrees a (push (K .choose t .variable) b t))
+          → (a : ℕ) × Model a × Agrees a (push (K .choose t .variable) b t))
           → (x : Bool) → K .choose t .false_open ≡ x → (a : ℕ) × Model a × Agrees a t
       at ih true o = let i = ih false (r, omega arith, refl, o) (omega arith) in (i .0, i .1, i .2 .1)
       at ih false o = let i = ih true (r, omega arith, refl, L .alive t r (omega arith) o) (omega arith) in (i .0, i .1, i .2 .1)

@@ -60,10 +60,12 @@ module _ (K : Tree) where
         by-true : ((b : Bool) → Through (push (K .choose t .variable) b t)) → depth t < K .size → K .choose t .true_open ≡ true
             → Met (down (push (K .choose t .variable) true t)) → Done t
         by-true ih h q n = let r′ : Replayed K (push (K .choose t .variable) true t) = (r, h, refl, q) in done-true t r h q (done-back _ true t r′ (ih true r′ n))
+
         after-false : ((b : Bool) → Through (push (K .choose t .variable) b t)) → depth t < K .size → K .choose t .false_open ≡ true
             → Met (back false t) → (x : Bool) → K .choose t .true_open ≡ x → Done t
         after-false ih h o n true q = by-true ih h q (met-next n (r, h, o) (turn-goes K t r h o q))
         after-false ih h o n false q = done-false t r h o q n
+
         by-false : ((b : Bool) → Through (push (K .choose t .variable) b t)) → depth t < K .size → (x : Bool) → K .choose t .false_open ≡ x → Done t
         by-false ih h true o =
             let r′ : Replayed K (push (K .choose t .variable) false t) = (r, h, refl, o) in

@@ -130,6 +130,7 @@ module _ (K : Tree) (L : Live K) (B : ℕ) (cheap : (t : Stack) → Replayed K t
           let k = i .0 .count in
           (rose-up u (suc c) v b t (o .0) (begins-less (i .0 .had)) (omega arith), omega (arith, i .1))
       stepping p x y q c e o (k-end h) m i = elim m [ ]
+
       hitting : (p : Position) (a : ℕ) (q : Position) (c e : ℕ) → Ok K p → rests.Kind K p (model a) q → later K B u c e p
           → HitLater K B u c e (stack-of q) × later K B (stack-of q) 0 0 q
       hitting p a q c e o (k-model {t} h) i =
@@ -138,6 +139,7 @@ module _ (K : Tree) (L : Live K) (B : ℕ) (cheap : (t : Stack) → Replayed K t
           let g = parting (w .variable) (w .at) u t (w .had) (w .has) in
           let d = begins-depth (w .has) in
           ((omega arith, omega arith, subst (λ (m : ℕ). e ≤ m * B) h (i .1)), (refl, refl, refl))
+
       stopping : (p q : Position) (c e : ℕ) → Ok K p → rests.Kind K p end q → later K B u c e p → StopLast K B c e
       stopping p q c e o (k-end (from-full h)) i = absurd (let z = L .positive in omega arith)
       stopping p q c e o (k-end (from-back x h)) i = let k = i .0 .count in (omega arith, i .1)
@@ -153,9 +155,11 @@ module _ (K : Tree) (L : Live K) (B : ℕ) (cheap : (t : Stack) → Replayed K t
       stepping p x y q c e o (k-undo v b (from-full h)) m i = absurd i
       stepping p x y q c e o (k-undo v b (from-back d h)) m i = absurd i
       stepping p x y q c e o (k-end h) m i = elim m [ ]
+
       hitting : (p : Position) (a : ℕ) (q : Position) (c e : ℕ) → Ok K p → rests.Kind K p (model a) q → first K B c e p
           → HitFirst K B c e (stack-of q) × later K B (stack-of q) 0 0 q
       hitting p a q c e o (k-model h) i = ((omega arith, subst (λ (m : ℕ). e ≤ m * B) h (i .1)), (refl, refl, refl))
+
       stopping : (p q : Position) (c e : ℕ) → Ok K p → rests.Kind K p end q → first K B c e p → ⊥
       stopping p q c e o (k-end (from-full h)) i = i
       stopping p q c e o (k-end (from-back x h)) i = i
@@ -163,7 +167,7 @@ module _ (K : Tree) (L : Live K) (B : ℕ) (cheap : (t : Stack) → Replayed K t
   later-after : (a : Answer) (u : Stack) (q : Position) (c e : ℕ) (bs : List ℕ) → Paces K L (later K B u) (later K B) (HitLater K B u) (StopLast K B) a q c e
       → ((u : Stack) (c e : ℕ) → later K B u c e q → PacedLater (K .size) B (trail-bytes u) (gaps-from c e (results K L q bs)))
       → PacedLater (K .size) B (trail-bytes u)
-        (gap-after (kind-of a) c e (shown q .bytes) (λ c′ e′. gaps-from c′ e′ (results K L q bs)))
+      (gap-after (kind-of a) c e (shown q .bytes) (λ c′ e′. gaps-from c′ e′ (results K L q bs)))
   unfolding checkpoint-of
   later-after (found m) u q c e bs h ih = (h .0 .0, h .0 .1, h .0 .2, ih (stack-of q) 0 0 (h .1))
   later-after spent u q c e bs h ih = ih u c e h
@@ -176,7 +180,7 @@ module _ (K : Tree) (L : Live K) (B : ℕ) (cheap : (t : Stack) → Replayed K t
   later-paced (b ∷ bs) p u c e o i =
       let r = resume K b p in
       later-after (r .answer) u (r .position) _ _ bs (call-paces K L _ _ _ _ (later-kept u) b p o c e i)
-        (λ u′ c′ e′ i′. later-paced bs (resume K b p .position) u′ c′ e′ (call-effect K L b p o .fine) i′)
+      (λ u′ c′ e′ i′. later-paced bs (resume K b p .position) u′ c′ e′ (call-effect K L b p o .fine) i′)
 
   first-after : (a : Answer) (q : Position) (c e : ℕ) (bs : List ℕ) → Ok K q → Paces K L (first K B) (later K B) (HitFirst K B) (λ c e. ⊥) a q c e
       → ((c e : ℕ) → first K B c e q → Paced (K .size) B (gaps-from c e (results K L q bs)))
@@ -192,8 +196,8 @@ module _ (K : Tree) (L : Live K) (B : ℕ) (cheap : (t : Stack) → Replayed K t
   first-paced (b ∷ bs) p c e o i =
       let r = resume K b p in
       first-after (r .answer) (r .position) _ _ bs (call-effect K L b p o .fine)
-        (call-paces K L _ _ _ _ first-kept b p o c e i)
-        (λ c′ e′ i′. first-paced bs (resume K b p .position) c′ e′ (call-effect K L b p o .fine) i′)
+      (call-paces K L _ _ _ _ first-kept b p o c e i)
+      (λ c′ e′ i′. first-paced bs (resume K b p .position) c′ e′ (call-effect K L b p o .fine) i′)
 
   -- over all calls together, whatever the budgets
   pub pace : (bs : List ℕ) → Paced (K .size) B (gaps (results K L (down empty) bs))

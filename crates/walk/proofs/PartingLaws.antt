@@ -42,9 +42,10 @@ begins-bytes : (v : ℕ) (b : Bool) (s t : Stack) → Begins (push v b s) t
     → (z : List ℕ) × (trail-bytes t ≡ map byte (trail-of s) ++ (byte (record { variable = v; positive = b }) ∷ z))
 unfolding trail-of padded
 begins-bytes v b s t h =
-    let i = begins-trail h in
-    ( map byte (i .0) ++ replicate (48 - length (map byte (trail-of t))) 0
-    , ap (λ (l : List Literal). map byte l ++ replicate (48 - length (map byte (trail-of t))) 0) (i .1) ∙ simp (map-append, append-assoc) )
+    let i = begins-trail h in (
+      map byte (i .0) ++ replicate (48 - length (map byte (trail-of t))) 0,
+      ap (λ (l : List Literal). map byte l ++ replicate (48 - length (map byte (trail-of t))) 0) (i .1) ∙ simp (map-append, append-assoc),
+    )
 
 common-part : (x : List ℕ) (a b : ℕ) (y z : List ℕ) → (a ≡ b → ⊥) → common (x ++ (a ∷ y)) (x ++ (b ∷ z)) ≡ length x
 unfolding common

@@ -20,11 +20,12 @@ module _ (K : Tree) where
   replays-replayed empty e = tt
   replays-replayed (push v b t) e =
       let x = and-right (replays K t) _ e in
-      let y = and-right (ltb (depth t) (K .size)) _ x in
-      ( replays-replayed t (and-left (replays K t) _ e)
-      , ltb-true _ _ (and-left (ltb (depth t) (K .size)) _ x)
-      , eqb-true _ _ (and-left (eqb v (K .choose t .variable)) _ y)
-      , and-right (eqb v (K .choose t .variable)) _ y )
+      let y = and-right (ltb (depth t) (K .size)) _ x in (
+        replays-replayed t (and-left (replays K t) _ e),
+        ltb-true _ _ (and-left (ltb (depth t) (K .size)) _ x),
+        eqb-true _ _ (and-left (eqb v (K .choose t .variable)) _ y),
+        and-right (eqb v (K .choose t .variable)) _ y,
+      )
 
   pub replayed-replays : (t : Stack) → Replayed K t → replays K t ≡ true
   unfolding replays
@@ -49,6 +50,7 @@ module _ (K : Tree) where
     where
       r : Replayed K (push v b t)
       r = replays-replayed (push v b t) e
+
       at : (x : Bool) → eqb (suc (depth t)) (K .size) ≡ x → Stop 1 (push v b t)
       at true q =
           let h = eqb-true (suc (depth t)) (K .size) q in
@@ -65,7 +67,8 @@ module _ (K : Tree) where
         fine = (replays-replayed t (and-left (replays K t) _ e), ltb-true _ _ (and-left (ltb (depth t) (K .size)) _ x), and-left (K .choose t .false_open) _ y);
         quiet = unfold next in (at (K .choose t .true_open) t (and-right (K .choose t .false_open) _ y));
         mode = refl;
-        stack = refl }
+        stack = refl;
+      }
     where
       at : (x : Bool) (u : Stack) → (not (is-empty u) || x) ≡ true → Quiet (cond x (enter 0 (K .choose t) true t) (rise u))
       at true u h = tt
@@ -79,7 +82,8 @@ module _ (K : Tree) where
         fine = (replays-replayed t (and-left (replays K t) _ e), ltb-true _ _ (and-left (ltb (depth t) (K .size)) _ x), and-left (K .choose t .true_open) _ y);
         quiet = unfold next in (at t (and-right (K .choose t .true_open) _ y));
         mode = refl;
-        stack = refl }
+        stack = refl;
+      }
     where
       at : (u : Stack) → not (is-empty u) ≡ true → Quiet (rise u)
       at empty h = absurd (false≢true h)
