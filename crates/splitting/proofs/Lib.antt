@@ -1,4 +1,5 @@
 pub mod Terms
+pub mod InnerLaws
 pub mod ClauseLaws
 pub mod CountLaws
 pub mod SearchLaws
