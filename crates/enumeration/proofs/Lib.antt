@@ -1,0 +1,4 @@
+pub mod StateLaws
+pub mod NextLaws
+pub mod StepLaws
+pub mod RunLaws

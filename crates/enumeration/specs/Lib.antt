@@ -1,0 +1,2 @@
+pub mod InnerState
+pub mod Values
