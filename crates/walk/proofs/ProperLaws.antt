@@ -10,11 +10,12 @@ use lib.ListN.{length}
 use borrow.Author.Tests.{ltb-true, lt-ltb}
 use Rattle.lists.proofs.TestLaws.{and-left, and-right, and-both, or-cases, or-right}
 use Rattle.formula.specs.Format.{Literal}
+use Rattle.splitting.specs.Terms.{opened}
 use Rattle.walk.specs.Checkpoints.{Checkpoint, checkpoint-of}
 use Rattle.walk.specs.Proper.{at-node, ByChoice, ModeFits, Proper}
 use Rattle.walk.specs.InnerStack.{Stack, empty, push, depth, trail-of, tree}
 use Rattle.walk.specs.InnerMachine.{Position, next}
-use Rattle.walk.specs.InnerTest.{mode-of, stack-of, shown, is-open, is-empty, replays, fits}
+use Rattle.walk.specs.InnerTest.{mode-of, stack-of, shown, is-empty, replays, fits}
 use Rattle.walk.proofs.RestLaws.{Quiet, Replayed, replayed-depth, Ok, Live}
 use Rattle.walk.proofs.PositionLaws.{length-trail}
 use Rattle.walk.proofs.TestLaws.{replayed-replays, fits-stop, stop-fits}
@@ -33,16 +34,16 @@ stacked-trail (l ∷ t) s = stacked-trail t (push (l .variable) (l .positive) s)
 module _ (n : ℕ) (cs : List (List Literal)) where
   -- one literal more
   choice-more : (u t : List Literal) (l : Literal) → ByChoice n cs u t → l .variable ≡ at-node n cs (u ++ t) .variable
-      → is-open (at-node n cs (u ++ t)) (l .positive) ≡ true → ByChoice n cs u (t ++ (l ∷ []))
+      → opened (at-node n cs (u ++ t)) (l .positive) ≡ true → ByChoice n cs u (t ++ (l ∷ []))
   choice-more u [] l h v o =
       let e : u ++ [] ≡ u = append-nil u in
-      (subst (λ (w : List Literal). l .variable ≡ at-node n cs w .variable) e v, subst (λ (w : List Literal). is-open (at-node n cs w) (l .positive) ≡ true) e o, tt)
+      (subst (λ (w : List Literal). l .variable ≡ at-node n cs w .variable) e v, subst (λ (w : List Literal). opened (at-node n cs w) (l .positive) ≡ true) e o, tt)
   choice-more u (k ∷ t) l h v o =
       let e : u ++ (k ∷ t) ≡ (u ++ (k ∷ [])) ++ t = sym (append-assoc u (k ∷ []) t) in (
         h .0,
         h .1,
         choice-more (u ++ (k ∷ [])) t l (h .2) (subst (λ (w : List Literal). l .variable ≡ at-node n cs w .variable) e v)
-            (subst (λ (w : List Literal). is-open (at-node n cs w) (l .positive) ≡ true) e o),
+            (subst (λ (w : List Literal). opened (at-node n cs w) (l .positive) ≡ true) e o),
       )
 
   -- a replayed trail is by choice
