@@ -10,16 +10,26 @@ files NAME0, NAME1, .. Numbers are little-endian. A vector is
     2 bytes   its number: the line of VECTORS, from 1, or from 60,000 for a vector of this script
     2 bytes   the length of its input
     ..        its input
-    ..        its fields, by act
+    6 bytes   the expected answer
+    ..        its own fields, by act
 
-Fields of check, 12 bytes:
+An answer:
 
-    8 bytes   the assignment
-    1 byte    what the answer says: 0 no, 1 yes, 2 neither (refused)
+    1 byte    what it says: 0 no, 1 yes (check), 2 refused, 3 matched (judge)
     1 byte    the refusal's number, else 0
     2 bytes   the refusal's place, else 0
+    1 byte    n, the number of variables, if matched, else 0
+    1 byte    m, the number of clauses, if matched, else 0
 
-A further act is a coder in ACTS, and in the program the act's file names and a reader of its fields.
+Own fields of check, 8 bytes: the assignment.
+
+Own fields of judge, 98 bytes. The lent buffer is the first bytes of an array of 256 bytes:
+
+    1 byte    the length of the buffer
+    1 byte    the fill: what every byte of the array is before the call
+    96 bytes  the first 96 bytes of the array after the call; each later byte must be the fill
+
+A further act is a coder in ACTS, and in the program a case of `Act`, its file names and a reader of its own fields.
 """
 import json
 import pathlib
@@ -28,38 +38,53 @@ import sys
 LIMIT = 65536  # bytes of a file: what the program reads at once
 CASES = pathlib.Path(__file__).resolve().parent.parent / 'crates' / 'cases'
 
-NO, YES, REFUSED = 0, 1, 2
+NO, YES, REFUSED, MATCHED = range(4)
 SAYS = {'no': NO, 'yes': YES, 'refused': REFUSED}
+WRITTEN = 96  # bytes of the array that judge may write
 
 
 def little(x, size):
     return x.to_bytes(size, 'little')
 
 
-def coded(number, given, fields):
-    return little(number, 2) + little(len(given), 2) + given + fields
+def coded(number, given, answer, fields):
+    return little(number, 2) + little(len(given), 2) + given + answer + fields
 
 
-def check_fields(assignment, says, refusal=0, place=0):
-    return little(assignment, 8) + little(says, 1) + little(refusal, 1) + little(place, 2)
+def answer_of(says, refusal=0, place=0, n=0, m=0):
+    return little(says, 1) + little(refusal, 1) + little(place, 2) + little(n, 1) + little(m, 1)
+
+
+def judge_fields(length, fill, written):
+    """The fields of judge; `written` is the first bytes of the buffer after the call, up to the last that may not be the fill."""
+    assert len(written) <= min(length, WRITTEN)
+    return little(length, 1) + little(fill, 1) + written + bytes([fill]) * (WRITTEN - len(written))
 
 
 def check_vector(number, v):
-    refusal, place = v['refusal'] or (0, 0)
-    return coded(number, bytes.fromhex(v['sheet']), check_fields(int(v['setup'], 16), SAYS[v['answer']], refusal, place))
+    answer = answer_of(SAYS[v['answer']], *(v['refusal'] or ()))
+    return coded(number, bytes.fromhex(v['sheet']), answer, little(int(v['setup'], 16), 8))
 
 
-ACTS = {'check': check_vector}
+def judge_vector(number, v):
+    length, fill, after = v['slate_len'], v['slate_fill'], bytes.fromhex(v['slate'])
+    assert len(after) == length and all(b == fill for b in after[WRITTEN:])
+    says, refusal = (REFUSED, v['refusal']) if v['refusal'] else (MATCHED, (0, 0))
+    answer = answer_of(says, *refusal, v['n'], v['m'])
+    return coded(number, bytes.fromhex(v['sheet']), answer, judge_fields(length, fill, after[:WRITTEN]))
 
-# Edge cases of reading, all of the act check: input, assignment, what the answer says, and the refusal's number and place.
-# The answers are written here by hand, from document 01.
+
+ACTS = {'check': check_vector, 'judge': judge_vector}
+
+# Edge cases. The expected answers are written here by hand, from document 01.
 EXAMPLE = '01 02 02 01 02 02 04 03 01 03 02 04 05'
 EMPTY = ' 04'          # an empty clause
 TRUE = ' 02 01 04'     # the clause of variable 1 as true
 WIDE = ''.join(' 02 %02x' % v for v in range(1, 49)) + ' 04'  # the clause that names all of 48 variables
 LONGEST = '01 30' + 96 * WIDE + ' 05'  # 9,315 bytes
 
-EDGES = [
+# check: input, assignment, what the answer says, and the refusal's number and place
+CHECK_EDGES = [
     # document 01's example: clauses (1, 2) and (not 1, not 2)
     (EXAMPLE, 0b00, NO, 0, 0),
     (EXAMPLE, 0b01, YES, 0, 0),
@@ -157,12 +182,88 @@ EDGES = [
     ('01 01 05 00', 1 << 63, REFUSED, 9, 3),
     (LONGEST, 1 << 48, REFUSED, 12, 0),
 ]
-EDGES_FROM = 60000
+
+# judge: input, length of the buffer, fill, what the answer says, the refusal's number and place, n, m, and the first bytes of
+# the buffer after the call; all other bytes keep the fill
+UNMATCHED = '01 01 02 01 04 03 01 04 05'  # document 01's: clauses (1) and (not 1)
+UNREADABLE = '01 02 06'
+REMATCHED = '01 02 02 01 02 02 04 02 01 04 05'  # clauses (1, 2) and (1): the first gives variable 1 to the second
+CHAIN = '01 30' + ''.join(' 02 %02x 02 %02x 04' % (v, v + 1) for v in range(1, 48))  # clauses (1, 2), (2, 3) .. (47, 48)
 
 
-def edge_vectors():
-    for i, (given, *fields) in enumerate(EDGES):
-        yield coded(EDGES_FROM + i, bytes.fromhex(given), check_fields(*fields))
+def in_order(first, last):
+    return ' '.join('%02x' % v for v in range(first, last + 1))
+
+
+JUDGE_EDGES = [
+    # each length of the buffer: a short one is refused before anything is read, and keeps its bytes
+    (EXAMPLE, 0, 0xa5, REFUSED, 1, 0, 0, 0, ''),
+    (EXAMPLE, 1, 0xa5, REFUSED, 1, 0, 0, 0, ''),
+    (EXAMPLE, 95, 0xa5, REFUSED, 1, 0, 0, 0, ''),
+    (EXAMPLE, 96, 0xa5, MATCHED, 0, 0, 2, 2, '01 02'),
+    (EXAMPLE, 97, 0xa5, MATCHED, 0, 0, 2, 2, '01 02'),
+    (EXAMPLE, 200, 0xa5, MATCHED, 0, 0, 2, 2, '01 02'),
+    (EXAMPLE, 255, 0xa5, MATCHED, 0, 0, 2, 2, '01 02'),
+    (UNMATCHED, 0, 0xa5, REFUSED, 1, 0, 0, 0, ''),
+    (UNMATCHED, 1, 0xa5, REFUSED, 1, 0, 0, 0, ''),
+    (UNMATCHED, 95, 0xa5, REFUSED, 1, 0, 0, 0, ''),
+    (UNMATCHED, 96, 0xa5, REFUSED, 10, 2, 0, 0, '01 01'),
+    (UNMATCHED, 97, 0xa5, REFUSED, 10, 2, 0, 0, '01 01'),
+    (UNMATCHED, 200, 0xa5, REFUSED, 10, 2, 0, 0, '01 01'),
+    (UNREADABLE, 0, 0xa5, REFUSED, 1, 0, 0, 0, ''),
+    (UNREADABLE, 1, 0xa5, REFUSED, 1, 0, 0, 0, ''),
+    (UNREADABLE, 95, 0xa5, REFUSED, 1, 0, 0, 0, ''),
+    (UNREADABLE, 96, 0xa5, REFUSED, 3, 2, 0, 0, ''),
+    (UNREADABLE, 97, 0xa5, REFUSED, 3, 2, 0, 0, ''),
+    (UNREADABLE, 200, 0xa5, REFUSED, 3, 2, 0, 0, ''),
+    ('', 0, 0, REFUSED, 1, 0, 0, 0, ''),
+    ('', 96, 0, REFUSED, 2, 0, 0, 0, ''),
+    # no clauses: nothing is written
+    ('01 01 05', 96, 0xff, MATCHED, 0, 0, 1, 0, ''),
+    ('01 30 05', 96, 0xff, MATCHED, 0, 0, 48, 0, ''),
+    # empty clauses: the first is the violator, alone or after a matched clause
+    ('01 01 04 05', 96, 0xff, REFUSED, 10, 1, 0, 0, '01'),
+    ('01 01 02 01 04 04 05', 96, 0xff, REFUSED, 10, 1, 0, 0, '00 01'),
+    ('01 01 04 02 01 04 05', 96, 0xff, REFUSED, 10, 1, 0, 0, '01 00'),
+    # re-matching: a clause of two, a chain that ends at variable 48, and one that has no free end
+    (REMATCHED, 96, 0, MATCHED, 0, 0, 2, 2, '02 01'),
+    (CHAIN + ' 05', 96, 0, MATCHED, 0, 0, 48, 47, in_order(1, 47)),
+    (CHAIN + ' 02 01 04 05', 96, 0, MATCHED, 0, 0, 48, 48, in_order(2, 48) + ' 01'),
+    (CHAIN + ' 02 01 04 02 01 04 05', 96, 0, REFUSED, 10, 2, 0, 0, 47 * '00 ' + '01 01'),
+    (CHAIN + ' 02 01 04 02 30 04 05', 96, 0, REFUSED, 10, 49, 0, 0, 49 * '01 '),
+    # the violator leaves out a clause that the failed search does not reach, and those after it
+    ('01 02 02 01 04 02 02 04 03 02 04 05', 96, 0xff, REFUSED, 10, 2, 0, 0, '00 01 01'),
+    ('01 02 02 01 04 03 01 04 04 02 02 04 05', 96, 0xff, REFUSED, 10, 2, 0, 0, '01 01 00 00'),
+    # as many clauses as variables, one more, and 96, which no 48 variables match: every byte of a buffer of 96 is written
+    ('01 30' + 48 * WIDE + ' 05', 96, 0xff, MATCHED, 0, 0, 48, 48, in_order(1, 48)),
+    ('01 30' + 49 * WIDE + ' 05', 96, 0xff, REFUSED, 10, 49, 0, 0, 49 * '01 '),
+    (LONGEST, 96, 0xff, REFUSED, 10, 49, 0, 0, 49 * '01 ' + 47 * '00 '),
+    (LONGEST, 200, 0xff, REFUSED, 10, 49, 0, 0, 49 * '01 ' + 47 * '00 '),
+    ('01 01' + 96 * EMPTY + ' 05', 97, 0xff, REFUSED, 10, 1, 0, 0, '01' + 95 * ' 00'),
+    ('01 01' + 96 * TRUE + ' 05', 97, 0xff, REFUSED, 10, 2, 0, 0, '01 01' + 94 * ' 00'),
+    # each refusal of reading, with the buffer as it was
+    ('01 02', 96, 0x01, REFUSED, 2, 2, 0, 0, ''),
+    ('01 01 00', 96, 0x01, REFUSED, 3, 2, 0, 0, ''),
+    ('01 01 02 01 05', 96, 0x01, REFUSED, 4, 4, 0, 0, ''),
+    ('01 31 05', 96, 0x01, REFUSED, 5, 0, 0, 0, ''),
+    ('01 01 02 02', 96, 0x01, REFUSED, 6, 2, 0, 0, ''),
+    ('01 02 02 01 03 01 04 05', 96, 0x01, REFUSED, 7, 4, 0, 0, ''),
+    ('01 01' + 97 * EMPTY + ' 05', 96, 0x01, REFUSED, 8, 98, 0, 0, ''),
+    (LONGEST + ' 05', 96, 0x01, REFUSED, 9, 9315, 0, 0, ''),
+]
+
+
+def check_edges():
+    for number, (given, assignment, *answer) in enumerate(CHECK_EDGES, 60000):
+        yield coded(number, bytes.fromhex(given), answer_of(*answer), little(assignment, 8))
+
+
+def judge_edges():
+    for number, (given, length, fill, *answer, written) in enumerate(JUDGE_EDGES, 61000):
+        yield coded(number, bytes.fromhex(given), answer_of(*answer), judge_fields(length, fill, bytes.fromhex(written)))
+
+
+EDGES = {'check': check_edges, 'judge': judge_edges}
 
 
 def files_of(vectors):
@@ -190,11 +291,10 @@ def main():
     for act, found in vectors.items():
         for i, f in enumerate(files_of(found)):
             (data / f'{act}{i}').write_bytes(f)
-        report.append((act, len(found)))
-    edges = list(edge_vectors())
-    (joined,) = files_of(edges)
-    (data / 'edges').write_bytes(joined)
-    report.append(('edges', len(edges)))
+        edges = list(EDGES[act]())
+        (joined,) = files_of(edges)
+        (data / f'{act}_edges').write_bytes(joined)
+        report += [(act, len(found)), (f'{act}_edges', len(edges))]
     (CASES / 'stdout').write_text(''.join(f'{name}: {n} vectors, 0 differences\n' for name, n in report))
     for f in sorted(data.iterdir()):
         print(f'{f.name}: {f.stat().st_size} bytes')

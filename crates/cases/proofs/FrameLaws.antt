@@ -13,7 +13,7 @@ use Rattle.cases.specs.Corpus.{two-bytes, framed}
 
 -- a vector after the offset, with its fields, ends within the file
 pub record Within (s : List ℕ) (at fields : ℕ) (v : Vector) : Type 0 where
-  pub after : at ≤ v .start
+  pub after : at < v .start
   pub ordered : v .start ≤ v .end
   pub whole : v .end + fields ≤ length s
 

@@ -1,4 +1,5 @@
-pub mod AgreeLaws
+pub mod CheckingLaws
 pub mod FrameLaws
+pub mod JudgingLaws
 pub mod RunLaws
 pub mod TotalsLaws

@@ -1,5 +1,5 @@
 // Numbers and vectors in a file of the corpus.
-ghost use Prim.Native.Nat.{_+_, _<_, _≤_, _^_};
+ghost use Prim.Native.Nat.{_+_, _<_, _≤_};
 ghost use mathlib.Core.Path.{_≡_};
 ghost use lib.ListN.{length};
 ghost use Rattle.cases.specs.Corpus.{two-bytes, four-bytes, eight-bytes, framed};

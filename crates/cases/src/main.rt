@@ -2,40 +2,70 @@
 // differ from the expected ones, after a line for each difference, each file that cannot be opened and each that breaks off.
 //
 // A file holds vectors of one act, at most 65,536 bytes of them. Numbers are little-endian. A vector is its number
-// (2 bytes), the length of its input (2 bytes), its input, and its fields. The fields of check are the assignment
-// (8 bytes), what the answer says (1 byte: 0 no, 1 yes, 2 neither), the refusal's number (1 byte) and its place (2 bytes).
+// (2 bytes), the length of its input (2 bytes), its input, the expected answer and the act's own fields. An answer is what it
+// says (1 byte: 0 no, 1 yes, 2 refused, 3 matched), the refusal's number (1 byte) and its place (2 bytes), and the numbers of
+// variables and of clauses of a matched formula (1 byte each). Check's own field is the assignment (8 bytes); judge's are the
+// length of the lent buffer (1 byte), the fill (1 byte) and the first 96 bytes after the call. The buffer is the first bytes of an
+// array of 256, which has the fill everywhere before the call and from byte 96 on after it.
 // tools/corpus.py writes the files.
 mod answers;
+mod checking;
 mod corpus;
+mod judging;
 mod report;
+mod runs;
 mod totals;
 
-ghost use Rattle.cases.specs.Answers.{OfFile};
-use answers::check_all;
+ghost use Rattle.cases.specs.Runs.{AfterFile};
+ghost use Rattle.cases.specs.Totals.{Room};
+use runs::Act;
+use runs::run_all;
 use totals::Totals;
 
-// The vectors of one file of check.
-fn run_check(name: &[u8]) -> Totals
-    ensures { λ r. ⌜ OfFile r ⌝ }
+// The vectors of one file, counted on from the totals so far.
+fn run_file(t: Totals, name: &[u8], act: Act) -> Totals
+    requires { ⌜ Room 65536 t ⌝ }
+    ensures { λ r. ⌜ AfterFile act t r ⌝ }
 {
     let file = os::open_read(name);
     if file < 0 {
         report::unopened(name);
-        return totals::none();
+        return t;
     }
     let mut buffer = io::large_buffer();
     let n = io::read_full(file, &mut buffer);
     libc::close(file);
-    let run = check_all(&buffer[..n]);
+    let run = run_all(&buffer[..n], act, t);
     if run.at < n {
         report::broken(name, run.at);
     }
     run.totals
 }
 
+fn run_check() {
+    let mut t = run_file(totals::none(), b"check0", Act::Check);
+    t = run_file(t, b"check1", Act::Check);
+    report::summary(b"check", t);
+    report::summary(
+        b"check_edges",
+        run_file(totals::none(), b"check_edges", Act::Check),
+    );
+}
+
+fn run_judge() {
+    let mut t = run_file(totals::none(), b"judge0", Act::Judge);
+    t = run_file(t, b"judge1", Act::Judge);
+    t = run_file(t, b"judge2", Act::Judge);
+    t = run_file(t, b"judge3", Act::Judge);
+    t = run_file(t, b"judge4", Act::Judge);
+    report::summary(b"judge", t);
+    report::summary(
+        b"judge_edges",
+        run_file(totals::none(), b"judge_edges", Act::Judge),
+    );
+}
+
 fn main() {
-    let first = run_check(b"check0");
-    let second = run_check(b"check1");
-    report::summary(b"check", totals::sum(first, second));
-    report::summary(b"edges", run_check(b"edges"));
+    run_check();
+    run_judge();
 }

@@ -1,5 +1,6 @@
 // The lines that the program prints.
 use crate::answers::Answer;
+use crate::corpus::wide;
 use crate::totals::Totals;
 use libc::STDOUT_FILENO;
 
@@ -16,6 +17,7 @@ fn says(n: u64) {
         0 => text(b"no"),
         1 => text(b"yes"),
         2 => text(b"refused"),
+        3 => text(b"matched"),
         _ => text(b"unknown"),
     }
 }
@@ -26,9 +28,13 @@ fn answer(a: Answer) {
     number(a.number);
     text(b" ");
     number(a.place);
+    text(b" ");
+    number(a.variables);
+    text(b" ");
+    number(a.clauses);
 }
 
-// A vector whose answer is not the expected one.
+// A vector whose answer, or whose buffer after the call, is not the expected one.
 pub fn difference(vector: u64, wanted: Answer, got: Answer) {
     text(b"vector ");
     number(vector);
@@ -36,6 +42,17 @@ pub fn difference(vector: u64, wanted: Answer, got: Answer) {
     answer(wanted);
     text(b", got ");
     answer(got);
+    text(b"\n");
+}
+
+// The first wrong byte of that buffer, from 0.
+pub fn wrong_byte(at: usize, wanted: u8, got: u8) {
+    text(b"  byte ");
+    number(at as u64);
+    text(b": expected ");
+    number(wide(wanted));
+    text(b", got ");
+    number(wide(got));
     text(b"\n");
 }
 

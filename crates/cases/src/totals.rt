@@ -1,7 +1,6 @@
 // How many vectors were run, and how many answers differed.
-ghost use Prim.Native.Nat.{_+_, _<_, _≤_, _^_};
 ghost use mathlib.Core.Path.{_≡_};
-ghost use Rattle.cases.specs.Totals.{nothing, counted, added};
+ghost use Rattle.cases.specs.Totals.{counted, Room};
 
 pub struct Totals {
     pub vectors: u64,
@@ -9,7 +8,7 @@ pub struct Totals {
 }
 
 pub fn none() -> Totals
-    ensures { λ r. ⌜ r ≡ nothing ⌝ }
+    ensures { λ r. ⌜ (r .vectors ≡ 0) × (r .differences ≡ 0) ⌝ }
 {
     Totals {
         vectors: 0,
@@ -19,7 +18,7 @@ pub fn none() -> Totals
 
 // One vector more, whose answer is the expected one or differs.
 pub fn count(t: Totals, agrees: bool) -> Totals
-    requires { ⌜ (t .vectors + 1 < 2 ^ 64) × (t .differences + 1 < 2 ^ 64) ⌝ }
+    requires { ⌜ Room 1 t ⌝ }
     ensures { λ r. ⌜ r ≡ counted t agrees ⌝ }
 {
     if agrees {
@@ -32,15 +31,5 @@ pub fn count(t: Totals, agrees: bool) -> Totals
             vectors: t.vectors + 1,
             differences: t.differences + 1,
         }
-    }
-}
-
-pub fn sum(a: Totals, b: Totals) -> Totals
-    requires { ⌜ (a .vectors + b .vectors < 2 ^ 64) × (a .differences + b .differences < 2 ^ 64) ⌝ }
-    ensures { λ r. ⌜ r ≡ added a b ⌝ }
-{
-    Totals {
-        vectors: a.vectors + b.vectors,
-        differences: a.differences + b.differences,
     }
 }

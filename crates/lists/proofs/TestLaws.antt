@@ -30,6 +30,16 @@ pub or-none : (x y : Bool) → x || y ≡ false → (x ≡ false) × (y ≡ fals
 or-none true y e = (e, cc)
 or-none false y e = (refl, e)
 
+-- a disjunction holds where its second part does
+pub or-right : (x y : Bool) → y ≡ true → x || y ≡ true
+or-right true y e = refl
+or-right false y e = e
+
+-- of a disjunction that fails both parts fail
+pub or-false : (x y : Bool) → x || y ≡ false → (x ≡ false) × (y ≡ false)
+or-false true y e = (e, cc)
+or-false false y e = (refl, e)
+
 -- the last two of three may be swapped
 pub or-swap : (x y z : Bool) → (x || z) || y ≡ (x || y) || z
 or-swap true y z = refl

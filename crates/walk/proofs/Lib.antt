@@ -5,7 +5,14 @@ pub mod AgreeLaws
 pub mod ListingLaws
 pub mod CallLaws
 pub mod PartingLaws
+pub mod CostLaws
 pub mod PaceLaws
 pub mod MetLaws
 pub mod TestLaws
 pub mod ByteLaws
+pub mod AcceptLaws
+pub mod AssignmentLaws
+pub mod TreeLaws
+pub mod FormulaLaws
+pub mod RefusalLaws
+pub mod Demands

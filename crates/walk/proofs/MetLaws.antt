@@ -147,6 +147,17 @@ module _ (K : Tree) where
         at true = tt
         at false = tt
 
+    -- on budget 0 nothing is done where a variable is left to assign
+    pub down-spent : (t : Stack) → depth t < K .size → resume K 0 (down t) ≡ halted spent (down t)
+    unfolding resume next
+    down-spent t h = rw (ne-eqb (depth t) (K .size) (λ e. omega arith)) (at (K .choose t .false_open))
+      where
+        at : (x : Bool)
+            → onward (down t) (cond x (enter (K .choose t .expansions) (K .choose t) false t) (enter (K .choose t .expansions) (K .choose t) true t)) (λ e q. halted spent (down t))
+              ≡ halted spent (down t)
+        at true = refl
+        at false = refl
+
     start-got : Got (down empty)
     unfolding last-position
     start-got = ([], refl)

@@ -18,6 +18,7 @@ use Rattle.walk.specs.InnerTest.{stack-of, shown}
 use Rattle.walk.proofs.RestLaws.{Replayed, replayed-depth, Ok, Live, Rising, from-full, from-back, k-model, k-assign, k-turn, k-undo, k-end, Goes}
 use Rattle.walk.proofs.RestLaws as rests
 use Rattle.walk.proofs.CallLaws.{Steps, s-assign, s-undo, call-ind, call-effect, resumes, results}
+use Rattle.walk.proofs.CostLaws.{step-cheap}
 use Rattle.walk.proofs.PartingLaws.{trail-bytes, Begins, b-same, b-more, begins-less, begins-depth, parting}
 
 -- A property Now of steps, expansions and position that every step keeps; Hit of the numbers and of the trail at a model, Stop at the
@@ -86,15 +87,7 @@ module _ (K : Tree) (B : ℕ) where
   abbrev StopLast : ℕ → ℕ → Type 0
   StopLast c e = (c ≡ K .size) × (e ≡ 0)
 
-module _ (K : Tree) (L : Live K) (B : ℕ) (cheap : (t : Stack) → Replayed K t → depth t < K .size → K .choose t .expansions ≤ B) where
-  pub step-cheap : (c : Choice) (b : Bool) → c .expansions ≤ B → step-expansions c b ≤ B
-  step-cheap c false h = h
-  step-cheap c true h = at (c .false_open)
-    where
-      at : (x : Bool) → cond x 0 (c .expansions) ≤ B
-      at true = omega arith
-      at false = h
-
+module _ (K : Tree) (L : Live K) (B : ℕ) (cheap : (t : Stack) → K .choose t .expansions ≤ B) where
   rose-up : (u : Stack) (c v : ℕ) (b : Bool) (t : Stack) → Replayed K (push v b t) → Begins (push v b t) u → c + depth t ≡ K .size → Rose K B u c b t
   rose-up u c v b t r h n = record { had = subst (λ (x : ℕ). Begins (push x b t) u) (r .2) h; count = n }
 
@@ -116,12 +109,12 @@ module _ (K : Tree) (L : Live K) (B : ℕ) (cheap : (t : Stack) → Replayed K t
       stepping : (p : Position) (x : Entry) (y : ℕ) (q : Position) (c e : ℕ) → Ok K p → rests.Kind K p x q → Steps x y → later K B u c e p → later K B u (suc c) (e + y) q
       stepping p x y q c e o (k-model h) m i = elim m [ ]
       stepping p x y q c e o (k-assign {t} b h) (s-assign l y′) i =
-          let z = step-cheap (K .choose t) b (cheap t o h) in
+          let z = step-cheap B (K .choose t) b (cheap t) in
           let w = i .0 in
           let k = w .count in
           (record { at = w .at; variable = w .variable; had = w .had; has = b-more _ b (w .has); count = omega arith }, omega (arith, suc-mul (depth t) B, i .1))
       stepping p x y q c e o (k-turn {t} h) (s-assign l y′) i =
-          let z = step-cheap (K .choose t) true (cheap t (o .0) h) in
+          let z = step-cheap B (K .choose t) true (cheap t) in
           let k = i .0 .count in
           (record { at = t; variable = K .choose t .variable; had = i .0 .had; has = b-same; count = omega arith }, omega (arith, suc-mul (depth t) B, i .1))
       stepping p x y q c e o (k-undo v b {t} (from-full h)) s-undo i =
@@ -150,7 +143,7 @@ module _ (K : Tree) (L : Live K) (B : ℕ) (cheap : (t : Stack) → Replayed K t
       stepping : (p : Position) (x : Entry) (y : ℕ) (q : Position) (c e : ℕ) → Ok K p → rests.Kind K p x q → Steps x y → first K B c e p → first K B (suc c) (e + y) q
       stepping p x y q c e o (k-model h) m i = elim m [ ]
       stepping p x y q c e o (k-assign {t} b h) (s-assign l y′) i =
-          let z = step-cheap (K .choose t) b (cheap t o h) in (omega arith, omega (arith, suc-mul (depth t) B))
+          let z = step-cheap B (K .choose t) b (cheap t) in (omega arith, omega (arith, suc-mul (depth t) B))
       stepping p x y q c e o (k-turn h) m i = absurd i
       stepping p x y q c e o (k-undo v b (from-full h)) m i = absurd i
       stepping p x y q c e o (k-undo v b (from-back d h)) m i = absurd i

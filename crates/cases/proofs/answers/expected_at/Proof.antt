@@ -1,10 +1,7 @@
--- `expected_at`: the three fields, each as its reader gives it.
+-- `expected_at`: the fields, each as its reader gives it.
 use borrow.Author.Needs.{needs}
 use Rattle.cases.proofs.answers.expected_at.Statement.{statement}
 use Rattle.cases.proofs.answers.expected_at.Tie as tie
-
-add-wide : tie.Need-add-wide
-add-wide c = search needs
 
 shared-slice-read-wide : tie.Need-shared-slice-read-wide
 shared-slice-read-wide c = search needs
@@ -12,8 +9,8 @@ shared-slice-read-wide c = search needs
 wide-requires : tie.Need-wide-requires
 wide-requires c κs = search needs
 
-add-wide-2 : tie.Need-add-wide-2
-add-wide-2 c = search needs
+add-wide : tie.Need-add-wide
+add-wide c = search needs
 
 shared-slice-read-wide-2 : tie.Need-shared-slice-read-wide-2
 shared-slice-read-wide-2 c = search needs
@@ -27,19 +24,49 @@ add-two-bytes c = search needs
 two-bytes-requires : tie.Need-two-bytes-requires
 two-bytes-requires c κs = search needs
 
+add-wide-2 : tie.Need-add-wide-2
+add-wide-2 c = search needs
+
+shared-slice-read-wide-3 : tie.Need-shared-slice-read-wide-3
+shared-slice-read-wide-3 c = search needs
+
+wide-requires-3 : tie.Need-wide-requires-3
+wide-requires-3 c κs = search needs
+
+add-wide-3 : tie.Need-add-wide-3
+add-wide-3 c = search needs
+
+shared-slice-read-wide-4 : tie.Need-shared-slice-read-wide-4
+shared-slice-read-wide-4 c = search needs
+
+wide-requires-4 : tie.Need-wide-requires-4
+wide-requires-4 c κs = search needs
+
 returns : tie.Need-returns
-returns c = rw (c .before .before .before .wide .ensures .0, c .before .wide2 .ensures .0, c .two-bytes .ensures .0)
+returns c =
+    rw (
+      c .before .before .before .before .before .before .before .wide .ensures .0,
+      c .before .before .before .before .before .wide2 .ensures .0,
+      c .before .before .before .before .two-bytes .ensures .0,
+      c .before .before .wide3 .ensures .0,
+      c .wide4 .ensures .0,
+    )
 
 pub expected-at-spec : {M : Type 1} → statement M
 expected-at-spec =
     tie.close
     (tie.spec
-    add-wide
     shared-slice-read-wide
     wide-requires
-    add-wide-2
+    add-wide
     shared-slice-read-wide-2
     wide-requires-2
     add-two-bytes
     two-bytes-requires
+    add-wide-2
+    shared-slice-read-wide-3
+    wide-requires-3
+    add-wide-3
+    shared-slice-read-wide-4
+    wide-requires-4
     returns)

@@ -1,9 +1,24 @@
--- `check_vector`: the comparison is that of `agrees`, since each side is what its function ensures.
-use mathlib.Core.Path.{sym, _∙_}
-use Rattle.cases.proofs.AgreeLaws.{compared}
+-- `check_vector`: the comparison is that of `check-agrees`, since each side is what its function ensures.
+use mathlib.Core.Path.{_≡_, sym, _∙_}
+use Rattle.cases.specs.Checking.{check-agrees}
+use Rattle.cases.proofs.CheckingLaws.{compared}
 use borrow.Author.Needs.{needs}
-use Rattle.cases.proofs.answers.check_vector.Statement.{statement}
-use Rattle.cases.proofs.answers.check_vector.Tie as tie
+use Rattle.cases.proofs.checking.check_vector.Statement.{statement}
+use Rattle.cases.proofs.checking.check_vector.Tie as tie
+
+-- what the comparison gives
+told :
+    (c : tie.After-equal) →
+    c .equal .result ≡
+    check-agrees (c .before .before .before .before .before .before .before .args .bytes .now)
+    (c .before .before .before .before .before .before .before .args .v)
+told c =
+    c .equal .ensures
+    ∙ compared _ _ _ _ _ _
+    (c .before .before .before .before .before .expected-at .ensures)
+    (c .before .answer-of .ensures)
+    (c .before .before .check .ensures)
+    (c .before .before .before .eight-bytes .ensures)
 
 expected-at-requires : tie.Need-expected-at-requires
 expected-at-requires c κs = search needs
@@ -16,6 +31,9 @@ part-check-start c = search needs
 
 part-check-end : tie.Need-part-check-end
 part-check-end c = search needs
+
+add-eight-bytes : tie.Need-add-eight-bytes
+add-eight-bytes c = search needs
 
 eight-bytes-requires : tie.Need-eight-bytes-requires
 eight-bytes-requires c κs = search needs
@@ -30,25 +48,13 @@ equal-requires : tie.Need-equal-requires
 equal-requires c κs = search needs
 
 returns : tie.Need-returns
-returns c =
-    sym (c .if1 .taken) ∙ c .before .equal .ensures
-    ∙ compared _ _ _ _ _ _
-    (c .before .before .before .before .before .before .expected-at .ensures)
-    (c .before .before .answer-of .ensures)
-    (c .before .before .before .check .ensures)
-    (c .before .before .before .before .eight-bytes .ensures)
+returns c = sym (c .if1 .taken) ∙ told (c .before)
 
 difference-requires : tie.Need-difference-requires
 difference-requires c κs = search needs
 
 returns-2 : tie.Need-returns-2
-returns-2 c =
-    sym (c .before .if1 .left) ∙ c .before .before .equal .ensures
-    ∙ compared _ _ _ _ _ _
-    (c .before .before .before .before .before .before .before .expected-at .ensures)
-    (c .before .before .before .answer-of .ensures)
-    (c .before .before .before .before .check .ensures)
-    (c .before .before .before .before .before .eight-bytes .ensures)
+returns-2 c = sym (c .before .if1 .left) ∙ told (c .before .before)
 
 pub check-vector-spec : {M : Type 1} → statement M
 check-vector-spec =
@@ -58,6 +64,7 @@ check-vector-spec =
     sub-check
     part-check-start
     part-check-end
+    add-eight-bytes
     eight-bytes-requires
     check-requires
     answer-of-requires

@@ -1,5 +1,5 @@
--- Laws of `agrees`: from the answers that were compared.
-use Prim.Native.Nat.{ℕ, _-_}
+-- The law of `check-agrees`: from the answers that were compared.
+use Prim.Native.Nat.{ℕ, _+_, _-_}
 use mathlib.Core.List.{List}
 use mathlib.Core.Path.{_≡_}
 use lib.ListN.{take, drop}
@@ -7,7 +7,8 @@ use Rattle.formula.specs.Check.{checked}
 use Rattle.formula.specs.Check.{Answer as Values}
 use Rattle.cases.specs.declared.answers.Answer.{Answer}
 use Rattle.cases.specs.declared.corpus.Vector.{Vector}
-use Rattle.cases.specs.Answers.{written, expected, same, agrees}
+use Rattle.cases.specs.Answers.{expected, same}
+use Rattle.cases.specs.Checking.{written, check-agrees}
 use Rattle.cases.specs.Corpus.{eight-bytes}
 
 pub compared :
@@ -15,6 +16,6 @@ pub compared :
     wanted ≡ expected s (v .end) →
     got ≡ written values →
     values ≡ checked (take (v .end - v .start) (drop (v .start) s)) assignment →
-    assignment ≡ eight-bytes s (v .end) → same wanted got ≡ agrees s v
-unfolding agrees
+    assignment ≡ eight-bytes s (v .end + 6) → same wanted got ≡ check-agrees s v
+unfolding check-agrees
 compared s v wanted got values assignment w g e a = rw (w, g, e, a)

@@ -1,0 +1,72 @@
+-- Laws of `judged`, `first-wrong` and `judge-agrees`.
+use Prim.Native.Nat.{ℕ, suc, _+_, _-_, _<_, _≤_}
+use mathlib.Core.List.{List, _++_}
+use mathlib.Core.Path.{_≡_, refl}
+use native.Mathlib.Omega.{arith}
+use borrow.Author.Tests.{eq-eqb, ne-eqb}
+use lib.ListN.{getD, take, drop}
+use Rattle.formula.specs.declared.Refusal.{Refusal}
+use Rattle.formula.specs.declared.Refusal.the-variants.{ShortBuffer, Truncated, UnknownKind, Misplaced, BadVariableCount, NoSuchVariable, RepeatedVariable, TooManyClauses, TrailingByte, Unmatched, ForeignCheckpoint, StrayVariable}
+use Rattle.formula.specs.Refusals.{listing}
+use Rattle.matched.specs.Judge.{judge}
+use Rattle.matched.specs.Judge.{Answer as Values}
+use Rattle.cases.specs.declared.answers.Answer.{Answer}
+use Rattle.cases.specs.declared.corpus.Vector.{Vector}
+use Rattle.cases.specs.declared.judging.Judged.{Judged}
+use Rattle.cases.specs.Answers.{expected}
+use Rattle.cases.specs.Judging.{code, written, filled, judged, wanted-byte, first-wrong, alike, judge-agrees}
+
+-- every refusal has a number
+pub refusal-code : (r : Refusal) → code (listing r .number) ≡ 2
+refusal-code (ShortBuffer p) = refl
+refusal-code (Truncated p) = refl
+refusal-code (UnknownKind p) = refl
+refusal-code (Misplaced p) = refl
+refusal-code (BadVariableCount p) = refl
+refusal-code (NoSuchVariable p) = refl
+refusal-code (RepeatedVariable p) = refl
+refusal-code (TooManyClauses p) = refl
+refusal-code (TrailingByte p) = refl
+refusal-code (Unmatched p) = refl
+refusal-code (ForeignCheckpoint p) = refl
+refusal-code (StrayVariable p) = refl
+
+-- what the call gives, from what its parts give
+pub judged-of :
+    (s array buffer : List ℕ) (size fill : ℕ) (values : Values) (answer : Answer) →
+    array ≡ filled fill →
+    answer ≡ written values →
+    values ≡ judge s (take size array) .answer →
+    buffer ≡ judge s (take size array) .buffer →
+    record { answer = answer; array = buffer ++ drop size array } ≡ judged s size fill
+unfolding judged
+judged-of s array buffer size fill values answer f a v b = rw (a, v, b, f)
+
+-- the comparison is that of `judge-agrees`, since each side is what its function ensures
+pub compared :
+    (s : List ℕ) (v : Vector) (wanted : Answer) (size : ℕ) (got : Judged) (wrong : ℕ) →
+    wanted ≡ expected s (v .end) →
+    size ≡ getD s (v .end + 6) 0 →
+    got ≡ judged (take (v .end - v .start) (drop (v .start) s)) size (getD s (v .end + 7) 0) →
+    wrong ≡ first-wrong s (v .end + 8) (getD s (v .end + 7) 0) (got .array) 256 0 →
+    alike wanted (got .answer) wrong ≡ judge-agrees s v
+unfolding judge-agrees
+compared s v wanted size got wrong w z g f = rw (w, f, g, z)
+
+-- after the last byte
+pub none-wrong : (s : List ℕ) (at fill : ℕ) (array : List ℕ) (n i : ℕ) → n ≤ i → first-wrong s at fill array (n - i) i ≡ i
+unfolding first-wrong
+none-wrong s at fill array n i h = let e : n - i ≡ 0 = omega arith in rw e
+
+module _ (s : List ℕ) (at fill : ℕ) (array : List ℕ) (n i : ℕ) (h : i < n) where
+  -- a wrong byte is the first
+  pub wrong-here : (getD array i 0 ≡ wanted-byte s at fill i → ⊥) → first-wrong s at fill array (n - i) i ≡ i
+  unfolding first-wrong
+  wrong-here d = let e : n - i ≡ suc (n - (i + 1)) = omega arith in rw (e, ne-eqb _ _ d)
+
+  -- past a right byte
+  pub right-here :
+      getD array i 0 ≡ wanted-byte s at fill i →
+      first-wrong s at fill array (n - i) i ≡ first-wrong s at fill array (n - (i + 1)) (i + 1)
+  unfolding first-wrong
+  right-here d = let e : n - i ≡ suc (n - (i + 1)) = omega arith in rw (e, eq-eqb _ _ d)

@@ -1,0 +1,49 @@
+-- The vectors of a file, each by its act.
+use Prim.Native.Nat.{ℕ, zero, suc, _+_}
+use mathlib.Core.Bool.{Bool, cond}
+use mathlib.Core.List.{List}
+use mathlib.Core.Path.{_≡_}
+use lib.Dec.{ltb}
+use lib.ListN.{length}
+use Rattle.cases.specs.declared.corpus.Vector.{Vector}
+use Rattle.cases.specs.declared.corpus.Framed.the-variants.{Whole, Broken}
+use Rattle.cases.specs.declared.runs.Act.{Act}
+use Rattle.cases.specs.declared.runs.Act.the-variants.{Check, Judge}
+use Rattle.cases.specs.declared.runs.Run.{Run}
+use Rattle.cases.specs.declared.totals.Totals.{Totals}
+use Rattle.cases.specs.Checking.{check-agrees}
+use Rattle.cases.specs.Corpus.{framed}
+use Rattle.cases.specs.Judging.{judge-agrees}
+use Rattle.cases.specs.Totals.{counted, Grown}
+
+-- the size of the fields of an act's vector
+abbrev pub size-of : Act → ℕ
+size-of Check = 14
+size-of Judge = 104
+
+-- the act gives what the vector expects
+abbrev pub agrees : Act → List ℕ → Vector → Bool
+agrees Check s v = check-agrees s v
+agrees Judge s v = judge-agrees s v
+
+-- the vectors from an offset on, up to the end or to one that runs past it. The first number is at least the count of the
+-- bytes that are left.
+unfoldable pub run-from : ℕ → Act → List ℕ → ℕ → Totals → Run
+run-from zero act s at t = record { at = at; totals = t }
+run-from (suc k) act s at t =
+    cond (ltb at (length s))
+    (elim (framed s at (size-of act)) [
+      | Whole v ↦ run-from k act s (v .end + size-of act) (counted t (agrees act s v))
+      | Broken ↦ record { at = at; totals = t }
+    ])
+    (record { at = at; totals = t })
+
+-- all vectors, counted on from totals
+unfoldable pub run-of : Act → List ℕ → Totals → Run
+run-of act s t = run-from (length s) act s 0 t
+
+-- from t to r by a file: by some bytes, since no contract can say which a file has
+pub record AfterFile (act : Act) (t r : Totals) : Type 0 where
+  pub bytes : List ℕ
+  pub totals : r ≡ run-of act bytes t .totals
+  pub grown : Grown 65536 t r

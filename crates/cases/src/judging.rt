@@ -1,0 +1,115 @@
+// The vectors of judge: each answer and the lent buffer compared with the expected ones.
+ghost use Prim.Native.Nat.{_+_, _≤_};
+ghost use mathlib.Core.Path.{_≡_};
+ghost use lib.ListN.{length, replicate};
+ghost use Rattle.matched.specs.Judge.{values};
+ghost use Rattle.cases.specs.Judging.{written, judged, wanted-byte, first-wrong, alike, judge-agrees};
+use crate::answers::Answer;
+use crate::answers::equal;
+use crate::answers::expected_at;
+use crate::answers::refusal_answer;
+use crate::corpus::Vector;
+use crate::corpus::wide;
+use crate::report;
+use matched::Judgement;
+
+// What a call gives: its answer, and the array whose first bytes were lent as the buffer.
+pub struct Judged {
+    pub answer: Answer,
+    pub array: [u8; 256],
+}
+
+fn answer_of(j: Judgement) -> Answer
+    ensures { λ r. ⌜ r ≡ written (values j) ⌝ }
+{
+    match j {
+        Judgement::Accepted(n, m) => Answer {
+            says: 3,
+            number: 0,
+            place: 0,
+            variables: n as u64,
+            clauses: m as u64,
+        },
+        Judgement::Refused(refusal) => refusal_answer(refusal),
+    }
+}
+
+fn filled(fill: u8) -> [u8; 256]
+    ensures { λ r. ⌜ r ≡ replicate 256 fill ⌝ }
+{
+    [fill; 256]
+}
+
+// Judges an input, with a filled buffer of the given size.
+fn judge_filled(input: &[u8], size: usize, fill: u8) -> Judged
+    requires { ⌜ size ≤ 256 ⌝ }
+    ensures { λ r. ⌜ r ≡ judged (now (input .entry)) size fill ⌝ }
+{
+    let mut array = filled(fill);
+    let answer = answer_of(matched::find_matching(input, &mut array[..size]));
+    Judged { answer, array }
+}
+
+// The byte that the array must have at i: the first 96 stand from an offset on, and the others are the fill.
+fn wanted_byte(bytes: &[u8], at: usize, fill: u8, i: usize) -> u8
+    requires { ⌜ at + 96 ≤ length (now bytes) ⌝ }
+    ensures { λ r. ⌜ r ≡ wanted-byte (now (bytes .entry)) at fill i ⌝ }
+{
+    if i < 96 {
+        return bytes[at + i];
+    }
+    fill
+}
+
+// Where the array first has another byte than it must; 256 if nowhere.
+fn first_wrong(bytes: &[u8], at: usize, fill: u8, array: [u8; 256]) -> usize
+    requires { ⌜ at + 96 ≤ length (now bytes) ⌝ }
+    ensures { λ r. ⌜ r ≡ first-wrong (now (bytes .entry)) at fill array 256 0 ⌝ }
+{
+    let mut i: usize = 0;
+    while i < 256 {
+        if array[i] != wanted_byte(bytes, at, fill, i) {
+            return i;
+        }
+        i += 1;
+    }
+    i
+}
+
+// The answers are the same, and the array is wrong nowhere.
+fn agree(wanted: Answer, got: Answer, wrong: usize) -> bool
+    ensures { λ r. ⌜ r ≡ alike wanted got wrong ⌝ }
+{
+    if equal(wanted, got) {
+        return wrong == 256;
+    }
+    false
+}
+
+// Whether judge gives the expected answer and leaves the expected bytes; a difference is printed.
+pub fn judge_vector(bytes: &[u8], v: Vector) -> bool
+    requires { ⌜ (v .start ≤ v .end) × (v .end + 104 ≤ length (now bytes)) ⌝ }
+    ensures { λ r. ⌜ r ≡ judge-agrees (now (bytes .entry)) v ⌝ }
+{
+    let start = v.start;
+    let end = v.end;
+    let wanted = expected_at(bytes, end);
+    let size = wide(bytes[end + 6]) as usize;
+    let fill = bytes[end + 7];
+    let got = judge_filled(&bytes[start..end], size, fill);
+    let answer = got.answer;
+    let array = got.array;
+    let wrong = first_wrong(bytes, end + 8, fill, array);
+    if agree(wanted, answer, wrong) {
+        return true;
+    }
+    report::difference(v.number, wanted, answer);
+    if wrong < 256 {
+        report::wrong_byte(
+            wrong,
+            wanted_byte(bytes, end + 8, fill, wrong),
+            array[wrong],
+        );
+    }
+    false
+}

@@ -1,0 +1,68 @@
+// The vectors of a file, each by its act.
+ghost use Prim.Native.Nat.{_+_, _≤_};
+ghost use mathlib.Core.Path.{_≡_};
+ghost use lib.ListN.{length};
+ghost use Rattle.cases.specs.Runs.{size-of, agrees, run-of};
+ghost use Rattle.cases.specs.Totals.{Room, Grown};
+use crate::checking::check_vector;
+use crate::corpus::Framed;
+use crate::corpus::Vector;
+use crate::corpus::frame;
+use crate::judging::judge_vector;
+use crate::totals;
+use crate::totals::Totals;
+
+pub enum Act {
+    Check,
+    Judge,
+}
+
+// Where a run over a file stopped: at the file's end, or at a vector that runs past it.
+pub struct Run {
+    pub at: usize,
+    pub totals: Totals,
+}
+
+// The size of the fields of an act's vector: the expected answer, and the act's own.
+fn fields_of(act: Act) -> usize
+    ensures { λ r. ⌜ (r ≡ size-of act) × (r ≤ 104) ⌝ }
+{
+    match act {
+        Act::Check => 14,
+        Act::Judge => 104,
+    }
+}
+
+// Whether the act gives what the vector expects; a difference is printed.
+fn vector_agrees(bytes: &[u8], v: Vector, act: Act) -> bool
+    requires { ⌜ (v .start ≤ v .end) × (v .end + size-of act ≤ length (now bytes)) ⌝ }
+    ensures { λ r. ⌜ r ≡ agrees act (now (bytes .entry)) v ⌝ }
+{
+    match act {
+        Act::Check => check_vector(bytes, v),
+        Act::Judge => judge_vector(bytes, v),
+    }
+}
+
+// All vectors of a file, up to one that runs past its end, counted on from the totals so far.
+pub fn run_all(bytes: &[u8], act: Act, t: Totals) -> Run
+    requires { ⌜ Room (length (now bytes)) t ⌝ }
+    ensures { λ r. ⌜ r ≡ run-of act (now (bytes .entry)) t ⌝ }
+    ensures { λ r. ⌜ Grown (length (now (bytes .entry))) t (r .totals) ⌝ }
+{
+    let fields = fields_of(act);
+    let mut at: usize = 0;
+    let mut counts = t;
+    while at < bytes.len() {
+        match frame(bytes, at, fields) {
+            Framed::Broken => {
+                return Run { at, totals: counts };
+            }
+            Framed::Whole(v) => {
+                counts = totals::count(counts, vector_agrees(bytes, v, act));
+                at = v.end + fields;
+            }
+        }
+    }
+    Run { at, totals: counts }
+}

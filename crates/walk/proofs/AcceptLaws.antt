@@ -1,0 +1,79 @@
+-- The test passes exactly the checkpoints of the positions at which a call can stop; a call from such a checkpoint goes on from the
+-- position. Over any tree of at most 48 variables.
+use Prim.Native.Nat.{ℕ, _≤_, _<_}
+use mathlib.Core.Bool.{Bool, true, false, _&&_}
+use mathlib.Core.List.{List, [], _∷_, map}
+use mathlib.Core.Path.{_≡_, refl, sym, ap, ap₂, _∙_, subst}
+use native.Mathlib.Omega.{arith}
+use lib.ListN.{length}
+use Rattle.lists.proofs.TestLaws.{and-left, and-right, and-both}
+use Rattle.walk.specs.Checkpoints.{Checkpoint, checkpoint-of}
+use Rattle.walk.specs.WalkCall.{Result, resumed-result, call-from}
+use Rattle.walk.specs.InnerStack.{Stack, empty, push, depth, trail-of, Tree}
+use Rattle.walk.specs.InnerMachine.{Position, down, full, back, over, next, resume}
+use Rattle.walk.specs.InnerTest.{mode-of, stack-of, shown, read, position-of, formed, fits, accepts}
+use Rattle.walk.proofs.RestLaws.{Quiet, Replayed, replayed-depth, Ok, Live}
+use Rattle.walk.proofs.PositionLaws.{position-back}
+use Rattle.walk.proofs.TestLaws.{Stop, fits-stop, stop-fits}
+use Rattle.walk.proofs.ByteLaws.{Below, read-written, written-formed, formed-written, formed-mode}
+
+mode-le : (p : Position) → mode-of p ≤ 4
+mode-le (down empty) = omega arith
+mode-le (down (push v b t)) = omega arith
+mode-le (full t) = omega arith
+mode-le (back false t) = omega arith
+mode-le (back true t) = omega arith
+mode-le over = omega arith
+
+module _ (K : Tree) where
+  pub stack-replayed : (p : Position) → Ok K p → Replayed K (stack-of p)
+  stack-replayed (down t) o = o
+  stack-replayed (full t) o = o .0
+  stack-replayed (back b t) o = o .0
+  stack-replayed over o = tt
+
+module _ (K : Tree) (L : Live K) (small : K .size ≤ 48) (low : (t : Stack) → Replayed K t → Below (K .size) t) where
+  shown-mode : (p : Position) → shown p .mode ≡ mode-of p
+  unfolding checkpoint-of
+  shown-mode p = refl
+
+  shown-read : (p : Position) → Ok K p → read (shown p) ≡ stack-of p
+  shown-read p o = read-written (K .size) (mode-of p) (stack-of p) small (low (stack-of p) (stack-replayed K p o))
+
+  -- where a call can stop, the checkpoint passes the test
+  pub shown-accepted : (p : Position) → Ok K p → Quiet (next K p) → accepts K (shown p) ≡ true
+  unfolding accepts
+  shown-accepted p o q =
+      let r = stack-replayed K p o in
+      let d = replayed-depth K (stack-of p) r in
+      and-both _ _ (written-formed (K .size) (mode-of p) (stack-of p) small (mode-le p) (omega arith) (low (stack-of p) r))
+        (ap₂ (fits K) (shown-mode p) (shown-read p o) ∙ stop-fits K L p o q)
+
+  -- and gives the position back
+  pub shown-position : (p : Position) → Ok K p → Quiet (next K p) → position-of (K .size) (shown p .mode) (read (shown p)) ≡ p
+  shown-position p o q = ap₂ (position-of (K .size)) (shown-mode p) (shown-read p o) ∙ position-back K p o q
+
+  -- so a call from it goes on from the position
+  pub call-shown : (b : ℕ) (p : Position) → Ok K p → Quiet (next K p) → call-from K (shown p) b ≡ resumed-result (resume K b p)
+  call-shown b p o q = ap (λ (x : Position). resumed-result (resume K b x)) (shown-position p o q)
+
+  -- a checkpoint that passes is one of a position at which a call can stop
+  pub record Stopped (c : Checkpoint) : Type 0 where
+    pub position : Position
+    pub fine : Ok K position
+    pub quiet : Quiet (next K position)
+    pub shows : shown position ≡ c
+
+  pub accepted-stopped : (c : Checkpoint) → length (c .bytes) ≡ 48 → accepts K c ≡ true → Stopped c
+  unfolding accepts
+  accepted-stopped c h e =
+      let f = and-left (formed c) _ e in
+      let s = fits-stop K L (c .mode) (read c) (formed-mode c f) (and-right (formed c) _ e) in
+      record {
+        position = s .position;
+        fine = s .fine;
+        quiet = s .quiet;
+        shows = ap₂ (λ (m : ℕ) (t : Stack). checkpoint-of m (trail-of t)) (s .mode) (s .stack) ∙ formed-written c h f }
+
+  pub stopped-accepted : (c : Checkpoint) → Stopped c → accepts K c ≡ true
+  stopped-accepted c s = subst (λ (x : Checkpoint). accepts K x ≡ true) (s .shows) (shown-accepted (s .position) (s .fine) (s .quiet))

@@ -1,0 +1,62 @@
+-- Where one choice makes at most B expansions, so does one assignment. Over any tree.
+use Prim.Native.Nat.{ℕ, zero, suc, _≤_}
+use mathlib.Core.Bool.{Bool, true, false, cond}
+use mathlib.Core.List.{List, [], _∷_, _++_, List·Memᴰ, List·Memᴰ·cases-cons, List·Memᴰ·not-nil, List·Memᴰ·append-cases, List·Memᴰ·eq-of-singleton}
+use mathlib.Core.Logic.{_⊎_, inl, inr, ⊎-elim}
+use mathlib.Core.Path.{_≡_}
+use native.Mathlib.Omega.{arith}
+use Rattle.formula.specs.Format.{Literal}
+use Rattle.splitting.specs.declared.Choice.{Choice}
+use Rattle.walk.specs.Plain.{Entry, assign, undo, model, end, value-walk, chosen, step-expansions}
+use Rattle.walk.specs.InnerStack.{Stack, empty, push, Tree}
+use Rattle.walk.proofs.RestLaws.{entries, walk}
+
+pub step-cheap : (B : ℕ) (c : Choice) (b : Bool) → c .expansions ≤ B → step-expansions c b ≤ B
+step-cheap B c false h = h
+step-cheap B c true h = at (c .false_open)
+  where
+    at : (x : Bool) → cond x 0 (c .expansions) ≤ B
+    at true = omega arith
+    at false = h
+
+-- no assignment among the entries has more than B expansions
+abbrev Cheap : ℕ → List Entry → Type 0
+Cheap B es = (l : Literal) (e : ℕ) → List·Memᴰ (assign l e) es → e ≤ B
+
+cheap-none : (B : ℕ) (x : Entry) → ((l : Literal) (e : ℕ) → assign l e ≡ x → ⊥) → Cheap B (x ∷ [])
+cheap-none B x f l e m = absurd (f l e (List·Memᴰ·eq-of-singleton m))
+
+cheap-append : (B : ℕ) (xs ys : List Entry) → Cheap B xs → Cheap B ys → Cheap B (xs ++ ys)
+cheap-append B xs ys h k l e m =
+    ⊎-elim (λ (i : List·Memᴰ (assign l e) xs). h l e i) (λ (i : List·Memᴰ (assign l e) ys). k l e i) (List·Memᴰ·append-cases xs m)
+
+not-undo : (l : Literal) (e : ℕ) → assign l e ≡ undo → ⊥
+not-undo l e q = let z : _≡_ {A = ℕ} 0 1 = cc in omega arith
+
+not-model : (a : ℕ) (l : Literal) (e : ℕ) → assign l e ≡ model a → ⊥
+not-model a l e q = let z : _≡_ {A = ℕ} 0 1 = cc in omega arith
+
+not-end : (l : Literal) (e : ℕ) → assign l e ≡ end → ⊥
+not-end l e q = let z : _≡_ {A = ℕ} 0 1 = cc in omega arith
+
+cheap-value : (B : ℕ) (x : Bool) (k : Literal) (f : ℕ) (es : List Entry) → f ≤ B → Cheap B es → Cheap B (value-walk x k f es)
+cheap-value B true k f es h c l e m = at (List·Memᴰ·cases-cons m)
+  where
+    at : (assign l e ≡ assign k f) ⊎ List·Memᴰ (assign l e) (es ++ (undo ∷ [])) → e ≤ B
+    at (inl q) = let z : e ≡ f = cc in omega arith
+    at (inr i) = cheap-append B es (undo ∷ []) c (cheap-none B undo not-undo) l e i
+cheap-value B false k f es h c l e m = absurd (List·Memᴰ·not-nil m)
+
+module _ (K : Tree) (B : ℕ) (cheap : (t : Stack) → K .choose t .expansions ≤ B) where
+  entries-cheap : (d : ℕ) (t : Stack) → Cheap B (entries K d t)
+  unfolding entries
+  entries-cheap zero t = cheap-none B (model (K .result t)) (not-model (K .result t))
+  entries-cheap (suc d) t =
+      let c = K .choose t in
+      cheap-append B _ _
+        (cheap-value B (c .false_open) (chosen c false) (step-expansions c false) _ (step-cheap B c false (cheap t)) (entries-cheap d (push (c .variable) false t)))
+        (cheap-value B (c .true_open) (chosen c true) (step-expansions c true) _ (step-cheap B c true (cheap t)) (entries-cheap d (push (c .variable) true t)))
+
+  pub walk-cheap : Cheap B (walk K)
+  unfolding walk
+  walk-cheap = cheap-append B (entries K (K .size) empty) (end ∷ []) (entries-cheap (K .size) empty) (cheap-none B end not-end)
