@@ -45,8 +45,8 @@ pub record Taken (K : Tree) (m : ℕ) (t : Stack) (x : Bool) (r : Tested) : Type
   pub position : r .known ≡ true → position-in (r .state) ≡ position-of (K .size) m t
 
 -- the node's state, with whether true is open at its depth
-abbrev pub marking : State → Bool → State
-marking s b = record {
+abbrev pub noted : State → Bool → State
+noted s b = record {
   place = 0;
   variable = s .variable;
   length = s .length;
