@@ -2,8 +2,6 @@
 use borrow.Author.Needs.{needs}
 use Rattle.enumeration.proofs.byte_of.Statement.{statement}
 use Rattle.enumeration.proofs.byte_of.Tie as tie
-use Rattle.enumeration.proofs.byte_of.Reads as reads
-use Rattle.enumeration.proofs.byte_of.Lts as lts
 
 add-result : tie.Need-add-result
 add-result c = search needs

@@ -2,10 +2,6 @@
 use borrow.Author.Needs.{needs}
 use Rattle.enumeration.proofs.mark.Statement.{statement}
 use Rattle.enumeration.proofs.mark.Tie as tie
-use Rattle.enumeration.proofs.mark.Reads as reads
-use Rattle.enumeration.proofs.mark.Lts as lts
-use Rattle.masks.proofs.with.Reads as with-reads
-use Rattle.masks.proofs.without.Reads as without-reads
 
 with-requires : tie.Need-with-requires
 with-requires c κs = search needs

@@ -1,15 +1,12 @@
 -- `pop` undoes the last assigned variable.
-use Prim.Native.Nat.{_-_, _≤_, _<_}
+use Prim.Native.Nat.{_-_, _≤_}
 use native.Mathlib.Omega.{arith}
 use lib.ListN.{getD}
+use borrow.Author.Needs.{needs}
 use borrow.Author.Tests.{lt-ltb, le-ltb}
 use Rattle.enumeration.proofs.StateLaws.{numbered-true, numbered-false}
-use borrow.Author.Needs.{needs}
 use Rattle.enumeration.proofs.pop.Statement.{statement}
 use Rattle.enumeration.proofs.pop.Tie as tie
-use Rattle.enumeration.proofs.pop.Reads as reads
-use Rattle.enumeration.proofs.pop.Lts as lts
-use Rattle.masks.proofs.without.Reads as without-reads
 
 -- the byte of a true variable, and of a false one
 high : (c : tie.Then1) → (let s = c .before .before .before .before .args .s in (129 ≤ getD (s .bytes) (s .length - 1) 0) × (getD (s .bytes) (s .length - 1) 0 ≤ 176))

@@ -2,10 +2,6 @@
 use borrow.Author.Needs.{needs}
 use Rattle.enumeration.proofs.push.Statement.{statement}
 use Rattle.enumeration.proofs.push.Tie as tie
-use Rattle.enumeration.proofs.push.Reads as reads
-use Rattle.enumeration.proofs.push.Lts as lts
-use Rattle.enumeration.proofs.byte_of.Reads as byte-of-reads
-use Rattle.splitting.proofs.assign.Reads as assign-reads
 
 byte-of-requires : tie.Need-byte-of-requires
 byte-of-requires c κs = search needs
