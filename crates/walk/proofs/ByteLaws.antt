@@ -21,7 +21,7 @@ abbrev pub Below : ℕ → Stack → Type 0
 Below n empty = Unit {0}
 Below n (push v b t) = (v < n) × Below n t
 
-pushed-append : (xs ys : List ℕ) (t : Stack) → pushed t (xs ++ ys) ≡ pushed (pushed t xs) ys
+pub pushed-append : (xs ys : List ℕ) (t : Stack) → pushed t (xs ++ ys) ≡ pushed (pushed t xs) ys
 unfolding pushed
 pushed-append [] ys t = refl
 pushed-append (x ∷ xs) ys t = pushed-append xs ys (push (byte-number x - 1) (byte-value x) t)
