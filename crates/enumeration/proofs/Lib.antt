@@ -6,3 +6,5 @@ pub mod FollowsLaws
 pub mod FormLaws
 pub mod ReplayLaws
 pub mod TellLaws
+pub mod PlaceLaws
+pub mod WalkLaws
