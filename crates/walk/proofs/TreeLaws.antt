@@ -11,7 +11,7 @@ use lib.ListN.{length}
 use Rattle.masks.specs.Mask.{bit, full}
 use Rattle.masks.proofs.BitLaws.{bit-above}
 use Rattle.matching.specs.Matched.{Matched}
-use Rattle.formula.specs.Format.{Literal, distinct, Sized}
+use Rattle.formula.specs.Format.{Literal, names, distinct, Sized}
 use Rattle.formula.specs.Masked.{variables}
 use Rattle.formula.specs.Models.{Model}
 use Rattle.formula.proofs.FormatLaws.{clause-more}
@@ -103,6 +103,16 @@ module _ (n : ℕ) (cs : List (List Literal)) (Z : Sized n cs) (M : Matched (map
   -- the variables of a trail are below n
   pub trail-below : (t : Stack) → Replayed (tree n cs) t → Below n t
   trail-below t r = node t r .below
+
+  -- its variables are below n, none twice
+  pub trail-over : (t : Stack) → Replayed (tree n cs) t → Trail n (trail-of t)
+  trail-over t r = node t r .trail
+
+  -- the chosen variable is below n and not assigned yet
+  pub choice-fresh : (t : Stack) → Replayed (tree n cs) t → depth t < n → (picked t .variable < n) × (names (trail-of t) (picked t .variable) ≡ false)
+  choice-fresh t r h =
+      let N = node t r in
+      let w = open-means n cs (trail-of t) fits (Z .clauses) (N .trail) (short t h) (N .sound) in (w .0, w .1)
 
   -- a value is open exactly if some model agrees with it
   pub open-model : (t : Stack) → Replayed (tree n cs) t → depth t < n → (b : Bool) → opened (picked t) b ≡ true
