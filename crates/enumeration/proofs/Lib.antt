@@ -6,3 +6,4 @@ pub mod FollowsLaws
 pub mod FormLaws
 pub mod ReplayLaws
 pub mod TellLaws
+pub mod ListLaws
