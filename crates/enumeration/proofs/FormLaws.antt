@@ -3,12 +3,13 @@ use Prim.Native.Nat.{ℕ, zero, suc, _+_, _-_, _≤_, _<_}
 use mathlib.Core.Bool.{Bool, true, false, not, _&&_, and-false}
 use mathlib.Core.List.{List, [], _∷_, _++_}
 use mathlib.Core.Path.{_≡_, refl, sym, ap, _∙_}
+use native.Mathlib.Decide.{decLt}
 use native.Mathlib.Numerals.{add-one}
 use native.Mathlib.Omega.{arith}
 use lib.Dec.{eqb, leb}
 use lib.ListN.{length, take, drop, getD, length-drop}
 use lib.Seq.{length-take-le, take-suc, take-add, getD-take, getD-drop}
-use borrow.Author.Tests.{eq-eqb, ne-eqb, eqb-false, not-true, leb-true}
+use borrow.Author.Tests.{eq-eqb, ne-eqb, eqb-false, not-true, leb-true, le-leb, lt-leb}
 use Rattle.lists.proofs.TestLaws.{and-left, and-right, and-both}
 use Rattle.walk.specs.Checkpoints.{Checkpoint}
 use Rattle.walk.specs.InnerStack.{Stack, empty, push, Tree}
@@ -71,6 +72,14 @@ module _ (l : List ℕ) (end : ℕ) (h : length l ≡ 48) (k : end ≤ 48) where
       let q : end + (i - end) ≡ i = omega arith in
       zeros-none (drop end l) (i - end) (omega arith) (λ z. e (ap (λ (j : ℕ). getD l j 0) (sym q) ∙ sym (getD-drop end l (i - end) 0) ∙ z))
 
+-- one zero more
+pub zeros-next : (l : List ℕ) (end i : ℕ) → ((k : ℕ) → end ≤ k → k < i → getD l k 0 ≡ 0) → getD l i 0 ≡ 0 → (k : ℕ) → end ≤ k → k < i + 1 → getD l k 0 ≡ 0
+zeros-next l end i w e k m n = at (decLt k i)
+  where
+    at : Dec (k < i) → getD l k 0 ≡ 0
+    at (yes h) = w k m h
+    at (no h) = let q : k ≡ i = omega arith in ap (λ (j : ℕ). getD l j 0) q ∙ e
+
 -- ---- the trail of some bytes
 
 pub pushed-more : (l : List ℕ) (i : ℕ) → i < length l
@@ -110,3 +119,21 @@ formed-means c f =
       length = leb-true (c .length) 48 (and-left (leb (c .length) 48) _ a);
       numbers = and-left (numbered (take (c .length) (c .bytes))) _ b;
     }
+
+-- the tests one after another
+module _ (c : Checkpoint) where
+  pub formed-mode : 4 < c .mode → formed c ≡ false
+  unfolding formed
+  formed-mode h = let e : leb (c .mode) 4 ≡ false = lt-leb (c .mode) 4 h in rw e
+
+  pub formed-length : 48 < c .length → formed c ≡ false
+  unfolding formed
+  formed-length h = let e : leb (c .length) 48 ≡ false = lt-leb (c .length) 48 h in rw e (and-false (leb (c .mode) 4))
+
+  pub formed-numbers : numbered (take (c .length) (c .bytes)) ≡ false → formed c ≡ false
+  unfolding formed
+  formed-numbers e = rw e (ap (λ (b : Bool). leb (c .mode) 4 && b) (and-false (leb (c .length) 48)) ∙ and-false (leb (c .mode) 4))
+
+  pub formed-zeros : c .mode ≤ 4 → c .length ≤ 48 → numbered (take (c .length) (c .bytes)) ≡ true → formed c ≡ zeros (drop (c .length) (c .bytes))
+  unfolding formed
+  formed-zeros h k e = rw (le-leb (c .mode) 4 h, le-leb (c .length) 48 k, e)

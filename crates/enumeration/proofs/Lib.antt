@@ -7,3 +7,5 @@ pub mod FormLaws
 pub mod ReplayLaws
 pub mod TellLaws
 pub mod ListLaws
+pub mod PlaceLaws
+pub mod WalkLaws

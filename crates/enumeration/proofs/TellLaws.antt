@@ -11,13 +11,15 @@ use Rattle.walk.specs.Checkpoints as walk
 use Rattle.walk.specs.PlainMachine as plain
 use Rattle.walk.specs.PlainMachine.{found, spent, ended}
 use Rattle.walk.specs.InnerStack.{Stack, empty, push, depth, trail-of, Tree}
-use Rattle.walk.specs.InnerMachine.{Position, down, full, back, over}
+use Rattle.walk.specs.InnerMachine.{Position, down, full, back, over, Resumed}
 use Rattle.walk.specs.InnerTest.{mode-of, stack-of, shown}
+use Rattle.walk.specs.WalkCall.{answered, resumed-result}
 use Rattle.walk.proofs.PositionLaws.{length-trail}
+use Rattle.enumeration.specs.declared.Answer.{Answer}
 use Rattle.enumeration.specs.declared.Answer.the-variants.{Model, Spent, Ended}
 use Rattle.enumeration.specs.declared.State.{State}
 use Rattle.enumeration.specs.InnerState.{stack-in, position-at, position-in, Holds, kind-of-answer, model-of-answer}
-use Rattle.enumeration.specs.Values.{answer-as}
+use Rattle.enumeration.specs.Values.{answer-as, answer-values}
 
 -- ---- the answer
 
@@ -78,3 +80,14 @@ module _ (K : Tree) (s : State) (h : Holds K s) where
       at (suc (suc (suc zero))) e = tells (back true (stack-in s)) 3 refl refl
       at (suc (suc (suc (suc zero)))) e = tells over 4 refl (none (stack-in s) (h .deep ∙ h .at-over e))
       at (suc (suc (suc (suc (suc p))))) e = let x = h .place in absurd (omega arith)
+
+-- ---- the result of a run
+
+answer-told : (a : plain.Answer) (s e : ℕ) (c : walk.Checkpoint) → answer-values (answer-as a) s e c ≡ answered a s e c
+answer-told (found a) s e c = refl
+answer-told spent s e c = refl
+answer-told ended s e c = refl
+
+pub run-told : (q : Resumed) (a : Answer) (s e : ℕ) (c : walk.Checkpoint) → a ≡ answer-as (q .answer) → s ≡ q .steps → e ≡ q .expansions → c ≡ shown (q .position)
+    → answer-values a s e c ≡ resumed-result q
+run-told q a s e c p x y z = rw (p, x, y, z) (answer-told (q .answer) (q .steps) (q .expansions) (shown (q .position)))

@@ -9,9 +9,6 @@ use Rattle.walk.specs.InnerTest.{byte-number}
 use Rattle.enumeration.proofs.FormLaws.{all-numbered, none-numbered}
 use Rattle.enumeration.proofs.has_numbers.Statement.{statement}
 use Rattle.enumeration.proofs.has_numbers.Tie as tie
-use Rattle.enumeration.proofs.has_numbers.Reads as reads
-use Rattle.enumeration.proofs.has_numbers.Lts as lts
-use Rattle.enumeration.proofs.number_of.Reads as number-of-reads
 
 abbrev Inv-loop : tie.InvT-loop
 Inv-loop end bytes i₀ i = (i ≤ end) × ((k : ℕ) → k < i → byte-number (getD bytes k 0) ≡ 0 → ⊥)
@@ -41,7 +38,7 @@ loop-again : tie.Need-loop-again Inv-loop μ-loop
 loop-again c = (search needs, below-more _ _ (c .before .before .before .loop .inv .1) (λ e. c .if1 .left (c .before .number-of .ensures ∙ e)))
 
 returns-2 : tie.Need-returns-2 Inv-loop μ-loop
-returns-2 c = sym (all-numbered _ _ (search needs) (c .before .before .pre) ?)
+returns-2 c = sym (all-numbered _ _ (search needs) (c .before .before .pre) (λ k l. c .before .loop .inv .1 k (omega arith)))
 
 pub has-numbers-spec : {M : Type 1} → statement M
 has-numbers-spec =

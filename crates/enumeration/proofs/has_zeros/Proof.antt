@@ -2,14 +2,11 @@
 use borrow.Author.Needs.{needs}
 use Prim.Native.Nat.{ℕ, _-_, _≤_, _<_}
 use mathlib.Core.Path.{_≡_, sym}
-use native.Mathlib.Decide.{decLt}
 use native.Mathlib.Omega.{arith}
 use lib.ListN.{getD}
-use Rattle.enumeration.proofs.FormLaws.{all-zeros, none-zeros}
+use Rattle.enumeration.proofs.FormLaws.{all-zeros, none-zeros, zeros-next}
 use Rattle.enumeration.proofs.has_zeros.Statement.{statement}
 use Rattle.enumeration.proofs.has_zeros.Tie as tie
-use Rattle.enumeration.proofs.has_zeros.Reads as reads
-use Rattle.enumeration.proofs.has_zeros.Lts as lts
 
 abbrev Inv-loop : tie.InvT-loop
 Inv-loop end bytes i₀ i = (end ≤ i) × (i ≤ 48) × ((k : ℕ) → end ≤ k → k < i → getD bytes k 0 ≡ 0)
@@ -33,10 +30,10 @@ loop-less : tie.Need-loop-less Inv-loop μ-loop
 loop-less c = search needs
 
 loop-again : tie.Need-loop-again Inv-loop μ-loop
-loop-again c = (search needs, search needs, ?)
+loop-again c = (search needs, search needs, zeros-next (c .before .before .before .args .t1) _ _ (c .before .before .loop .inv .2) (c .if1 .left))
 
 returns-2 : tie.Need-returns-2 Inv-loop μ-loop
-returns-2 c = (sym (all-zeros _ _ (search needs) (c .before .before .pre) ?), search needs)
+returns-2 c = (sym (all-zeros _ _ (search needs) (c .before .before .pre) (λ k m l. c .before .loop .inv .2 k m (omega arith))), search needs)
 
 pub has-zeros-spec : {M : Type 1} → statement M
 has-zeros-spec =

@@ -1,40 +1,30 @@
+-- `enumeration::read_checkpoint` meets its contract: the form, the trail, the mode.
 use borrow.Author.Needs.{needs}
+use mathlib.Core.Path.{refl, sym, _∙_}
+use Rattle.enumeration.proofs.PlaceLaws.{taken-unformed, taken-unreplayed, taken-read}
 use Rattle.enumeration.proofs.read_checkpoint.Statement.{statement}
 use Rattle.enumeration.proofs.read_checkpoint.Tie as tie
-use Rattle.enumeration.proofs.read_checkpoint.Reads as reads
-use Rattle.enumeration.proofs.read_checkpoint.Lts as lts
-use Rattle.enumeration.proofs.replay.Reads as replay-reads
-use Rattle.enumeration.proofs.root.Reads as root-reads
-use Rattle.enumeration.proofs.take_place.Reads as take-place-reads
-use Rattle.enumeration.proofs.well_formed.Reads as well-formed-reads
 
--- src/lib.rt:550:8
 well-formed-requires : tie.Need-well-formed-requires
 well-formed-requires c κs = search needs
 
--- src/lib.rt:551:13
 replay-requires : tie.Need-replay-requires
-replay-requires c κs = ?
+replay-requires c κs = (c .before .before .pre .0, c .before .before .pre .1, sym (c .before .well-formed .ensures .0) ∙ c .if1 .taken, c .before .well-formed .ensures .1 (c .if1 .taken))
 
--- src/lib.rt:554:13
 take-place-requires : tie.Need-take-place-requires
-take-place-requires c κs = ?
+take-place-requires c κs = let l = c .before .before .before .before .before .pre .1 in (c .before .before .before .before .before .pre .0, record { tree = l .tree; follows = l .follows; holds = c .before .before .replay .ensures (l .tree) (l .follows) .node (c .before .if2 .taken) .holds })
 
--- src/lib.rt:554:13
 returns : tie.Need-returns
-returns c = ?
+returns c = λ K F. taken-read K _ _ (sym (c .before .before .before .before .before .well-formed .ensures .0) ∙ c .before .before .before .before .if1 .taken) _ (c .before .before .before .replay .ensures K F .node (c .before .before .if2 .taken)) (c .take-place .ensures K F)
 
--- src/lib.rt:556:9
 returns-2 : tie.Need-returns-2
-returns-2 c = ?
+returns-2 c = λ K F. taken-unreplayed K _ _ (sym (c .before .before .before .well-formed .ensures .0) ∙ c .before .before .if1 .taken) (c .before .replay .ensures K F) (c .if2 .left)
 
--- src/lib.rt:560:16
 root-requires : tie.Need-root-requires
 root-requires c κs = search needs
 
--- src/lib.rt:546:1
 returns-3 : tie.Need-returns-3
-returns-3 c = ?
+returns-3 c = λ K F. taken-unformed K _ _ (sym (c .before .before .well-formed .ensures .0) ∙ c .before .if1 .left) refl
 
 pub read-checkpoint-spec : {M : Type 1} → statement M
 read-checkpoint-spec =

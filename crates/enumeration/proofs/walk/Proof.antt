@@ -1,39 +1,33 @@
+-- `enumeration::walk` meets its contract: by the reader's answer.
 use borrow.Author.Needs.{needs}
+use mathlib.Core.Path.{sym, _∙_}
+use Rattle.formula.proofs.MaskedLaws.{decoded-accepted, decoded-refused}
+use Rattle.enumeration.proofs.WalkLaws.{accepted-written, walk-read, walk-refused}
 use Rattle.enumeration.proofs.walk.Statement.{statement}
 use Rattle.enumeration.proofs.walk.Tie as tie
-use Rattle.enumeration.proofs.walk.Reads as reads
-use Rattle.enumeration.proofs.walk.Lts as lts
-use Rattle.enumeration.proofs.refuse.Reads as refuse-reads
-use Rattle.enumeration.proofs.walk_formula.Reads as walk-formula-reads
-use Rattle.formula.proofs.decode.Reads as decode-reads
 
--- src/lib.rt:669:9
 decode-requires : tie.Need-decode-requires
 decode-requires c κs = search needs
 
--- src/lib.rt:672:26
 enum-known-outcome : tie.Need-enum-known-outcome
 enum-known-outcome c = search needs
 
--- src/lib.rt:672:38
 refuse-requires : tie.Need-refuse-requires
 refuse-requires c κs = search needs
 
--- src/lib.rt:674:17
 enum-told : tie.Need-enum-told
 enum-told c = search needs
 
--- src/lib.rt:675:13
 walk-formula-requires : tie.Need-walk-formula-requires
-walk-formula-requires c κs = ?
+walk-formula-requires c κs = accepted-written (c .before .before .before .before .before .args .input .now) _ (decoded-accepted _ _ (c .before .before .before .decode .ensures) (c .before .enum-told .given .1))
 
--- src/lib.rt:666:1
 returns : tie.Need-returns
-returns c = ?
+returns c = c .refuse .ensures ∙ sym (walk-refused _ _ _ _ (decoded-refused _ _ _ (c .before .before .before .before .decode .ensures) (c .before .before .outcome .given .1)))
 
--- src/lib.rt:666:1
 returns-2 : tie.Need-returns-2
-returns-2 c = ?
+returns-2 c = 
+    let a = decoded-accepted _ _ (c .before .before .before .before .decode .ensures) (c .before .before .enum-told .given .1) in
+    c .walk-formula .ensures (a .variables) (a .clauses) (a .formula) (a .sized) ∙ sym (walk-read _ _ _ _ _ (a .reads))
 
 pub walk-spec : {M : Type 1} → statement M
 walk-spec =

@@ -1,38 +1,33 @@
+-- `enumeration::well_formed` meets its contract: the mode, the length, the bytes before it and those from it on.
 use borrow.Author.Needs.{needs}
+use mathlib.Core.Bool.{true, false, true≢false, false≢true}
+use mathlib.Core.Path.{_≡_, sym, _∙_}
+use lib.Dec.{leb}
+use borrow.Author.Tests.{le-leb, lt-leb}
+use Rattle.enumeration.proofs.FormLaws.{formed-mode, formed-length, formed-numbers, formed-zeros}
 use Rattle.enumeration.proofs.well_formed.Statement.{statement}
 use Rattle.enumeration.proofs.well_formed.Tie as tie
-use Rattle.enumeration.proofs.well_formed.Reads as reads
-use Rattle.enumeration.proofs.well_formed.Lts as lts
-use Rattle.enumeration.proofs.has_numbers.Reads as has-numbers-reads
-use Rattle.enumeration.proofs.has_zeros.Reads as has-zeros-reads
 
--- src/lib.rt:375:9
 returns : tie.Need-returns
-returns c = ?
+returns c = (sym (formed-mode _ (c .if1 .taken)), λ e. absurd (false≢true e))
 
--- src/lib.rt:378:9
 returns-2 : tie.Need-returns-2
-returns-2 c = ?
+returns-2 c = (sym (formed-length _ (c .if2 .taken)), λ e. absurd (false≢true e))
 
--- src/lib.rt:381:18
 cast-length : tie.Need-cast-length
 cast-length c = search needs
 
--- src/lib.rt:382:8
 has-numbers-requires : tie.Need-has-numbers-requires
 has-numbers-requires c κs = search needs
 
--- src/lib.rt:383:9
 has-zeros-requires : tie.Need-has-zeros-requires
 has-zeros-requires c κs = search needs
 
--- src/lib.rt:383:9
 returns-3 : tie.Need-returns-3
-returns-3 c = ?
+returns-3 c = (c .has-zeros .ensures .0 ∙ sym (formed-zeros _ (c .before .before .before .before .before .before .before .if1 .left) (c .before .before .before .before .before .if2 .left) (sym (c .before .before .has-numbers .ensures) ∙ c .before .if3 .taken)), λ e. c .has-zeros .ensures .1)
 
--- src/lib.rt:371:1
 returns-4 : tie.Need-returns-4
-returns-4 c = ?
+returns-4 c = (sym (formed-numbers _ (sym (c .before .has-numbers .ensures) ∙ c .if3 .left)), λ e. absurd (false≢true e))
 
 pub well-formed-spec : {M : Type 1} → statement M
 well-formed-spec =
