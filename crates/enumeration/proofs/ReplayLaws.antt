@@ -72,7 +72,7 @@ module _ (f : Formula) (K : Tree) (F : Follows f K) (s : State) (h : Holds K s) 
           let x = opens-next K (s .open_true) (s .length) (c .true_open) t (c .variable) in
           let y : c .true_open ≡ K .choose t .true_open = ap (λ (d : Choice). d .true_open) e in
           let n = held-push f K F (noted s (c .true_open)) t (held-marked K s t (marked-as (s .open_true) (s .length) (c .true_open)) k (x true (h .deep) y (h .opens)))
-            (c .variable) b within (ap (λ (d : Choice). d .variable) e) (ap (λ (d : Choice). is-open d b) (sym e) ∙ o) (x b (h .deep) y (h .opens)) in
+          (c .variable) b within (ap (λ (d : Choice). d .variable) e) (ap (λ (d : Choice). is-open d b) (sym e) ∙ o) (x b (h .deep) y (h .opens)) in
           record {
             holds = held-holds f K F _ _ n;
             stack = held-stack f K F _ _ n;
