@@ -9,3 +9,4 @@ pub mod TellLaws
 pub mod ListLaws
 pub mod PlaceLaws
 pub mod WalkLaws
+pub mod ListTheorems
