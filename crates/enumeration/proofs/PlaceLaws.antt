@@ -89,7 +89,7 @@ module _ (f : Formula) (K : Tree) (F : Follows f K) (s : State) (n : Node K (sta
         (record {
           known = sym (fits-true ∙ rw (ne-eqb (s .length) 0 z) (and-true (c .true_open)));
           holds = λ x. held-holds f K F _ (stack-in s)
-              (held-place K s (stack-in s) 3 (holds-held K s h) (omega arith) (λ y. absurd (omega arith)) (λ y. omega arith) (λ y. absurd (omega arith)));
+              (held-place K s (stack-in s) 3 (holds-held K s h) (omega arith) (λ y. absurd (omega arith)) (λ y. absurd (omega arith)) (λ y. absurd (omega arith)));
           position = λ x. refl;
         })
 
@@ -146,7 +146,7 @@ module _ (f : Formula) (K : Tree) (F : Follows f K) (s : State) (n : Node K (sta
       (record {
         known = sym fits-assigned;
         holds = λ x. held-holds f K F _ (stack-in s)
-            (held-place K s (stack-in s) 1 (holds-held K s h) (omega arith) (λ y. d) (λ y. omega arith) (λ y. absurd (omega arith)));
+            (held-place K s (stack-in s) 1 (holds-held K s h) (omega arith) (λ y. d) (λ y. absurd (omega arith)) (λ y. absurd (omega arith)));
         position = λ x. rw (eq-eqb _ _ d);
       })
 
@@ -173,7 +173,7 @@ module _ (f : Formula) (K : Tree) (F : Follows f K) (s : State) (n : Node K (sta
       (record {
         known = is-empty-length;
         holds = λ k. held-holds f K F _ (stack-in s)
-            (held-place K s (stack-in s) 4 (holds-held K s h) (omega arith) (λ y. absurd (omega arith)) (λ y. omega arith) (λ y. h .deep ∙ eqb-true (s .length) 0 k));
+            (held-place K s (stack-in s) 4 (holds-held K s h) (omega arith) (λ y. absurd (omega arith)) (λ y. absurd (omega arith)) (λ y. h .deep ∙ eqb-true (s .length) 0 k));
         position = λ k. refl;
       })
 
