@@ -6,5 +6,7 @@ pub mod FollowsLaws
 pub mod FormLaws
 pub mod ReplayLaws
 pub mod TellLaws
+pub mod ListLaws
 pub mod PlaceLaws
 pub mod WalkLaws
+pub mod ListTheorems

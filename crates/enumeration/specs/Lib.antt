@@ -1,3 +1,5 @@
 pub mod InnerState
 pub mod Values
 pub mod InnerRead
+pub mod Lists
+pub mod InnerLists

@@ -7,6 +7,7 @@ use Rattle.walk.specs.WalkCall.{Kind, says-model, says-spent, says-ended, says-
 use Rattle.enumeration.specs.declared.Answer.{Answer}
 use Rattle.enumeration.specs.declared.Answer.the-variants.{Model, Spent, Ended, Refused}
 use Rattle.enumeration.specs.declared.Checkpoint.{Checkpoint}
+use Rattle.enumeration.specs.declared.Listed.{Listed}
 use Rattle.enumeration.specs.declared.Walked.{Walked}
 
 -- a checkpoint's mode, length and bytes
@@ -29,3 +30,12 @@ answer-values (Refused r) s e c =
 
 abbrev pub values : Walked → Result
 values w = answer-values (w .answer) (w .steps) (w .expansions) (checkpoint-values (w .checkpoint))
+
+-- the result without its steps and expansions
+abbrev pub uncounted : Result → Result
+uncounted r =
+    record { kind = r .kind; model = r .model; number = r .number; place = r .place; steps = 0; expansions = 0; checkpoint = r .checkpoint }
+
+-- the answer and the checkpoint of a list
+abbrev pub listed-values : Listed → Result
+listed-values r = answer-values (r .answer) 0 0 (checkpoint-values (r .checkpoint))
