@@ -1,6 +1,6 @@
 -- A checkpoint's variables are assigned again, one by one.
 use Prim.Native.Nat.{ℕ, _+_, _-_, _≤_, _<_}
-use mathlib.Core.Bool.{Bool, true, false, _&&_, true≢false, false≢true}
+use mathlib.Core.Bool.{Bool, true, false, true≢false, false≢true}
 use mathlib.Core.List.{List}
 use mathlib.Core.Path.{_≡_, refl, sym, ap, _∙_, subst}
 use native.Mathlib.Omega.{arith}
@@ -10,14 +10,14 @@ use borrow.Author.Tests.{eq-eqb, ne-eqb, lt-ltb, le-ltb}
 use Rattle.masks.specs.Mask.{full}
 use Rattle.formula.specs.declared.Formula.{Formula}
 use Rattle.splitting.specs.declared.Choice.{Choice}
-use Rattle.splitting.specs.InnerChoose.{assignment-of, chosen}
-use Rattle.walk.specs.InnerStack.{Stack, empty, push, depth, trail-of, Tree}
+use Rattle.splitting.specs.InnerChoose.{chosen}
+use Rattle.walk.specs.InnerStack.{Stack, empty, push, depth, Tree}
 use Rattle.walk.specs.InnerTest.{byte-number, byte-value, pushed, is-open, replays}
 use Rattle.enumeration.specs.declared.State.{State}
 use Rattle.enumeration.specs.declared.Tested.{Tested}
 use Rattle.enumeration.specs.InnerState.{stack-in, Follows, Holds, Valid, pushing, marked-as}
 use Rattle.enumeration.specs.InnerRead.{Node, Replayed, noted}
-use Rattle.enumeration.proofs.StateLaws.{Held, holds-held, held-stack, held-holds, held-push, held-marked, opens-next}
+use Rattle.enumeration.proofs.StateLaws.{holds-held, held-stack, held-holds, held-push, held-marked, opens-next}
 use Rattle.enumeration.proofs.StepLaws.{choice-at}
 use Rattle.enumeration.proofs.FormLaws.{pushed-more, replays-stops}
 

@@ -25,7 +25,7 @@ returns : tie.Need-returns
 returns c = c .refuse .ensures ∙ sym (walk-refused _ _ _ _ (decoded-refused _ _ _ (c .before .before .before .before .decode .ensures) (c .before .before .outcome .given .1)))
 
 returns-2 : tie.Need-returns-2
-returns-2 c = 
+returns-2 c =
     let a = decoded-accepted _ _ (c .before .before .before .before .decode .ensures) (c .before .before .enum-told .given .1) in
     c .walk-formula .ensures (a .variables) (a .clauses) (a .formula) (a .sized) ∙ sym (walk-read _ _ _ _ _ (a .reads))
 
