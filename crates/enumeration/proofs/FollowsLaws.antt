@@ -49,6 +49,7 @@ assignment-trues t = mask-same _ _ (λ i. sym (trues-more t (record { trues = 0;
 most-expansions : (n m : ℕ) → n ≤ 48 → m ≤ 96 → n * m * (m + 1) ≤ 446976
 most-expansions n m h k = mul-le-mul (mul-le-mul h k) (let l : m + 1 ≤ 97 = omega arith in l)
 
+-- the code's choices make the tree of a matched formula
 pub follows : {n : ℕ} {cs : List (List Literal)} → Sized n cs → Matched (map variables cs) → Follows (formula-of n cs) (tree n cs)
 follows {n} {cs} Z M =
     record {
