@@ -47,7 +47,7 @@ module _ (K : Tree) (L : Live K) (small : K .size ≤ 48) (low : (t : Stack) →
       let r = stack-replayed K p o in
       let d = replayed-depth K (stack-of p) r in
       and-both _ _ (written-formed (K .size) (mode-of p) (stack-of p) small (mode-le p) (omega arith) (low (stack-of p) r))
-        (ap₂ (fits K) (shown-mode p) (shown-read p o) ∙ stop-fits K L p o q)
+      (ap₂ (fits K) (shown-mode p) (shown-read p o) ∙ stop-fits K L p o q)
 
   -- and gives the position back
   pub shown-position : (p : Position) → Ok K p → Quiet (next K p) → position-of (K .size) (shown p .mode) (read (shown p)) ≡ p
@@ -73,7 +73,8 @@ module _ (K : Tree) (L : Live K) (small : K .size ≤ 48) (low : (t : Stack) →
         position = s .position;
         fine = s .fine;
         quiet = s .quiet;
-        shows = ap₂ (λ (m : ℕ) (t : Stack). checkpoint-of m (trail-of t)) (s .mode) (s .stack) ∙ formed-written c h f }
+        shows = ap₂ (λ (m : ℕ) (t : Stack). checkpoint-of m (trail-of t)) (s .mode) (s .stack) ∙ formed-written c h f;
+      }
 
   pub stopped-accepted : (c : Checkpoint) → Stopped c → accepts K c ≡ true
   stopped-accepted c s = subst (λ (x : Checkpoint). accepts K x ≡ true) (s .shows) (shown-accepted (s .position) (s .fine) (s .quiet))

@@ -77,12 +77,13 @@ agrees-distinct (l ∷ t) d k m = at (List·Memᴰ·cases-cons m) (λ n. agrees-
   where
     r : (names t (l .variable) ≡ false) × (distinct t ≡ true)
     r = distinct-rest l t d
+
     at : (k ≡ l) ⊎ List·Memᴰ k t → (List·Memᴰ k t → bit (assignment t) (k .variable) ≡ k .positive)
         → bit (cond (l .positive) (with (assignment t) (l .variable)) (assignment t)) (k .variable) ≡ k .positive
     at (inl e) ih = rw e (bit-own (l .positive) (assignment t) (l .variable) (assignment-none t (l .variable) (r .0)))
     at (inr n) ih =
         bit-other (l .positive) (assignment t) (l .variable) (k .variable)
-          (λ q. true≢false (sym (element-named t k n) ∙ ap (names t) q ∙ r .0))
+        (λ q. true≢false (sym (element-named t k n) ∙ ap (names t) q ∙ r .0))
         ∙ ih n
 
 -- the assignment has the values of the trail

@@ -54,8 +54,8 @@ module _ (K : Tree) (B : ℕ) (cheap : (t : Stack) → K .choose t .expansions �
   entries-cheap (suc d) t =
       let c = K .choose t in
       cheap-append B _ _
-        (cheap-value B (c .false_open) (chosen c false) (step-expansions c false) _ (step-cheap B c false (cheap t)) (entries-cheap d (push (c .variable) false t)))
-        (cheap-value B (c .true_open) (chosen c true) (step-expansions c true) _ (step-cheap B c true (cheap t)) (entries-cheap d (push (c .variable) true t)))
+      (cheap-value B (c .false_open) (chosen c false) (step-expansions c false) _ (step-cheap B c false (cheap t)) (entries-cheap d (push (c .variable) false t)))
+      (cheap-value B (c .true_open) (chosen c true) (step-expansions c true) _ (step-cheap B c true (cheap t)) (entries-cheap d (push (c .variable) true t)))
 
   pub walk-cheap : Cheap B (walk K)
   unfolding walk

@@ -54,16 +54,17 @@ module _ (s : List ℕ) (n : ℕ) (cs : List (List Literal)) (reads : decode s �
   -- DEMAND 3
   pub demand-3 : (bs : List ℕ) → Dealt s n cs bs
   demand-3 bs = record {
-      unrefused = laws.calls-unrefused s n cs reads M bs;
-      plain = laws.calls-plain s n cs reads M bs;
-      firsts = laws.calls-first s n cs reads M bs;
-      all = laws.calls-all s n cs reads M bs;
-      exact = laws.listing-models s n cs reads M;
-      once = laws.listing-distinct s n cs reads M;
-      standing = laws.behind-model s n cs reads M;
-      paced = laws.calls-paced s n cs reads M bs;
-      cheap = laws.assignment-cheap s n cs reads M;
-      ample = laws.calls-ample s n cs reads M bs }
+    unrefused = laws.calls-unrefused s n cs reads M bs;
+    plain = laws.calls-plain s n cs reads M bs;
+    firsts = laws.calls-first s n cs reads M bs;
+    all = laws.calls-all s n cs reads M bs;
+    exact = laws.listing-models s n cs reads M;
+    once = laws.listing-distinct s n cs reads M;
+    standing = laws.behind-model s n cs reads M;
+    paced = laws.calls-paced s n cs reads M bs;
+    cheap = laws.assignment-cheap s n cs reads M;
+    ample = laws.calls-ample s n cs reads M bs;
+  }
 
   -- From every checkpoint that the walk has, and on any budget, a call gives what the plain machine gives from there.
   pub from-checkpoint : (c : Checkpoint) (w : Has n cs c) (b : ℕ) → walk-call s c b ≡ plain-result n cs (plain-call n cs b (state-after n cs 0 (w .0)))

@@ -129,7 +129,7 @@ module _ (s : List ℕ) (n : ℕ) (cs : List (List Literal)) (reads : decode s �
   plain-results [] k p a = refl
   plain-results (b ∷ bs) k p a =
       ap₂ {C = List Result} (λ x y. x ∷ y) (plain-resumed b k p a)
-        (plain-results bs (plain-call n cs b k .behind) (resume (tree n cs) b p .position) (plain-same b k p a .at))
+      (plain-results bs (plain-call n cs b k .behind) (resume (tree n cs) b p .position) (plain-same b k p a .at))
 
   -- where the plain machine stands after a list of calls
   state-at : (bs : List ℕ) (k : ℕ) (p : Position) → At (tree n cs) k p → At (tree n cs) (state-after n cs k bs) (last-position (tree n cs) alive p bs)
@@ -183,9 +183,10 @@ module _ (s : List ℕ) (n : ℕ) (cs : List (List Literal)) (reads : decode s �
   -- the models that the calls bring
   pub calls-first : (bs : List ℕ) → (l : List ℕ) × (listing n cs ≡ brought (walk-calls s start bs) ++ l)
   unfolding listing
-  calls-first bs =
-      ( models-of (rest (tree n cs) (standing bs))
-      , rw (calls-results bs) (ap models-of (sym (rest-start n cs)) ∙ brought-first (tree n cs) alive bs (down empty) tt) )
+  calls-first bs = (
+    models-of (rest (tree n cs) (standing bs)),
+    rw (calls-results bs) (ap models-of (sym (rest-start n cs)) ∙ brought-first (tree n cs) alive bs (down empty) tt),
+  )
 
   pub calls-all : (bs : List ℕ) → SaysEnded (walk-calls s start bs) → brought (walk-calls s start bs) ≡ listing n cs
   unfolding listing
@@ -226,7 +227,7 @@ module _ (s : List ℕ) (n : ℕ) (cs : List (List Literal)) (reads : decode s �
   calls-ample bs b h =
       let a = standing-at bs in
       rw (last-plain bs, at-checkpoint n cs a, call-goes b (standing bs) (a .fine) (standing-quiet bs))
-        (not-spent (resume (tree n cs) b (standing bs) .answer) (never-spent (tree n cs) alive b (standing bs) (a .fine) (omega (arith, small))))
+      (not-spent (resume (tree n cs) b (standing bs) .answer) (never-spent (tree n cs) alive b (standing bs) (a .fine) (omega (arith, small))))
 
   -- the test passes exactly the checkpoints that the walk has
   accepted-has : (c : Checkpoint) → length (c .bytes) ≡ 48 → accepts (tree n cs) c ≡ true → Has n cs c
@@ -239,7 +240,7 @@ module _ (s : List ℕ) (n : ℕ) (cs : List (List Literal)) (reads : decode s �
   has-accepted c w =
       let a = standing-at (w .0) in
       stopped-accepted (tree n cs) alive small low c
-        (record { position = standing (w .0); fine = a .fine; quiet = standing-quiet (w .0); shows = sym (at-checkpoint n cs a) ∙ w .1 })
+      (record { position = standing (w .0); fine = a .fine; quiet = standing-quiet (w .0); shows = sym (at-checkpoint n cs a) ∙ w .1 })
 
   -- so 11 is given exactly for the others
   pub foreign : (c : Checkpoint) (b : ℕ) → (Has n cs c → ⊥) → length (c .bytes) ≡ 48 → walk-call s c b ≡ refusing (ForeignCheckpoint 0) c
@@ -253,9 +254,10 @@ module _ (s : List ℕ) (n : ℕ) (cs : List (List Literal)) (reads : decode s �
   has-number c b w = rw (call-is c b, has-accepted c w)
 
   pub foreign-number : (c : Checkpoint) (b : ℕ) → length (c .bytes) ≡ 48 → (walk-call s c b .number ≡ 11) ↔ (Has n cs c → ⊥)
-  foreign-number c b h =
-      ( λ e w. let z = has-number c b w in omega arith
-      , λ f. ap (λ (r : Result). r .number) (foreign c b f h) )
+  foreign-number c b h = (
+    λ e w. let z = has-number c b w in omega arith,
+    λ f. ap (λ (r : Result). r .number) (foreign c b f h),
+  )
 
   -- the checkpoints that the walk has are those that calls from the start return
   pub has-returned : (c : Checkpoint) → Has n cs c ↔ ((bs : List ℕ) × (last-checkpoint s start bs ≡ c))

@@ -154,7 +154,7 @@ module _ (K : Tree) where
       where
         at : (x : Bool)
             → onward (down t) (cond x (enter (K .choose t .expansions) (K .choose t) false t) (enter (K .choose t .expansions) (K .choose t) true t)) (λ e q. halted spent (down t))
-              ≡ halted spent (down t)
+            ≡ halted spent (down t)
         at true = refl
         at false = refl
 

@@ -57,6 +57,7 @@ unrefused-pairable s c b h = by (decode s) refl
     by-outcome n cs reads (success vs e) q =
         record { variables = n; clauses = cs; reads = reads; vs = vs; pairs = matches-pairs cs vs (success-matches (map variables cs) vs e (masks-words (accepted-only s n cs reads .sized)) q) }
     by-outcome n cs reads (failure taken e) q = absurd (h (ap (λ (r : Result). r .kind) (call-failure s n cs taken e c b reads q)))
+
     by : (d : Decoding) → decode s ≡ d → Pairable s
     by (readable n cs) e = by-outcome n cs e (outcome (map variables cs)) refl
     by (refused r) e = absurd (h (ap (λ (x : Result). x .kind) (call-unreadable s r c b e)))

@@ -37,7 +37,7 @@ node-same n cs zero t = refl
 node-same n cs (suc k) t =
     let c = choice n (full n) cs (trail-of t) in
     let i : (b : Bool) → node-walk n (full n) cs k (trail-of t ++ (chosen c b ∷ [])) ≡ entries (tree n cs) k (push (c .variable) b t) =
-          λ b. node-same n cs k (push (c .variable) b t) in
+    λ b. node-same n cs k (push (c .variable) b t) in
     rw (i false, i true)
 
 pub walk-same : (n : ℕ) (cs : List (List Literal)) → plain-walk n cs ≡ walk (tree n cs)
@@ -52,18 +52,19 @@ open-is c true = refl
 trail-agrees : (a : ℕ) (t : Stack) → terms.Agrees (bit a) (trail-of t) → Agrees a t
 unfolding trail-of
 trail-agrees a empty g = tt
-trail-agrees a (push v b t) g =
-    ( g (record { variable = v; positive = b }) (Memᴰ·append-right (trail-of t) (List·Memᴰ·head refl))
-    , trail-agrees a t (λ l m. g l (Memᴰ·append-left _ m)) )
+trail-agrees a (push v b t) g = (
+  g (record { variable = v; positive = b }) (Memᴰ·append-right (trail-of t) (List·Memᴰ·head refl)),
+  trail-agrees a t (λ l m. g l (Memᴰ·append-left _ m)),
+)
 
 pub agrees-trail : (a : ℕ) (t : Stack) → Agrees a t → terms.Agrees (bit a) (trail-of t)
 unfolding trail-of
 agrees-trail a empty g l m = absurd (List·Memᴰ·not-nil m)
 agrees-trail a (push v b t) g l m =
     ⊎-elim (λ (i : List·Memᴰ l (trail-of t)). agrees-trail a t (g .1) l i)
-      (λ (i : List·Memᴰ l (record { variable = v; positive = b } ∷ [])).
-        subst (λ (k : Literal). bit a (k .variable) ≡ k .positive) (sym (List·Memᴰ·eq-of-singleton i)) (g .0))
-      (List·Memᴰ·append-cases (trail-of t) m)
+    (λ (i : List·Memᴰ l (record { variable = v; positive = b } ∷ [])).
+    subst (λ (k : Literal). bit a (k .variable) ≡ k .positive) (sym (List·Memᴰ·eq-of-singleton i)) (g .0))
+    (List·Memᴰ·append-cases (trail-of t) m)
 
 module _ (n : ℕ) (cs : List (List Literal)) (Z : Sized n cs) (M : Matched (map variables cs)) where
   fits : n ≤ 64
@@ -95,8 +96,9 @@ module _ (n : ℕ) (cs : List (List Literal)) (Z : Sized n cs) (M : Matched (map
       record {
         trail = clause-more (record { variable = picked t .variable; positive = b }) (N .trail) (w .0) (w .1);
         sound = rw (remaining-snoc (trail-of t) (record { variable = picked t .variable; positive = b }) cs)
-          (open-sound n (full n) cs (trail-of t) fits low (N .sound) b (open-is (picked t) b ∙ o));
-        below = (w .0, N .below) }
+            (open-sound n (full n) cs (trail-of t) fits low (N .sound) b (open-is (picked t) b ∙ o));
+        below = (w .0, N .below);
+      }
 
   node : (t : Stack) → Replayed (tree n cs) t → Node t
   node = replayed-ind (tree n cs) Node root (λ t r N h b o. grow t N h b o)
@@ -148,17 +150,19 @@ module _ (n : ℕ) (cs : List (List Literal)) (Z : Sized n cs) (M : Matched (map
 
   pub splits : Splits (tree n cs) (Model n cs)
   splits = record {
-      full-model = λ t r h.
+    full-model = λ t r h.
         let N = node t r in
-        let g = assignment-agrees n (trail-of t) (N .trail) in
-        ( full-model n cs (trail-of t) low (N .trail) (full-length t h) (N .sound) (assignment (trail-of t)) g
-            (λ v k. bit-above n v (assignment (trail-of t)) (assignment-lt n (trail-of t) (N .trail .below)) k)
-        , trail-agrees (assignment (trail-of t)) t g );
-      full-only = λ t r h a m g.
+        let g = assignment-agrees n (trail-of t) (N .trail) in (
+          full-model n cs (trail-of t) low (N .trail) (full-length t h) (N .sound) (assignment (trail-of t)) g
+              (λ v k. bit-above n v (assignment (trail-of t)) (assignment-lt n (trail-of t) (N .trail .below)) k),
+          trail-agrees (assignment (trail-of t)) t g,
+        );
+    full-only = λ t r h a m g.
         let N = node t r in
         full-same n (trail-of t) (N .trail) (full-length t h) a (assignment (trail-of t)) (model-lt n cs a m) (assignment-lt n (trail-of t) (N .trail .below))
-          (agrees-trail a t g) (assignment-agrees n (trail-of t) (N .trail));
-      shut = λ t r h b o a m g. true≢false (sym (model-open t r h b a m g) ∙ o) }
+        (agrees-trail a t g) (assignment-agrees n (trail-of t) (N .trail));
+    shut = λ t r h b o a m g. true≢false (sym (model-open t r h b a m g) ∙ o);
+  }
 
   -- one choice makes at most n × m × (m + 1) expansions
   pub cheap : (t : Stack) → picked t .expansions ≤ n * length cs * (length cs + 1)
