@@ -1,7 +1,7 @@
 -- The form of a checkpoint, byte by byte; its trail, one byte more.
 use Prim.Native.Nat.{ℕ, zero, suc, _+_, _-_, _≤_, _<_}
 use mathlib.Core.Bool.{Bool, true, false, not, _&&_, and-false}
-use mathlib.Core.List.{List, [], _∷_, _++_}
+use mathlib.Core.List.{List, [], _∷_}
 use mathlib.Core.Path.{_≡_, refl, sym, ap, _∙_}
 use native.Mathlib.Decide.{decLt}
 use native.Mathlib.Numerals.{add-one}
@@ -10,7 +10,7 @@ use lib.Dec.{eqb, leb}
 use lib.ListN.{length, take, drop, getD, length-drop}
 use lib.Seq.{length-take-le, take-suc, take-add, getD-take, getD-drop}
 use borrow.Author.Tests.{eq-eqb, ne-eqb, eqb-false, not-true, leb-true, le-leb, lt-leb}
-use Rattle.lists.proofs.TestLaws.{and-left, and-right, and-both}
+use Rattle.lists.proofs.TestLaws.{and-left, and-right}
 use Rattle.walk.specs.Checkpoints.{Checkpoint}
 use Rattle.walk.specs.InnerStack.{Stack, empty, push, Tree}
 use Rattle.walk.specs.InnerTest.{byte-number, byte-value, pushed, numbered, zeros, formed, replays}
@@ -54,18 +54,23 @@ module _ (l : List ℕ) (end : ℕ) (h : length l ≡ 48) (k : end ≤ 48) where
   before : length (take end l) ≡ end
   before = length-take-le end l (omega arith)
 
+  -- no byte before the end has the number 0
   pub all-numbered : ((i : ℕ) → i < end → byte-number (getD l i 0) ≡ 0 → ⊥) → numbered (take end l) ≡ true
   all-numbered w = numbered-all (take end l) (λ i m. let q : i < end = (let b = before in omega arith) in rw (getD-take end l i 0 q) (w i q))
 
+  -- some byte before the end has it
   pub none-numbered : (i : ℕ) → i < end → byte-number (getD l i 0) ≡ 0 → numbered (take end l) ≡ false
   none-numbered i m e = let b = before in numbered-none (take end l) i (omega arith) (rw (getD-take end l i 0 m) e)
 
+  -- so a byte of a tested list has another
   pub numbered-byte : (i : ℕ) → i < end → numbered (take end l) ≡ true → byte-number (getD l i 0) ≡ 0 → ⊥
   numbered-byte i m n e = let b = before in numbered-at (take end l) i (omega arith) n (rw (getD-take end l i 0 m) e)
 
+  -- every byte from the end on is 0
   pub all-zeros : ((i : ℕ) → end ≤ i → i < 48 → getD l i 0 ≡ 0) → zeros (drop end l) ≡ true
   all-zeros w = zeros-all (drop end l) (λ i m. let b = length-drop end l in rw (getD-drop end l i 0) (w (end + i) (omega arith) (omega arith)))
 
+  -- some byte from the end on is not 0
   pub none-zeros : (i : ℕ) → end ≤ i → i < 48 → (getD l i 0 ≡ 0 → ⊥) → zeros (drop end l) ≡ false
   none-zeros i m n e =
       let b = length-drop end l in
@@ -82,6 +87,7 @@ zeros-next l end i w e k m n = at (decLt k i)
 
 -- ---- the trail of some bytes
 
+-- one byte more
 pub pushed-more : (l : List ℕ) (i : ℕ) → i < length l
     → pushed empty (take (i + 1) l) ≡ push (byte-number (getD l i 0) - 1) (byte-value (getD l i 0)) (pushed empty (take i l))
 unfolding pushed
@@ -94,6 +100,7 @@ module _ (K : Tree) where
   replays-none [] t e = e
   replays-none (x ∷ xs) t e = replays-none xs (push (byte-number x - 1) (byte-value x) t) (rw e)
 
+  -- where the first i bytes do not replay, more do not either
   pub replays-stops : (l : List ℕ) (i k : ℕ) → i ≤ k → replays K (pushed empty (take i l)) ≡ false → replays K (pushed empty (take k l)) ≡ false
   replays-stops l i k h e =
       let q : k ≡ i + (k - i) = omega arith in
@@ -109,6 +116,7 @@ pub record Formed (c : Checkpoint) : Type 0 where
   pub length : c .length ≤ 48
   pub numbers : numbered (take (c .length) (c .bytes)) ≡ true
 
+-- a formed checkpoint has them all
 pub formed-means : (c : Checkpoint) → formed c ≡ true → Formed c
 unfolding formed
 formed-means c f =
@@ -122,18 +130,22 @@ formed-means c f =
 
 -- the tests one after another
 module _ (c : Checkpoint) where
+  -- a mode above 4
   pub formed-mode : 4 < c .mode → formed c ≡ false
   unfolding formed
   formed-mode h = let e : leb (c .mode) 4 ≡ false = lt-leb (c .mode) 4 h in rw e
 
+  -- a length above 48
   pub formed-length : 48 < c .length → formed c ≡ false
   unfolding formed
   formed-length h = let e : leb (c .length) 48 ≡ false = lt-leb (c .length) 48 h in rw e (and-false (leb (c .mode) 4))
 
+  -- the number 0 before the length
   pub formed-numbers : numbered (take (c .length) (c .bytes)) ≡ false → formed c ≡ false
   unfolding formed
   formed-numbers e = rw e (ap (λ (b : Bool). leb (c .mode) 4 && b) (and-false (leb (c .length) 48)) ∙ and-false (leb (c .mode) 4))
 
+  -- otherwise the bytes behind the length decide
   pub formed-zeros : c .mode ≤ 4 → c .length ≤ 48 → numbered (take (c .length) (c .bytes)) ≡ true → formed c ≡ zeros (drop (c .length) (c .bytes))
   unfolding formed
   formed-zeros h k e = rw (le-leb (c .mode) 4 h, le-leb (c .length) 48 k, e)

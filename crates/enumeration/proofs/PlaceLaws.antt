@@ -1,21 +1,19 @@
 -- The place of a checkpoint's mode at the node of its trail.
-use Prim.Native.Nat.{ℕ, zero, suc, _≤_, _<_}
-use mathlib.Core.Bool.{Bool, true, false, cond, not, _&&_, _||_, true≢false, false≢true, and-true, and-false, or-true}
+use Prim.Native.Nat.{ℕ, zero, suc}
+use mathlib.Core.Bool.{Bool, true, false, not, _&&_, _||_, true≢false, false≢true, and-true, and-false}
 use mathlib.Core.Path.{_≡_, refl, sym, ap, _∙_, subst}
 use native.Mathlib.Omega.{arith}
 use lib.Dec.{eqb, ltb}
 use borrow.Author.Tests.{eq-eqb, ne-eqb, eqb-true, lt-ltb, le-ltb}
-use Rattle.masks.specs.Mask.{bit}
 use Rattle.formula.specs.declared.Formula.{Formula}
 use Rattle.splitting.specs.declared.Choice.{Choice}
 use Rattle.walk.specs.Checkpoints.{undone-mode}
 use Rattle.walk.specs.Checkpoints as walk
 use Rattle.walk.specs.InnerStack.{Stack, empty, push, depth, Tree}
-use Rattle.walk.specs.InnerMachine.{Position, down, full, back, over}
-use Rattle.walk.specs.InnerTest.{is-empty, replays, fits, formed, read, accepts, position-of}
+use Rattle.walk.specs.InnerTest.{is-empty, replays, fits, formed, read, accepts}
 use Rattle.enumeration.specs.declared.State.{State}
 use Rattle.enumeration.specs.declared.Tested.{Tested}
-use Rattle.enumeration.specs.InnerState.{stack-in, position-at, position-in, Follows, Holds, marked-as, at-place}
+use Rattle.enumeration.specs.InnerState.{stack-in, position-at, Follows, Holds, marked-as, at-place}
 use Rattle.enumeration.specs.InnerRead.{Node, Replayed, Taken}
 use Rattle.enumeration.proofs.StateLaws.{Held, holds-held, held-holds, held-place, opens-next}
 use Rattle.enumeration.proofs.ReplayLaws.{within}
@@ -65,6 +63,7 @@ module _ (f : Formula) (K : Tree) (F : Follows f K) (s : State) (n : Node K (sta
       at false l = rw (h .replayed, l)
       at true l = rw (h .replayed, l)
 
+  -- at full length nothing was undone
   pub taken-full : (b : Bool) → s .length ≡ f .variables → Taken K (undone-mode b) (stack-in s) (fits K (undone-mode b) (stack-in s)) (record { known = false; state = s })
   taken-full b e = taken-none K (undone-mode b) (stack-in s) _ _ refl (fits-full b e)
 
@@ -80,9 +79,11 @@ module _ (f : Formula) (K : Tree) (F : Follows f K) (s : State) (n : Node K (sta
     unfolding fits
     fits-false = rw (h .replayed, below, is-empty-length, e)
 
+    -- mode 3 with nothing assigned: that is the end
     pub taken-true-root : s .length ≡ 0 → Taken K 3 (stack-in s) (fits K 3 (stack-in s)) (record { known = false; state = s })
     taken-true-root z = taken-none K 3 (stack-in s) _ _ refl (fits-true ∙ rw (eq-eqb (s .length) 0 z) (and-false (c .true_open)))
 
+    -- mode 3 elsewhere: if true is open
     pub taken-true : (s .length ≡ 0 → ⊥) → (u : State) → u ≡ at-place s 3 → Taken K 3 (stack-in s) (fits K 3 (stack-in s)) (record { known = c .true_open; state = u })
     taken-true z u q =
         rw q
@@ -93,6 +94,7 @@ module _ (f : Formula) (K : Tree) (F : Follows f K) (s : State) (n : Node K (sta
           position = λ x. refl;
         })
 
+    -- mode 2 with nothing assigned and true not open: that is the end
     pub taken-false-root : s .length ≡ 0 → c .true_open ≡ false → Taken K 2 (stack-in s) (fits K 2 (stack-in s)) (record { known = false; state = s })
     taken-false-root z o = taken-none K 2 (stack-in s) _ _ refl (fits-false ∙ rw (eq-eqb (s .length) 0 z, o) (and-false (c .false_open)))
 
@@ -114,6 +116,7 @@ module _ (f : Formula) (K : Tree) (F : Follows f K) (s : State) (n : Node K (sta
           at-over = λ x. absurd (omega arith);
         }
 
+    -- mode 2 elsewhere: if false is open
     pub taken-false : (s .length ≡ 0 → c .true_open ≡ true) → (u : State) → u ≡ undoing s c → Taken K 2 (stack-in s) (fits K 2 (stack-in s)) (record { known = c .false_open; state = u })
     taken-false z u q =
         rw q
@@ -129,6 +132,7 @@ module _ (f : Formula) (K : Tree) (F : Follows f K) (s : State) (n : Node K (sta
 
   -- ---- the other modes
 
+  -- mode 0: nothing is assigned
   pub taken-start : (m : ℕ) → m ≡ 0 → Taken K m (stack-in s) (fits K m (stack-in s)) (record { known = eqb (s .length) 0; state = s })
   unfolding fits
   taken-start m e =
@@ -138,6 +142,7 @@ module _ (f : Formula) (K : Tree) (F : Follows f K) (s : State) (n : Node K (sta
   unfolding fits
   fits-assigned = rw (h .replayed, is-empty-length) (and-true (not (is-empty (stack-in s))))
 
+  -- mode 1 at full length: the model is handed out
   pub taken-model : (m : ℕ) → m ≡ 1 → s .length ≡ f .variables → (u : State) → u ≡ at-place s 1
       → Taken K m (stack-in s) (fits K m (stack-in s)) (record { known = not (eqb (s .length) 0); state = u })
   taken-model m e l u q =
@@ -150,6 +155,7 @@ module _ (f : Formula) (K : Tree) (F : Follows f K) (s : State) (n : Node K (sta
         position = λ x. rw (eq-eqb _ _ d);
       })
 
+  -- mode 1 elsewhere
   pub taken-assigned : (m : ℕ) → m ≡ 1 → (s .length ≡ f .variables → ⊥)
       → Taken K m (stack-in s) (fits K m (stack-in s)) (record { known = not (eqb (s .length) 0); state = s })
   taken-assigned m e l =
@@ -161,6 +167,7 @@ module _ (f : Formula) (K : Tree) (F : Follows f K) (s : State) (n : Node K (sta
         position = λ x. rw (d, n .place);
       })
 
+  -- mode 4: nothing is assigned
   pub taken-end : (m : ℕ) → (m ≡ 0 → ⊥) → (m ≡ 1 → ⊥) → (m ≡ 2 → ⊥) → (m ≡ 3 → ⊥) → (u : State) → u ≡ at-place s 4
       → Taken K m (stack-in s) (fits K m (stack-in s)) (record { known = eqb (s .length) 0; state = u })
   unfolding fits
@@ -192,14 +199,17 @@ module _ (K : Tree) where
   fits-none (suc (suc (suc (suc m)))) (push v b t) e = refl
 
   module _ (c : walk.Checkpoint) (r : Tested) where
+    -- a checkpoint that is not well formed
     pub taken-unformed : formed c ≡ false → r .known ≡ false → Taken K (c .mode) (read c) (accepts K c) r
     unfolding accepts
     taken-unformed e q = taken-none K (c .mode) (read c) _ r q (rw e)
 
+    -- one whose trail does not replay
     pub taken-unreplayed : formed c ≡ true → Replayed K (read c) r → r .known ≡ false → Taken K (c .mode) (read c) (accepts K c) r
     unfolding accepts
     taken-unreplayed e w q = taken-none K (c .mode) (read c) _ r q (rw e (fits-none (c .mode) (read c) (sym (w .known) ∙ q)))
 
+    -- one whose trail replays: its mode decides
     pub taken-read : formed c ≡ true → (s : State) → Node K (read c) s → (Node K (stack-in s) s → Taken K (c .mode) (stack-in s) (fits K (c .mode) (stack-in s)) r)
         → Taken K (c .mode) (read c) (accepts K c) r
     unfolding accepts

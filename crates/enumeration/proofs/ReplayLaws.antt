@@ -1,6 +1,6 @@
 -- A checkpoint's variables are assigned again, one by one.
 use Prim.Native.Nat.{ℕ, _+_, _-_, _≤_, _<_}
-use mathlib.Core.Bool.{Bool, true, false, _&&_, true≢false, false≢true}
+use mathlib.Core.Bool.{Bool, true, false, true≢false, false≢true}
 use mathlib.Core.List.{List}
 use mathlib.Core.Path.{_≡_, refl, sym, ap, _∙_, subst}
 use native.Mathlib.Omega.{arith}
@@ -10,15 +10,15 @@ use borrow.Author.Tests.{eq-eqb, ne-eqb, lt-ltb, le-ltb}
 use Rattle.masks.specs.Mask.{full}
 use Rattle.formula.specs.declared.Formula.{Formula}
 use Rattle.splitting.specs.declared.Choice.{Choice}
-use Rattle.splitting.specs.InnerChoose.{assignment-of, chosen}
+use Rattle.splitting.specs.InnerChoose.{chosen}
 use Rattle.splitting.specs.Terms.{opened}
-use Rattle.walk.specs.InnerStack.{Stack, empty, push, depth, trail-of, Tree}
+use Rattle.walk.specs.InnerStack.{Stack, empty, push, depth, Tree}
 use Rattle.walk.specs.InnerTest.{byte-number, byte-value, pushed, replays}
 use Rattle.enumeration.specs.declared.State.{State}
 use Rattle.enumeration.specs.declared.Tested.{Tested}
 use Rattle.enumeration.specs.InnerState.{stack-in, Follows, Holds, Valid, pushing, marked-as}
 use Rattle.enumeration.specs.InnerRead.{Node, Replayed, noted}
-use Rattle.enumeration.proofs.StateLaws.{Held, holds-held, held-stack, held-holds, held-push, held-marked, opens-next}
+use Rattle.enumeration.proofs.StateLaws.{holds-held, held-stack, held-holds, held-push, held-marked, opens-next}
 use Rattle.enumeration.proofs.StepLaws.{choice-at}
 use Rattle.enumeration.proofs.FormLaws.{pushed-more, replays-stops}
 
@@ -30,6 +30,7 @@ module _ (f : Formula) (K : Tree) (F : Follows f K) (s : State) (h : Holds K s) 
       let l : ltb (depth (stack-in s)) (K .size) ≡ false = le-ltb (depth (stack-in s)) (K .size) (let d = h .deep in let q = F .size in omega arith) in
       rw (h .replayed, l)
 
+  -- so no variable is known there
   pub replayed-full : (v : ℕ) (b : Bool) → s .length ≡ f .variables → Replayed K (push v b (stack-in s)) (record { known = false; state = s })
   replayed-full v b e = record { known = sym (replays-full v b e); node = λ x. absurd (false≢true x) }
 
@@ -37,9 +38,11 @@ module _ (f : Formula) (K : Tree) (F : Follows f K) (s : State) (h : Holds K s) 
     not-full : s .length < f .variables
     not-full = let d = h .short in let q = F .size in omega arith
 
+    -- a trail that is not full has room
     pub within : depth (stack-in s) < K .size
     within = let d = h .deep in let l = not-full in let q = F .size in omega arith
 
+    -- the code's choice is the tree's
     pub choice-is : (m : ℕ) (c : Choice) → m ≡ full (f .variables) → c ≡ chosen f m (s .assignment) → c ≡ K .choose (stack-in s)
     choice-is m c e x = x ∙ ap (λ (k : ℕ). chosen f k (s .assignment)) e ∙ choice-at f K F s h not-full
 
@@ -55,6 +58,7 @@ module _ (f : Formula) (K : Tree) (F : Follows f K) (s : State) (h : Holds K s) 
           let q : eqb v (K .choose (stack-in s) .variable) ≡ false = ne-eqb _ _ (λ y. x (y ∙ sym (ap (λ (d : Choice). d .variable) e))) in
           rw (h .replayed, l, q)
 
+      -- so another variable is not known
       pub replayed-other : (v : ℕ) (b : Bool) → (v ≡ c .variable → ⊥) → Replayed K (push v b (stack-in s)) (record { known = false; state = s })
       replayed-other v b x = record { known = sym (replays-other v b x); node = λ y. absurd (false≢true y) }
 
@@ -80,15 +84,18 @@ module _ (f : Formula) (K : Tree) (F : Follows f K) (s : State) (h : Holds K s) 
             place = refl;
           }
 
+      -- so the chosen one is known if its value is open
       pub replayed-chosen : (v : ℕ) (x b : Bool) (u : State) → v ≡ c .variable → x ≡ b → u ≡ pushing (noted s (c .true_open)) (c .variable) b
           → Replayed K (push v x (stack-in s)) (record { known = opened c b; state = u })
       replayed-chosen v x b u p q r = rw (p, q, r) (record { known = sym (replays-open b); node = node-more b })
 
 -- what the next call needs
 module _ (f : Formula) (s : State) (w : Valid f s) (ne : s .length ≡ f .variables → ⊥) where
+  -- there is room
   pub valid-short : s .length < f .variables
   valid-short = not-full f (w .tree) (w .follows) s (w .holds) ne
 
+  -- the chosen variable is one of the formula's
   pub valid-low : (m : ℕ) (c : Choice) → m ≡ full (f .variables) → c ≡ chosen f m (s .assignment) → c .variable < f .variables
   valid-low m c e x = choice-low f (w .tree) (w .follows) s (w .holds) ne c (choice-is f (w .tree) (w .follows) s (w .holds) ne m c e x)
 

@@ -2,7 +2,7 @@
 use Prim.Native.Nat.{ℕ, zero, suc, _≤_, _<_}
 use mathlib.Core.Bool.{true, false}
 use mathlib.Core.List.{map}
-use mathlib.Core.Path.{_≡_, refl, sym, ap, ap₂, _∙_}
+use mathlib.Core.Path.{_≡_, refl, sym, ap, _∙_}
 use native.Mathlib.Omega.{arith}
 use lib.ListN.{length}
 use Rattle.lists.specs.Padded.{padded}
@@ -23,16 +23,19 @@ use Rattle.enumeration.specs.Values.{answer-as, answer-values}
 
 -- ---- the answer
 
+-- 0 says a model
 pub answers-model : (a : plain.Answer) (k m : ℕ) → k ≡ 0 → k ≡ kind-of-answer a → m ≡ model-of-answer a → Model m ≡ answer-as a
 answers-model (found a) k m z e x = ap Model x
 answers-model spent k m z e x = absurd (omega arith)
 answers-model ended k m z e x = absurd (omega arith)
 
+-- 1 says spent
 pub answers-spent : (a : plain.Answer) (k : ℕ) → k ≡ 1 → k ≡ kind-of-answer a → Spent ≡ answer-as a
 answers-spent (found a) k z e = absurd (omega arith)
 answers-spent spent k z e = refl
 answers-spent ended k z e = absurd (omega arith)
 
+-- 2 says ended
 pub answers-ended : (a : plain.Answer) (k : ℕ) → (k ≡ 0 → ⊥) → (k ≡ 1 → ⊥) → k ≡ kind-of-answer a → Ended ≡ answer-as a
 answers-ended (found a) k y z e = absurd (y e)
 answers-ended spent k y z e = absurd (z e)
@@ -52,6 +55,7 @@ module _ (K : Tree) (s : State) (h : Holds K s) where
       let b : s .bytes ≡ padded 48 0 (map byte (trail-of (stack-of p))) = h .bytes ∙ ap (λ (t : Stack). padded 48 0 (map byte (trail-of t))) q in
       λ i. record { mode = e i; length = l i; bytes = b i }
 
+  -- at a node with something assigned: mode 1
   pub shows-node : s .place ≡ 0 → 0 < s .length → told 1 s ≡ shown (position-in s)
   shows-node z l = rw z (tells (down (stack-in s)) 1 (at (stack-in s) (h .deep)) refl)
     where
@@ -59,6 +63,7 @@ module _ (K : Tree) (s : State) (h : Holds K s) where
       at empty e = absurd (omega arith)
       at (push v b t) e = refl
 
+  -- with nothing assigned: mode 0
   pub shows-root : s .place ≡ 0 → s .length ≤ 0 → told (s .place) s ≡ shown (position-in s)
   shows-root z l = rw z (tells (down (stack-in s)) 0 (at (stack-in s) (h .deep)) refl)
     where
@@ -66,6 +71,7 @@ module _ (K : Tree) (s : State) (h : Holds K s) where
       at empty e = refl
       at (push v b t) e = absurd (omega arith)
 
+  -- elsewhere: the place's number
   pub shows-place : (s .place ≡ 0 → ⊥) → told (s .place) s ≡ shown (position-in s)
   shows-place z = at (s .place) refl
     where
@@ -88,6 +94,7 @@ answer-told (found a) s e c = refl
 answer-told spent s e c = refl
 answer-told ended s e c = refl
 
+-- the result of a run
 pub run-told : (q : Resumed) (a : Answer) (s e : ℕ) (c : walk.Checkpoint) → a ≡ answer-as (q .answer) → s ≡ q .steps → e ≡ q .expansions → c ≡ shown (q .position)
     → answer-values a s e c ≡ resumed-result q
 run-told q a s e c p x y z = rw (p, x, y, z) (answer-told (q .answer) (q .steps) (q .expansions) (shown (q .position)))
