@@ -124,7 +124,7 @@ module _ (f : Formula) (fits : FormulaFits f) where
 -- ---- the input
 
 -- the sets of the formula that an input encodes are the variables of its clauses
-formula-sets : {n : ℕ} {cs : List (List Literal)} → Sized n cs → sets (formula-of n cs) ≡ map variables cs
+pub formula-sets : {n : ℕ} {cs : List (List Literal)} → Sized n cs → sets (formula-of n cs) ≡ map variables cs
 unfolding with-literals
 formula-sets {n} {cs} z =
     tabulated-same (λ i. named (getD ((formula-of n cs) .clauses) i no-clause)) (λ i. variables (getD cs i [])) (length cs) same ∙ tabulated-map variables cs []

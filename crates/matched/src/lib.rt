@@ -5,11 +5,14 @@ ghost use lib.ListN.{length, getD};
 ghost use Rattle.lists.specs.Over.{over};
 ghost use Rattle.lists.specs.Padded.{padded};
 ghost use Rattle.formula.specs.Masked.{FormulaFits};
+ghost use Rattle.matching.specs.Result.{packed};
+ghost use Rattle.matching.specs.Search.{outcome};
 ghost use Rattle.matched.specs.InnerGather.{sets-of, raised, judged-formula};
 ghost use Rattle.matched.specs.Judge.{values, judge};
 use formula::Formula;
 use formula::Outcome;
 use formula::Refusal;
+use matching::Matching;
 
 // The answer: the numbers of variables and of clauses, or the refusal.
 pub enum Judgement {
@@ -44,6 +47,15 @@ fn write(table: [u8; 96], n: usize, k: u8, buffer: &mut [u8])
     }
 }
 
+// The matching of a formula's clauses.
+pub fn match_formula(f: Formula) -> Matching
+    requires { ⌜ FormulaFits f ⌝ }
+    ensures { λ r. ⌜ r ≡ packed (f .count) (outcome (sets-of (f .clauses) (f .count))) ⌝ }
+{
+    let sets = gather(f);
+    matching::match_sets(&sets, f.count)
+}
+
 // Judges a formula that was read.
 fn judge_formula(f: Formula, buffer: &mut [u8]) -> Judgement
     requires { ⌜ FormulaFits f × (96 ≤ length (now buffer)) ⌝ }
@@ -51,8 +63,7 @@ fn judge_formula(f: Formula, buffer: &mut [u8]) -> Judgement
     ensures { λ _. ⌜ now (buffer .exit) ≡ judged-formula f (now (buffer .entry)) .buffer ⌝ }
 {
     let count = f.count;
-    let sets = gather(f);
-    let m = matching::match_sets(&sets, count);
+    let m = match_formula(f);
     let table = m.table;
     if m.complete {
         write(table, count, 1, buffer);

@@ -1,0 +1,73 @@
+-- The tree of a matched formula is the one that the code's choices make.
+use Prim.Native.Nat.{ℕ, suc, _+_, _*_, _≤_, _<_}
+use mathlib.Core.Bool.{Bool, true, false, cond, not, _&&_, _||_, or-assoc, or-false, or-comm}
+use mathlib.Core.List.{List, [], _∷_, map}
+use mathlib.Core.Path.{_≡_, refl, sym, ap, _∙_}
+use native.Mathlib.Nat.{le-trans, mul-le-mul}
+use native.Mathlib.Omega.{arith}
+use lib.Dec.{ltb}
+use lib.ListN.{length}
+use borrow.Author.Tests.{ltb-true, lt-ltb}
+use Rattle.lists.proofs.TestLaws.{and-both}
+use Rattle.masks.specs.Mask.{bit, with, full}
+use Rattle.masks.proofs.BitLaws.{bit-none, bit-with, bit-full}
+use Rattle.masks.proofs.MembersLaws.{mask-same}
+use Rattle.matching.specs.Matched.{Matched}
+use Rattle.formula.specs.Format.{Literal, names, Sized}
+use Rattle.formula.specs.Masked.{variables, formula-of}
+use Rattle.splitting.specs.declared.Assignment.{Assignment}
+use Rattle.splitting.specs.Choosing.{choice}
+use Rattle.splitting.specs.InnerChoose.{set-to, assign-all, assignment-of, chosen}
+use Rattle.splitting.proofs.Theorems.{formula-below}
+use Rattle.splitting.proofs.TrailLaws.{trail-free}
+use Rattle.splitting.proofs.MaskChoiceLaws.{chosen-choice}
+use Rattle.walk.specs.Plain.{assignment}
+use Rattle.walk.specs.InnerStack.{Stack, depth, trail-of, tree}
+use Rattle.walk.specs.InnerTest.{replays}
+use Rattle.walk.proofs.PositionLaws.{length-trail}
+use Rattle.walk.proofs.TestLaws.{replays-replayed}
+use Rattle.walk.proofs.TreeLaws.{trail-over, choice-fresh, live, cheap}
+use Rattle.enumeration.specs.InnerState.{Follows}
+
+-- the variables that are true after more literals
+trues-more : (t : List Literal) (a : Assignment) (i : ℕ) → bit (assign-all a t .trues) i ≡ bit (a .trues) i || bit (assignment t) i
+unfolding assign-all assignment
+trues-more [] a i = rw (bit-none i) (sym (or-false (bit (a .trues) i)))
+trues-more (l ∷ t) a i = trues-more t (set-to a (l .variable) (l .positive)) i ∙ at (l .positive)
+  where
+    at : (p : Bool) → bit (set-to a (l .variable) p .trues) i || bit (assignment t) i ≡ bit (a .trues) i || bit (cond p (with (assignment t) (l .variable)) (assignment t)) i
+    at true =
+        ap (λ (b : Bool). b || bit (assignment t) i) (bit-with (a .trues) (l .variable) i)
+        ∙ or-assoc (bit (a .trues) i) _ (bit (assignment t) i)
+        ∙ ap (λ (b : Bool). bit (a .trues) i || b) (or-comm _ (bit (assignment t) i) ∙ sym (bit-with (assignment t) (l .variable) i))
+    at false = refl
+
+-- the assignment of a trail as a number
+assignment-trues : (t : List Literal) → assignment t ≡ assignment-of t .trues
+assignment-trues t = mask-same _ _ (λ i. sym (trues-more t (record { trues = 0; falses = 0 }) i ∙ ap (λ (b : Bool). b || bit (assignment t) i) (bit-none i)))
+
+-- 48 × 96 × 97
+most-expansions : (n m : ℕ) → n ≤ 48 → m ≤ 96 → n * m * (m + 1) ≤ 446976
+most-expansions n m h k = mul-le-mul (mul-le-mul h k) (let l : m + 1 ≤ 97 = omega arith in l)
+
+pub follows : {n : ℕ} {cs : List (List Literal)} → Sized n cs → Matched (map variables cs) → Follows (formula-of n cs) (tree n cs)
+follows {n} {cs} Z M =
+    record {
+      size = refl;
+      chooses = chooses;
+      low = λ t r h. choice-fresh n cs Z M t (replays-replayed (tree n cs) t r) h .0;
+      new = λ t r h. choice-fresh n cs Z M t (replays-replayed (tree n cs) t r) h .1;
+      alive = λ t r h. live n cs Z M .alive t (replays-replayed (tree n cs) t r) h;
+      cheap = λ t r h. le-trans (cheap n cs Z M t) (most-expansions n (length cs) (Z .most) (Z .few));
+      results = λ t. assignment-trues (trail-of t);
+    }
+  where
+    small : n ≤ 64
+    small = omega (arith, Z .most)
+
+    chooses : (t : Stack) → replays (tree n cs) t ≡ true → depth t < n → chosen (formula-of n cs) (full n) (assignment-of (trail-of t)) ≡ choice n (full n) cs (trail-of t)
+    chooses t r h =
+        let T = trail-over n cs Z M t (replays-replayed (tree n cs) t r) in
+        let w = trail-free n (trail-of t) T (omega (arith, length-trail t)) in
+        chosen-choice n cs small (formula-below n cs (Z .clauses)) (trail-of t) (full n) T (λ v e. ltb-true v n (sym (bit-full n v) ∙ e)) (w .0)
+        (and-both _ _ (bit-full n (w .0) ∙ lt-ltb (w .0) n (w .1)) (ap not (w .2)))

@@ -1,0 +1,60 @@
+-- Reading a checkpoint: its trail is assigned again, then its mode's place is taken.
+use Prim.Native.Nat.{ℕ}
+use mathlib.Core.Path.{_≡_}
+use mathlib.Core.Bool.{Bool, true, cond}
+use mathlib.Core.List.{List}
+use Rattle.formula.specs.declared.Formula.{Formula}
+use Rattle.formula.specs.declared.Refusal.the-variants.{ForeignCheckpoint}
+use Rattle.formula.specs.Format.{Literal, Sized}
+use Rattle.formula.specs.Masked.{formula-of}
+use Rattle.walk.specs.InnerStack.{Stack, Tree}
+use Rattle.walk.specs.InnerTest.{replays, position-of}
+use Rattle.walk.specs.Checkpoints.{Checkpoint}
+use Rattle.walk.specs.WalkCall.{Result, call-from, refusing}
+use Rattle.enumeration.specs.InnerState.{stack-in, position-in, Follows, Holds, marked-as}
+use Rattle.enumeration.specs.declared.State.{State}
+use Rattle.enumeration.specs.declared.Tested.{Tested}
+
+-- the formula's choices make a tree
+pub record Led (f : Formula) : Type 0 where
+  pub tree : Tree
+  pub follows : Follows f tree
+
+-- the formula is that of some clauses
+pub record Written (f : Formula) : Type 0 where
+  pub variables : ℕ
+  pub clauses : List (List Literal)
+  pub formula : f ≡ formula-of variables clauses
+  pub sized : Sized variables clauses
+
+-- the state holds the node of the trail t
+pub record Node (K : Tree) (t : Stack) (s : State) : Type 0 where
+  pub holds : Holds K s
+  pub stack : stack-in s ≡ t
+  pub place : s .place ≡ 0
+
+-- whether the trail t replays, and the state of its node
+pub record Replayed (K : Tree) (t : Stack) (r : Tested) : Type 0 where
+  pub known : r .known ≡ replays K t
+  pub node : r .known ≡ true → Node K t (r .state)
+
+-- a test's answer, and the state of the mode's position at the trail t
+pub record Taken (K : Tree) (m : ℕ) (t : Stack) (x : Bool) (r : Tested) : Type 0 where
+  pub known : r .known ≡ x
+  pub holds : r .known ≡ true → Holds K (r .state)
+  pub position : r .known ≡ true → position-in (r .state) ≡ position-of (K .size) m t
+
+-- the node's state, with whether true is open at its depth
+abbrev pub noted : State → Bool → State
+noted s b = record {
+  place = 0;
+  variable = s .variable;
+  length = s .length;
+  bytes = s .bytes;
+  assignment = s .assignment;
+  open_true = marked-as (s .open_true) (s .length) b;
+}
+
+-- a call, by the test's answer
+abbrev pub by-test : Tree → Bool → Checkpoint → ℕ → Result
+by-test K x c b = cond x (call-from K c b) (refusing (ForeignCheckpoint 0) c)

@@ -1,0 +1,3 @@
+pub mod InnerState
+pub mod Values
+pub mod InnerRead
