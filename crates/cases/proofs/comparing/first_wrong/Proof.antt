@@ -3,10 +3,10 @@ use Prim.Native.Nat.{_-_, _≤_}
 use mathlib.Core.Path.{_≡_, refl, sym, _∙_}
 use native.Mathlib.Omega.{arith}
 use borrow.Author.Needs.{needs}
-use Rattle.cases.specs.Judging.{first-wrong}
-use Rattle.cases.proofs.JudgingLaws.{wrong-here, right-here, none-wrong}
-use Rattle.cases.proofs.judging.first_wrong.Statement.{statement}
-use Rattle.cases.proofs.judging.first_wrong.Tie as tie
+use Rattle.cases.specs.Comparing.{first-wrong}
+use Rattle.cases.proofs.ComparingLaws.{wrong-here, right-here, none-wrong}
+use Rattle.cases.proofs.comparing.first_wrong.Statement.{statement}
+use Rattle.cases.proofs.comparing.first_wrong.Tie as tie
 
 abbrev Inv-loop : tie.InvT-loop
 Inv-loop bytes at fill array i₀ i =
