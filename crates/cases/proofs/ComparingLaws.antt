@@ -1,11 +1,17 @@
--- Laws of `wrong-from`, at a place before the n-th.
+-- Laws of `wrong-from`: at the first place, and at a place i of n.
 use Prim.Native.Nat.{ℕ, suc, _+_, _-_, _<_, _≤_}
 use mathlib.Core.List.{List}
 use mathlib.Core.Path.{_≡_}
 use native.Mathlib.Omega.{arith}
 use borrow.Author.Tests.{eq-eqb, ne-eqb}
-use lib.ListN.{getD}
-use Rattle.cases.specs.Comparing.{wanted-byte, wrong-from}
+use lib.ListN.{length, getD}
+use Rattle.cases.specs.Comparing.{wanted-byte, wrong-from, first-wrong}
+
+pub from-first :
+    (s : List ℕ) (at kept fill : ℕ) (got : List ℕ) →
+    wrong-from s at kept fill got (length got - 0) 0 ≡ first-wrong s at kept fill got
+unfolding first-wrong
+from-first s at kept fill got = let e : length got - 0 ≡ length got = omega arith in rw e
 
 module _ (s : List ℕ) (at kept fill : ℕ) (got : List ℕ) (n i : ℕ) where
   -- after the last byte

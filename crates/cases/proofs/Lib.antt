@@ -4,3 +4,4 @@ pub mod FrameLaws
 pub mod JudgingLaws
 pub mod RunLaws
 pub mod TotalsLaws
+pub mod WalkingLaws

@@ -57,11 +57,11 @@ checkpoint-wrong s at c =
     (cond (eqb (c .length) (getD s (at + 1) 0)) (2 + first-wrong s (at + 2) 48 0 (c .bytes)) 1)
     0
 
--- all is the same, and no byte of the checkpoint is wrong
+-- no byte of the checkpoint is wrong, and all else is the same
 abbrev pub alike : Told → Told → ℕ → Bool
 alike a b wrong =
-    same (a .answer) (b .answer) && eqb (a .model) (b .model) && eqb (a .steps) (b .steps)
-    && eqb (a .expansions) (b .expansions) && eqb wrong 50
+    eqb wrong 50 && eqb (a .model) (b .model) && eqb (a .steps) (b .steps) && eqb (a .expansions) (b .expansions)
+    && same (a .answer) (b .answer)
 
 -- the start checkpoint is the expected one
 unfoldable pub start-agrees : List ℕ → Vector → Bool

@@ -18,7 +18,7 @@ pub fn wanted_byte(bytes: &[u8], at: usize, kept: usize, fill: u8, i: usize) -> 
 // Where the bytes that a call gave first have another than they must; their number if nowhere.
 pub fn first_wrong(bytes: &[u8], at: usize, kept: usize, fill: u8, got: &[u8]) -> usize
     requires { ⌜ at + kept ≤ length (now bytes) ⌝ }
-    ensures { λ r. ⌜ r ≡ first-wrong (now (bytes .entry)) at kept fill (now (got .entry)) ⌝ }
+    ensures { λ r. ⌜ (r ≡ first-wrong (now (bytes .entry)) at kept fill (now (got .entry))) × (r ≤ length (now (got .entry))) ⌝ }
 {
     let mut i: usize = 0;
     while i < got.len() {

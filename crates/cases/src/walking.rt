@@ -77,13 +77,11 @@ fn expected_call(bytes: &[u8], at: usize) -> Told
     }
 }
 
-// All is the same, and the checkpoint is wrong nowhere.
+// The checkpoint is wrong nowhere, and all else is the same.
 fn agree(wanted: Told, got: Told, wrong: usize) -> bool
     ensures { λ r. ⌜ r ≡ alike wanted got wrong ⌝ }
 {
-    let wanted_answer = wanted.answer;
-    let answer = got.answer;
-    if !equal(wanted_answer, answer) {
+    if wrong != 50 {
         return false;
     }
     if wanted.model != got.model {
@@ -95,7 +93,9 @@ fn agree(wanted: Told, got: Told, wrong: usize) -> bool
     if wanted.expansions != got.expansions {
         return false;
     }
-    wrong == 50
+    let wanted_answer = wanted.answer;
+    let answer = got.answer;
+    equal(wanted_answer, answer)
 }
 
 fn trail_at(bytes: &[u8], at: usize) -> [u8; 48]
