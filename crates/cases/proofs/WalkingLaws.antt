@@ -1,11 +1,12 @@
 -- Laws of the walk's calls and comparisons: each from what its parts ensure.
 use Prim.Native.Nat.{ℕ, zero, suc, _+_, _-_, _≤_}
 use mathlib.Core.Bool.{Bool}
-use mathlib.Core.List.{List, _∷_}
-use mathlib.Core.Path.{_≡_, refl}
+use mathlib.Core.List.{List, [], _∷_, _++_, append-nil}
+use mathlib.Core.Path.{_≡_, refl, _∙_}
 use native.Mathlib.Omega.{arith}
 use lib.Dec.{eqb}
-use lib.ListN.{getD, take, drop}
+use lib.ListN.{length, getD, take, drop, length-drop}
+use lib.Seq.{length-take-le, take-length, drop-length}
 use Rattle.walk.specs.Checkpoints.{Checkpoint, start}
 use Rattle.walk.specs.WalkCall.{Result, walk-call}
 use Rattle.enumeration.specs.declared.Answer.{Answer}
@@ -22,6 +23,20 @@ pub past-two : (mode length : ℕ) (trail : List ℕ) (i : ℕ) → 2 ≤ i → 
 past-two mode length trail zero h = absurd (omega arith)
 past-two mode length trail (suc zero) h = absurd (omega arith)
 past-two mode length trail (suc (suc i)) h = let e : suc (suc i) - 2 ≡ i = omega arith in rw e
+
+-- what was copied from a part of a list is the whole of an array of the part's length
+pub copied :
+    (s old new : List ℕ) (at : ℕ) →
+    at + 48 ≤ length s →
+    length old ≡ 48 →
+    (let part = take (at + 48 - at) (drop at s) in new ≡ take (length part) part ++ drop (length part) old) →
+    new ≡ take 48 (drop at s)
+copied s old new at h l f =
+    let d : at + 48 - at ≡ 48 = omega arith in
+    let m : 48 ≤ length (drop at s) = rw length-drop (omega arith) in
+    let n : length (take 48 (drop at s)) ≡ 48 = length-take-le 48 (drop at s) m in
+    let z : drop 48 old ≡ [] = rw (← l) (drop-length old) in
+    f ∙ rw (d, take-length, n, z, append-nil)
 
 -- the values of an answer have the checkpoint beside it
 kept : (a : Answer) (s e : ℕ) (c : Checkpoint) → answer-values a s e c .checkpoint ≡ c

@@ -3,3 +3,8 @@ pub mod NextLaws
 pub mod StepLaws
 pub mod RunLaws
 pub mod FollowsLaws
+pub mod FormLaws
+pub mod ReplayLaws
+pub mod TellLaws
+pub mod PlaceLaws
+pub mod WalkLaws

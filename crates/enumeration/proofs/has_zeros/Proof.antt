@@ -1,41 +1,39 @@
+-- `enumeration::has_zeros` meets its contract. The invariant: the bytes from the end to i are 0.
+use borrow.Author.Needs.{needs}
+use Prim.Native.Nat.{ℕ, _-_, _≤_, _<_}
+use mathlib.Core.Path.{_≡_, sym}
+use native.Mathlib.Omega.{arith}
+use lib.ListN.{getD}
+use Rattle.enumeration.proofs.FormLaws.{all-zeros, none-zeros, zeros-next}
 use Rattle.enumeration.proofs.has_zeros.Statement.{statement}
 use Rattle.enumeration.proofs.has_zeros.Tie as tie
-use Rattle.enumeration.proofs.has_zeros.Reads as reads
-use Rattle.enumeration.proofs.has_zeros.Lts as lts
 
 abbrev Inv-loop : tie.InvT-loop
-Inv-loop end bytes i₀ i = ?
+Inv-loop end bytes i₀ i = (end ≤ i) × (i ≤ 48) × ((k : ℕ) → end ≤ k → k < i → getD bytes k 0 ≡ 0)
 
 abbrev μ-loop : tie.MeasureT-loop
-μ-loop end bytes i₀ i = ?
+μ-loop end bytes i₀ i = 48 - i
 
--- src/lib.rt:361:5
 loop-holds : tie.Need-loop-holds Inv-loop μ-loop
-loop-holds c = ?
+loop-holds c = search needs
 
--- src/lib.rt:362:12
 array-read-if1 : tie.Need-array-read-if1 Inv-loop μ-loop
-array-read-if1 c = ?
+array-read-if1 c = search needs
 
--- src/lib.rt:363:13
 returns : tie.Need-returns Inv-loop μ-loop
-returns c = ?
+returns c = (sym (none-zeros _ _ (search needs) (c .before .before .before .pre) (c .before .before .loop .i) (search needs) (search needs) (c .if1 .taken)), search needs)
 
--- src/lib.rt:365:9
 add-i : tie.Need-add-i Inv-loop μ-loop
-add-i c = ?
+add-i c = search needs
 
--- src/lib.rt:361:5
 loop-less : tie.Need-loop-less Inv-loop μ-loop
-loop-less c = ?
+loop-less c = search needs
 
--- src/lib.rt:361:5
 loop-again : tie.Need-loop-again Inv-loop μ-loop
-loop-again c = ?
+loop-again c = (search needs, search needs, zeros-next (c .before .before .before .args .t1) _ _ (c .before .before .loop .inv .2) (c .if1 .left))
 
--- src/lib.rt:356:1
 returns-2 : tie.Need-returns-2 Inv-loop μ-loop
-returns-2 c = ?
+returns-2 c = (sym (all-zeros _ _ (search needs) (c .before .before .pre) (λ k m l. c .before .loop .inv .2 k m (omega arith))), search needs)
 
 pub has-zeros-spec : {M : Type 1} → statement M
 has-zeros-spec =

@@ -1,20 +1,20 @@
+-- `enumeration::number_of` meets its contract.
+use mathlib.Core.Path.{_≡_}
+use mathlib.Core.Bool.{true, false}
+use lib.Dec.{leb}
+use borrow.Author.Tests.{le-leb, lt-leb}
 use borrow.Author.Needs.{needs}
 use Rattle.enumeration.proofs.number_of.Statement.{statement}
 use Rattle.enumeration.proofs.number_of.Tie as tie
-use Rattle.enumeration.proofs.number_of.Reads as reads
-use Rattle.enumeration.proofs.number_of.Lts as lts
 
--- src/lib.rt:334:9
 cast-result : tie.Need-cast-result
 cast-result c = search needs
 
--- src/lib.rt:330:1
 returns : tie.Need-returns
-returns c = ?
+returns c = let e : leb 128 (c .before .args .b) ≡ true = le-leb _ _ (c .if1 .taken) in rw e
 
--- src/lib.rt:330:1
 returns-2 : tie.Need-returns-2
-returns-2 c = ?
+returns-2 c = let e : leb 128 (c .before .args .b) ≡ false = lt-leb _ _ (c .if1 .left) in rw e
 
 pub number-of-spec : {M : Type 1} → statement M
 number-of-spec = tie.close (tie.spec cast-result returns returns-2)

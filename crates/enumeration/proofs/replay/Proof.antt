@@ -1,55 +1,61 @@
+-- `enumeration::replay` meets its contract. The invariant: the state is the node of the first i bytes.
+use borrow.Author.Needs.{needs}
+use Prim.Native.Nat.{_+_, _-_, _≤_}
+use mathlib.Core.Path.{_≡_}
+use native.Mathlib.Omega.{arith}
+use lib.ListN.{take}
+use borrow.Author.Tests.{not-true, not-false}
+use Rattle.walk.specs.InnerStack.{empty, Tree}
+use Rattle.walk.specs.InnerTest.{pushed}
+use Rattle.enumeration.specs.InnerState.{Follows}
+use Rattle.enumeration.specs.InnerRead.{Node}
+use Rattle.enumeration.proofs.FormLaws.{formed-means, numbered-byte}
+use Rattle.enumeration.proofs.ReplayLaws.{node-replayed, replayed-next, replayed-stops}
 use Rattle.enumeration.proofs.replay.Statement.{statement}
 use Rattle.enumeration.proofs.replay.Tie as tie
-use Rattle.enumeration.proofs.replay.Reads as reads
-use Rattle.enumeration.proofs.replay.Lts as lts
-use Rattle.enumeration.proofs.replay_byte.Reads as replay-byte-reads
-use Rattle.enumeration.proofs.root.Reads as root-reads
 
 abbrev Inv-loop : tie.InvT-loop
-Inv-loop f bytes length s₀ i₀ s i = ?
+Inv-loop f bytes length s₀ i₀ s i = (i ≤ length) × ((K : Tree) → Follows f K → Node K (pushed empty (take i bytes)) s)
 
 abbrev μ-loop : tie.MeasureT-loop
-μ-loop f bytes length s₀ i₀ s i = ?
+μ-loop f bytes length s₀ i₀ s i = length - i
 
--- src/lib.rt:444:18
 cast-length : tie.Need-cast-length Inv-loop μ-loop
-cast-length c = ?
+cast-length c = search needs
 
--- src/lib.rt:445:9
 root-requires : tie.Need-root-requires Inv-loop μ-loop
-root-requires c κs = ?
+root-requires c κs = search needs
 
--- src/lib.rt:447:5
 loop-holds : tie.Need-loop-holds Inv-loop μ-loop
-loop-holds c = ?
+unfolding pushed
+loop-holds c = (search needs, λ K F. c .root .ensures K (let e = F .size in omega (arith, c .before .before .before .pre .0 .most)))
 
--- src/lib.rt:448:17
 array-read-b : tie.Need-array-read-b Inv-loop μ-loop
-array-read-b c = ?
+array-read-b c = let w = formed-means _ (c .before .before .before .before .before .pre .2) in omega (arith, w .length)
 
--- src/lib.rt:449:13
 replay-byte-requires : tie.Need-replay-byte-requires Inv-loop μ-loop
-replay-byte-requires c κs = ?
+replay-byte-requires c κs = let w = formed-means _ (c .before .before .before .before .before .pre .2) in
+    let l = c .before .before .before .before .before .pre .1 in
+    let ne = numbered-byte (c .before .before .before .before .before .args .c .bytes) _ (c .before .before .before .before .before .pre .3) (w .length) (c .before .loop .i) (search needs) (w .numbers) in
+    (c .before .before .before .before .before .pre .0, record { tree = l .tree; follows = l .follows; holds = c .before .loop .inv .1 (l .tree) (l .follows) .holds }, omega (arith, ne))
 
--- src/lib.rt:451:13
 returns : tie.Need-returns Inv-loop μ-loop
-returns c = ?
+returns c = λ K F.
+    let w = formed-means _ (c .before .before .before .before .before .before .before .before .pre .2) in
+    let l = w .length in
+    replayed-stops K (c .before .before .before .before .before .before .before .before .args .c .bytes) _ (c .before .before .before .before .loop .i + 1) (c .before .before .before .before .before .before .before .before .args .c .length) (search needs) (replayed-next K (c .before .before .before .before .before .before .before .before .args .c .bytes) _ (c .before .before .before .before .loop .i) (c .before .before .before .before .loop .s) (omega (arith, c .before .before .before .before .before .before .before .before .pre .3)) (c .before .before .before .before .loop .inv .1 K F) (c .before .before .replay-byte .ensures K F (c .before .before .before .before .loop .inv .1 K F .holds))) (not-true _ (c .if1 .taken))
 
--- src/lib.rt:454:9
 add-i : tie.Need-add-i Inv-loop μ-loop
-add-i c = ?
+add-i c = search needs
 
--- src/lib.rt:447:5
 loop-less : tie.Need-loop-less Inv-loop μ-loop
-loop-less c = ?
+loop-less c = search needs
 
--- src/lib.rt:447:5
 loop-again : tie.Need-loop-again Inv-loop μ-loop
-loop-again c = ?
+loop-again c = (search needs, λ K F. let w = formed-means _ (c .before .before .before .before .before .before .before .before .before .pre .2) in let l = w .length in replayed-next K (c .before .before .before .before .before .before .before .before .before .args .c .bytes) _ (c .before .before .before .before .before .loop .i) (c .before .before .before .before .before .loop .s) (omega (arith, c .before .before .before .before .before .before .before .before .before .pre .3)) (c .before .before .before .before .before .loop .inv .1 K F) (c .before .before .before .replay-byte .ensures K F (c .before .before .before .before .before .loop .inv .1 K F .holds)) .node (not-false _ (c .before .if1 .left)))
 
--- src/lib.rt:439:1
 returns-2 : tie.Need-returns-2 Inv-loop μ-loop
-returns-2 c = ?
+returns-2 c = λ K F. node-replayed K _ _ (let e : c .before .loop .i ≡ c .before .before .before .before .before .args .c .length = omega arith in rw (← e) (c .before .loop .inv .1 K F))
 
 pub replay-spec : {M : Type 1} → statement M
 replay-spec =

@@ -1,11 +1,33 @@
+-- `enumeration::root` meets its contract: nothing is assigned.
+use mathlib.Core.Path.{refl}
+use native.Mathlib.Omega.{arith}
+use Rattle.lists.specs.Padded.{padded}
+use Rattle.splitting.specs.InnerChoose.{assign-all}
+use Rattle.walk.specs.InnerStack.{trail-of}
+use Rattle.walk.specs.InnerTest.{pushed, replays}
 use Rattle.enumeration.proofs.root.Statement.{statement}
 use Rattle.enumeration.proofs.root.Tie as tie
-use Rattle.enumeration.proofs.root.Reads as reads
-use Rattle.enumeration.proofs.root.Lts as lts
 
--- src/lib.rt:313:1
 returns : tie.Need-returns
-returns c = ?
+unfolding padded assign-all trail-of pushed replays
+returns c = λ K small.
+    record {
+      holds = record {
+        place = omega arith;
+        room = small;
+        short = omega arith;
+        deep = refl;
+        bytes = refl;
+        assigned = refl;
+        replayed = refl;
+        opens = tt;
+        at-full = λ e. absurd (omega arith);
+        at-back = λ e. absurd (omega arith);
+        at-over = λ e. refl;
+      };
+      stack = refl;
+      place = refl;
+    }
 
 pub root-spec : {M : Type 1} → statement M
 root-spec = tie.close (tie.spec returns)

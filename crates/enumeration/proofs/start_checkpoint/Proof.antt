@@ -1,11 +1,13 @@
+-- `enumeration::start_checkpoint` meets its contract.
+use mathlib.Core.Path.{refl}
+use Rattle.lists.specs.Padded.{padded}
+use Rattle.walk.specs.Checkpoints.{checkpoint-of, start}
 use Rattle.enumeration.proofs.start_checkpoint.Statement.{statement}
 use Rattle.enumeration.proofs.start_checkpoint.Tie as tie
-use Rattle.enumeration.proofs.start_checkpoint.Reads as reads
-use Rattle.enumeration.proofs.start_checkpoint.Lts as lts
 
--- src/lib.rt:590:1
 returns : tie.Need-returns
-returns c = ?
+unfolding start checkpoint-of padded
+returns c = refl
 
 pub start-checkpoint-spec : {M : Type 1} → statement M
 start-checkpoint-spec = tie.close (tie.spec returns)

@@ -1,50 +1,38 @@
+-- `enumeration::take_place` meets its contract: by the mode.
 use borrow.Author.Needs.{needs}
+use Rattle.enumeration.proofs.PlaceLaws.{taken-start, taken-model, taken-assigned, taken-end}
 use Rattle.enumeration.proofs.take_place.Statement.{statement}
 use Rattle.enumeration.proofs.take_place.Tie as tie
-use Rattle.enumeration.proofs.take_place.Reads as reads
-use Rattle.enumeration.proofs.take_place.Lts as lts
-use Rattle.enumeration.proofs.placed.Reads as placed-reads
-use Rattle.enumeration.proofs.take_undone.Reads as take-undone-reads
 
--- src/lib.rt:516:9
 returns : tie.Need-returns
-returns c = ?
+returns c = λ K F n. taken-start _ K F _ n _ (c .before .if1 .taken)
 
--- src/lib.rt:525:24
 placed-requires : tie.Need-placed-requires
 placed-requires c κs = search needs
 
--- src/lib.rt:523:13
 returns-2 : tie.Need-returns-2
-returns-2 c = ?
+returns-2 c = λ K F n. taken-model _ K F _ n _ (c .before .before .before .before .before .if2 .taken) (c .before .before .if3 .taken) _ (c .placed .ensures)
 
--- src/lib.rt:528:9
 returns-3 : tie.Need-returns-3
-returns-3 c = ?
+returns-3 c = λ K F n. taken-assigned _ K F _ n _ (c .before .before .before .before .if2 .taken) (c .before .if3 .left)
 
--- src/lib.rt:534:9
 take-undone-requires : tie.Need-take-undone-requires
 take-undone-requires c κs = search needs
 
--- src/lib.rt:534:9
 returns-4 : tie.Need-returns-4
-returns-4 c = ?
+returns-4 c = λ K F n. rw (c .before .if4 .taken) (c .take-undone .ensures K F n)
 
--- src/lib.rt:537:9
 take-undone-requires-2 : tie.Need-take-undone-requires-2
 take-undone-requires-2 c κs = search needs
 
--- src/lib.rt:537:9
 returns-5 : tie.Need-returns-5
-returns-5 c = ?
+returns-5 c = λ K F n. rw (c .before .if5 .taken) (c .take-undone2 .ensures K F n)
 
--- src/lib.rt:541:16
 placed-requires-2 : tie.Need-placed-requires-2
 placed-requires-2 c κs = search needs
 
--- src/lib.rt:511:1
 returns-6 : tie.Need-returns-6
-returns-6 c = ?
+returns-6 c = λ K F n. taken-end _ K F _ n _ (c .before .before .before .before .before .if1 .left) (c .before .before .before .before .if2 .left) (c .before .before .before .if4 .left) (c .before .before .if5 .left) _ (c .placed2 .ensures)
 
 pub take-place-spec : {M : Type 1} → statement M
 take-place-spec =

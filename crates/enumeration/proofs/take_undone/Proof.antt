@@ -1,48 +1,48 @@
+-- `enumeration::take_undone` meets its contract: by the length, then by the value and what is open.
 use borrow.Author.Needs.{needs}
+use mathlib.Core.Path.{_≡_, refl}
+use mathlib.Core.Logic.{⊎-elim}
+use native.Mathlib.Omega.{arith}
+use borrow.Author.Tests.{not-true, not-false}
+use Rattle.walk.specs.InnerStack.{Tree}
+use Rattle.enumeration.specs.InnerState.{Follows, Holds, stack-in}
+use Rattle.enumeration.proofs.ReplayLaws.{choice-is, valid-short}
+use Rattle.enumeration.proofs.PlaceLaws.{taken-full, taken-true-root, taken-true, taken-false-root, taken-false}
 use Rattle.enumeration.proofs.take_undone.Statement.{statement}
 use Rattle.enumeration.proofs.take_undone.Tie as tie
-use Rattle.enumeration.proofs.take_undone.Reads as reads
-use Rattle.enumeration.proofs.take_undone.Lts as lts
-use Rattle.enumeration.proofs.mark.Reads as mark-reads
-use Rattle.enumeration.proofs.placed.Reads as placed-reads
-use Rattle.masks.proofs.full.Reads as full-reads
-use Rattle.splitting.proofs.choose.Reads as choose-reads
 
--- src/lib.rt:468:9
+-- the choice is the tree's
+choice : (c : tie.After-choose) (K : Tree) → Follows (c .before .before .before .before .before .before .args .f) K → Holds K (c .before .before .before .before .before .before .args .s) → c .choose .result ≡ K .choose (stack-in (c .before .before .before .before .before .before .args .s))
+choice c K F h = choice-is _ K F _ h (c .before .before .before .if1 .left) _ _ (c .before .full .ensures) (c .choose .ensures)
+
 returns : tie.Need-returns
-returns c = ?
+returns c = λ K F n. taken-full _ K F _ n (c .before .before .before .args .value) (c .if1 .taken)
 
--- src/lib.rt:474:34
 full-requires : tie.Need-full-requires
 full-requires c κs = search needs
 
--- src/lib.rt:474:9
 choose-requires : tie.Need-choose-requires
 choose-requires c κs = search needs
 
--- src/lib.rt:477:13
 returns-2 : tie.Need-returns-2
-returns-2 c = ?
+returns-2 c = λ K F n. rw (c .before .before .if2 .taken) (taken-true-root _ K F _ n (c .before .before .before .before .before .before .if1 .left) _ (choice (c .before .before .before) K F (n .holds)) (c .if3 .taken))
 
--- src/lib.rt:484:20
 placed-requires : tie.Need-placed-requires
 placed-requires c κs = search needs
 
--- src/lib.rt:482:9
 returns-3 : tie.Need-returns-3
-returns-3 c = ?
+returns-3 c = λ K F n. rw (c .before .before .before .if2 .taken) (taken-true _ K F _ n (c .before .before .before .before .before .before .before .if1 .left) _ (choice (c .before .before .before .before) K F (n .holds)) (c .before .if3 .left) _ (c .placed .ensures))
 
--- src/lib.rt:489:13
 returns-4 : tie.Need-returns-4
-returns-4 c = ?
+returns-4 c = λ K F n. rw (c .before .before .before .before .if2 .left) (taken-false-root _ K F _ n (c .before .before .before .before .before .before .before .before .if1 .left) _ (choice (c .before .before .before .before .before) K F (n .holds)) (c .before .before .if4 .taken) (not-true _ (c .if5 .taken)))
 
--- src/lib.rt:505:24
 mark-requires : tie.Need-mark-requires
-mark-requires c κs = search needs
+mark-requires c κs = let l = valid-short _ _ (c .before .before .before .before .before .before .before .before .before .before .pre .1) (c .before .before .before .before .before .before .before .if1 .left) in omega (arith, c .before .before .before .before .before .before .before .before .before .before .pre .0 .most)
 
--- src/lib.rt:463:1
 returns-5 : tie.Need-returns-5
-returns-5 c = ?
+returns-5 c = λ K F n.
+    rw (c .before .before .before .before .if2 .left, c .mark .ensures)
+    (taken-false _ K F _ n (c .before .before .before .before .before .before .before .before .if1 .left) _ (choice (c .before .before .before .before .before) K F (n .holds)) (λ z. ⊎-elim (λ w. not-false _ (w .2 .left)) (λ w. absurd (w .left z)) (c .before .before .if4 .came)) _ refl)
 
 pub take-undone-spec : {M : Type 1} → statement M
 take-undone-spec =

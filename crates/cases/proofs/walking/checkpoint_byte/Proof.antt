@@ -1,4 +1,5 @@
 -- `checkpoint_byte`: by the place.
+use Prim.Native.Nat.{_≤_}
 use native.Mathlib.Omega.{arith}
 use Rattle.cases.proofs.WalkingLaws.{past-two}
 use borrow.Author.Needs.{needs}
@@ -18,7 +19,10 @@ array-read-result : tie.Need-array-read-result
 array-read-result c = search needs
 
 returns-3 : tie.Need-returns-3
-returns-3 c = past-two _ _ _ _ (omega arith)
+returns-3 c = 
+    let a = c .before .before .before .args in
+    let h : 2 ≤ a .i = omega arith in
+    past-two _ _ (a .c .bytes) _ h
 
 pub checkpoint-byte-spec : {M : Type 1} → statement M
 checkpoint-byte-spec =

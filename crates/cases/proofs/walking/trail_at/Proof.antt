@@ -1,4 +1,5 @@
 -- `trail_at`: what was copied is all of the array.
+use Rattle.cases.proofs.WalkingLaws.{copied}
 use borrow.Author.Needs.{needs}
 use Rattle.cases.proofs.walking.trail_at.Statement.{statement}
 use Rattle.cases.proofs.walking.trail_at.Tie as tie
@@ -22,7 +23,10 @@ copy-requires : tie.Need-copy-requires
 copy-requires c κs = search needs
 
 returns : tie.Need-returns
-returns c = let e = c .before .copy .ensures .1 in let l = slice-aggregate-copy (c .before .before) in ?
+returns c =
+    let start = c .before .before .before .before .before in
+    copied (start .args .bytes .now) _ _ (start .args .at) (start .pre) (slice-aggregate-copy (c .before .before))
+    (c .before .copy .ensures .1)
 
 pub trail-at-spec : {M : Type 1} → statement M
 trail-at-spec =

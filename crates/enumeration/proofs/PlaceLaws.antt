@@ -1,0 +1,206 @@
+-- The place of a checkpoint's mode at the node of its trail.
+use Prim.Native.Nat.{ℕ, zero, suc}
+use mathlib.Core.Bool.{Bool, true, false, not, _&&_, _||_, true≢false, false≢true, and-true, and-false}
+use mathlib.Core.Path.{_≡_, refl, sym, ap, _∙_, subst}
+use native.Mathlib.Omega.{arith}
+use lib.Dec.{eqb, ltb}
+use borrow.Author.Tests.{eq-eqb, ne-eqb, eqb-true, lt-ltb, le-ltb}
+use Rattle.formula.specs.declared.Formula.{Formula}
+use Rattle.splitting.specs.declared.Choice.{Choice}
+use Rattle.walk.specs.Checkpoints.{undone-mode}
+use Rattle.walk.specs.Checkpoints as walk
+use Rattle.walk.specs.InnerStack.{Stack, empty, push, depth, Tree}
+use Rattle.walk.specs.InnerTest.{is-empty, replays, fits, formed, read, accepts}
+use Rattle.enumeration.specs.declared.State.{State}
+use Rattle.enumeration.specs.declared.Tested.{Tested}
+use Rattle.enumeration.specs.InnerState.{stack-in, position-at, Follows, Holds, marked-as, at-place}
+use Rattle.enumeration.specs.InnerRead.{Node, Replayed, Taken}
+use Rattle.enumeration.proofs.StateLaws.{Held, holds-held, held-holds, held-place, opens-next}
+use Rattle.enumeration.proofs.ReplayLaws.{within}
+
+-- a trail is empty exactly if its length is 0
+length-empty : (t : Stack) (n : ℕ) → depth t ≡ n → eqb n 0 ≡ is-empty t
+length-empty empty n e = eq-eqb n 0 (sym e)
+length-empty (push v b t) n e = ne-eqb n 0 (λ z. omega arith)
+
+empty-length : (t : Stack) → is-empty t ≡ true → depth t ≡ 0
+empty-length empty e = refl
+empty-length (push v b t) e = absurd (false≢true e)
+
+module _ (K : Tree) (m : ℕ) (t : Stack) where
+  -- no walk comes there
+  pub taken-none : (x : Bool) (r : Tested) → r .known ≡ false → x ≡ false → Taken K m t x r
+  taken-none x r e q =
+      record { known = e ∙ sym q; holds = λ y. absurd (true≢false (sym y ∙ e)); position = λ y. absurd (true≢false (sym y ∙ e)) }
+
+-- the state where false of the choice's variable was undone
+abbrev pub undoing : State → Choice → State
+undoing s c = record {
+  place = 2;
+  variable = c .variable;
+  length = s .length;
+  bytes = s .bytes;
+  assignment = s .assignment;
+  open_true = marked-as (s .open_true) (s .length) (c .true_open);
+}
+
+module _ (f : Formula) (K : Tree) (F : Follows f K) (s : State) (n : Node K (stack-in s) s) where
+  h : Holds K s
+  h = n .holds
+
+  is-empty-length : eqb (s .length) 0 ≡ is-empty (stack-in s)
+  is-empty-length = length-empty (stack-in s) (s .length) (h .deep)
+
+  -- ---- modes 2 and 3
+
+  fits-full : (b : Bool) → s .length ≡ f .variables → fits K (undone-mode b) (stack-in s) ≡ false
+  unfolding fits
+  fits-full b e =
+      let l : ltb (depth (stack-in s)) (K .size) ≡ false = le-ltb (depth (stack-in s)) (K .size) (let d = h .deep in let q = F .size in omega arith) in
+      at b l
+    where
+      at : (b : Bool) → ltb (depth (stack-in s)) (K .size) ≡ false → fits K (undone-mode b) (stack-in s) ≡ false
+      at false l = rw (h .replayed, l)
+      at true l = rw (h .replayed, l)
+
+  pub taken-full : (b : Bool) → s .length ≡ f .variables → Taken K (undone-mode b) (stack-in s) (fits K (undone-mode b) (stack-in s)) (record { known = false; state = s })
+  taken-full b e = taken-none K (undone-mode b) (stack-in s) _ _ refl (fits-full b e)
+
+  module _ (ne : s .length ≡ f .variables → ⊥) (c : Choice) (e : c ≡ K .choose (stack-in s)) where
+    below : ltb (depth (stack-in s)) (K .size) ≡ true
+    below = lt-ltb _ _ (within f K F s h ne)
+
+    fits-true : fits K 3 (stack-in s) ≡ c .true_open && not (eqb (s .length) 0)
+    unfolding fits
+    fits-true = rw (h .replayed, below, is-empty-length, e)
+
+    fits-false : fits K 2 (stack-in s) ≡ c .false_open && (not (eqb (s .length) 0) || c .true_open)
+    unfolding fits
+    fits-false = rw (h .replayed, below, is-empty-length, e)
+
+    pub taken-true-root : s .length ≡ 0 → Taken K 3 (stack-in s) (fits K 3 (stack-in s)) (record { known = false; state = s })
+    taken-true-root z = taken-none K 3 (stack-in s) _ _ refl (fits-true ∙ rw (eq-eqb (s .length) 0 z) (and-false (c .true_open)))
+
+    pub taken-true : (s .length ≡ 0 → ⊥) → (u : State) → u ≡ at-place s 3 → Taken K 3 (stack-in s) (fits K 3 (stack-in s)) (record { known = c .true_open; state = u })
+    taken-true z u q =
+        rw q
+        (record {
+          known = sym (fits-true ∙ rw (ne-eqb (s .length) 0 z) (and-true (c .true_open)));
+          holds = λ x. held-holds f K F _ (stack-in s)
+              (held-place K s (stack-in s) 3 (holds-held K s h) (omega arith) (λ y. absurd (omega arith)) (λ y. absurd (omega arith)) (λ y. absurd (omega arith)));
+          position = λ x. refl;
+        })
+
+    pub taken-false-root : s .length ≡ 0 → c .true_open ≡ false → Taken K 2 (stack-in s) (fits K 2 (stack-in s)) (record { known = false; state = s })
+    taken-false-root z o = taken-none K 2 (stack-in s) _ _ refl (fits-false ∙ rw (eq-eqb (s .length) 0 z, o) (and-false (c .false_open)))
+
+    undone-held : Held K (undoing s c) (stack-in s)
+    undone-held =
+        let k = holds-held K s h in
+        let y : c .true_open ≡ K .choose (stack-in s) .true_open = ap (λ (d : Choice). d .true_open) e in
+        let o = opens-next K (s .open_true) (s .length) (c .true_open) (stack-in s) (c .variable) false (h .deep) y (h .opens) in
+        record {
+          place = omega arith;
+          room = k .room;
+          deep = k .deep;
+          bytes = k .bytes;
+          assigned = k .assigned;
+          replayed = k .replayed;
+          opens = o .1;
+          at-full = λ x. absurd (omega arith);
+          at-back = λ x. (within f K F s h ne, ap (λ (d : Choice). d .variable) e, o .0);
+          at-over = λ x. absurd (omega arith);
+        }
+
+    pub taken-false : (s .length ≡ 0 → c .true_open ≡ true) → (u : State) → u ≡ undoing s c → Taken K 2 (stack-in s) (fits K 2 (stack-in s)) (record { known = c .false_open; state = u })
+    taken-false z u q =
+        rw q
+        (record {
+          known = sym (fits-false ∙ ap (λ (x : Bool). c .false_open && x) (at (eqb (s .length) 0) refl) ∙ and-true (c .false_open));
+          holds = λ x. held-holds f K F _ (stack-in s) undone-held;
+          position = λ x. refl;
+        })
+      where
+        at : (x : Bool) → eqb (s .length) 0 ≡ x → not x || c .true_open ≡ true
+        at true y = z (eqb-true (s .length) 0 y)
+        at false y = refl
+
+  -- ---- the other modes
+
+  pub taken-start : (m : ℕ) → m ≡ 0 → Taken K m (stack-in s) (fits K m (stack-in s)) (record { known = eqb (s .length) 0; state = s })
+  unfolding fits
+  taken-start m e =
+      rw e (record { known = is-empty-length; holds = λ x. h; position = λ x. ap (λ (p : ℕ). position-at p (stack-in s)) (n .place) })
+
+  fits-assigned : fits K 1 (stack-in s) ≡ not (eqb (s .length) 0)
+  unfolding fits
+  fits-assigned = rw (h .replayed, is-empty-length) (and-true (not (is-empty (stack-in s))))
+
+  pub taken-model : (m : ℕ) → m ≡ 1 → s .length ≡ f .variables → (u : State) → u ≡ at-place s 1
+      → Taken K m (stack-in s) (fits K m (stack-in s)) (record { known = not (eqb (s .length) 0); state = u })
+  taken-model m e l u q =
+      let d : depth (stack-in s) ≡ K .size = h .deep ∙ l ∙ sym (F .size) in
+      rw (e, q)
+      (record {
+        known = sym fits-assigned;
+        holds = λ x. held-holds f K F _ (stack-in s)
+            (held-place K s (stack-in s) 1 (holds-held K s h) (omega arith) (λ y. d) (λ y. absurd (omega arith)) (λ y. absurd (omega arith)));
+        position = λ x. rw (eq-eqb _ _ d);
+      })
+
+  pub taken-assigned : (m : ℕ) → m ≡ 1 → (s .length ≡ f .variables → ⊥)
+      → Taken K m (stack-in s) (fits K m (stack-in s)) (record { known = not (eqb (s .length) 0); state = s })
+  taken-assigned m e l =
+      let d : eqb (depth (stack-in s)) (K .size) ≡ false = ne-eqb _ _ (λ y. l (sym (h .deep) ∙ y ∙ F .size)) in
+      rw e
+      (record {
+        known = sym fits-assigned;
+        holds = λ x. h;
+        position = λ x. rw (d, n .place);
+      })
+
+  pub taken-end : (m : ℕ) → (m ≡ 0 → ⊥) → (m ≡ 1 → ⊥) → (m ≡ 2 → ⊥) → (m ≡ 3 → ⊥) → (u : State) → u ≡ at-place s 4
+      → Taken K m (stack-in s) (fits K m (stack-in s)) (record { known = eqb (s .length) 0; state = u })
+  unfolding fits
+  taken-end zero x y z w u q = absurd (x refl)
+  taken-end (suc zero) x y z w u q = absurd (y refl)
+  taken-end (suc (suc zero)) x y z w u q = absurd (z refl)
+  taken-end (suc (suc (suc zero))) x y z w u q = absurd (w refl)
+  taken-end (suc (suc (suc (suc m)))) x y z w u q =
+      rw q
+      (record {
+        known = is-empty-length;
+        holds = λ k. held-holds f K F _ (stack-in s)
+            (held-place K s (stack-in s) 4 (holds-held K s h) (omega arith) (λ y. absurd (omega arith)) (λ y. absurd (omega arith)) (λ y. h .deep ∙ eqb-true (s .length) 0 k));
+        position = λ k. refl;
+      })
+
+-- ---- the test
+
+module _ (K : Tree) where
+  -- a trail that does not replay
+  fits-none : (m : ℕ) (t : Stack) → replays K t ≡ false → fits K m t ≡ false
+  unfolding fits replays
+  fits-none zero empty e = absurd (true≢false e)
+  fits-none zero (push v b t) e = refl
+  fits-none (suc zero) t e = rw e (and-false (not (is-empty t)))
+  fits-none (suc (suc zero)) t e = rw e
+  fits-none (suc (suc (suc zero))) t e = rw e
+  fits-none (suc (suc (suc (suc m)))) empty e = absurd (true≢false e)
+  fits-none (suc (suc (suc (suc m)))) (push v b t) e = refl
+
+  module _ (c : walk.Checkpoint) (r : Tested) where
+    pub taken-unformed : formed c ≡ false → r .known ≡ false → Taken K (c .mode) (read c) (accepts K c) r
+    unfolding accepts
+    taken-unformed e q = taken-none K (c .mode) (read c) _ r q (rw e)
+
+    pub taken-unreplayed : formed c ≡ true → Replayed K (read c) r → r .known ≡ false → Taken K (c .mode) (read c) (accepts K c) r
+    unfolding accepts
+    taken-unreplayed e w q = taken-none K (c .mode) (read c) _ r q (rw e (fits-none (c .mode) (read c) (sym (w .known) ∙ q)))
+
+    pub taken-read : formed c ≡ true → (s : State) → Node K (read c) s → (Node K (stack-in s) s → Taken K (c .mode) (stack-in s) (fits K (c .mode) (stack-in s)) r)
+        → Taken K (c .mode) (read c) (accepts K c) r
+    unfolding accepts
+    taken-read e s n w =
+        rw e
+        (subst (λ (t : Stack). Taken K (c .mode) t (fits K (c .mode) t) r) (n .stack) (w (record { holds = n .holds; stack = refl; place = n .place })))

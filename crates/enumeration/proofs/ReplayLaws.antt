@@ -1,0 +1,110 @@
+-- A checkpoint's variables are assigned again, one by one.
+use Prim.Native.Nat.{ℕ, _+_, _-_, _≤_, _<_}
+use mathlib.Core.Bool.{Bool, true, false, true≢false, false≢true}
+use mathlib.Core.List.{List}
+use mathlib.Core.Path.{_≡_, refl, sym, ap, _∙_, subst}
+use native.Mathlib.Omega.{arith}
+use lib.Dec.{eqb, ltb}
+use lib.ListN.{length, take, getD}
+use borrow.Author.Tests.{eq-eqb, ne-eqb, lt-ltb, le-ltb}
+use Rattle.masks.specs.Mask.{full}
+use Rattle.formula.specs.declared.Formula.{Formula}
+use Rattle.splitting.specs.declared.Choice.{Choice}
+use Rattle.splitting.specs.InnerChoose.{chosen}
+use Rattle.walk.specs.InnerStack.{Stack, empty, push, depth, Tree}
+use Rattle.walk.specs.InnerTest.{byte-number, byte-value, pushed, is-open, replays}
+use Rattle.enumeration.specs.declared.State.{State}
+use Rattle.enumeration.specs.declared.Tested.{Tested}
+use Rattle.enumeration.specs.InnerState.{stack-in, Follows, Holds, Valid, pushing, marked-as}
+use Rattle.enumeration.specs.InnerRead.{Node, Replayed, noted}
+use Rattle.enumeration.proofs.StateLaws.{holds-held, held-stack, held-holds, held-push, held-marked, opens-next}
+use Rattle.enumeration.proofs.StepLaws.{choice-at}
+use Rattle.enumeration.proofs.FormLaws.{pushed-more, replays-stops}
+
+module _ (f : Formula) (K : Tree) (F : Follows f K) (s : State) (h : Holds K s) where
+  -- a trail of full length goes no further
+  replays-full : (v : ℕ) (b : Bool) → s .length ≡ f .variables → replays K (push v b (stack-in s)) ≡ false
+  unfolding replays
+  replays-full v b e =
+      let l : ltb (depth (stack-in s)) (K .size) ≡ false = le-ltb (depth (stack-in s)) (K .size) (let d = h .deep in let q = F .size in omega arith) in
+      rw (h .replayed, l)
+
+  pub replayed-full : (v : ℕ) (b : Bool) → s .length ≡ f .variables → Replayed K (push v b (stack-in s)) (record { known = false; state = s })
+  replayed-full v b e = record { known = sym (replays-full v b e); node = λ x. absurd (false≢true x) }
+
+  module _ (ne : s .length ≡ f .variables → ⊥) where
+    not-full : s .length < f .variables
+    not-full = let d = h .short in let q = F .size in omega arith
+
+    pub within : depth (stack-in s) < K .size
+    within = let d = h .deep in let l = not-full in let q = F .size in omega arith
+
+    pub choice-is : (m : ℕ) (c : Choice) → m ≡ full (f .variables) → c ≡ chosen f m (s .assignment) → c ≡ K .choose (stack-in s)
+    choice-is m c e x = x ∙ ap (λ (k : ℕ). chosen f k (s .assignment)) e ∙ choice-at f K F s h not-full
+
+    module _ (c : Choice) (e : c ≡ K .choose (stack-in s)) where
+      choice-low : c .variable < f .variables
+      choice-low = rw e (F .low (stack-in s) (h .replayed) within)
+
+      -- another variable than the chosen one
+      replays-other : (v : ℕ) (b : Bool) → (v ≡ c .variable → ⊥) → replays K (push v b (stack-in s)) ≡ false
+      unfolding replays
+      replays-other v b x =
+          let l : ltb (depth (stack-in s)) (K .size) ≡ true = lt-ltb _ _ within in
+          let q : eqb v (K .choose (stack-in s) .variable) ≡ false = ne-eqb _ _ (λ y. x (y ∙ sym (ap (λ (d : Choice). d .variable) e))) in
+          rw (h .replayed, l, q)
+
+      pub replayed-other : (v : ℕ) (b : Bool) → (v ≡ c .variable → ⊥) → Replayed K (push v b (stack-in s)) (record { known = false; state = s })
+      replayed-other v b x = record { known = sym (replays-other v b x); node = λ y. absurd (false≢true y) }
+
+      -- the chosen one
+      replays-open : (b : Bool) → replays K (push (c .variable) b (stack-in s)) ≡ is-open c b
+      unfolding replays
+      replays-open b =
+          let l : ltb (depth (stack-in s)) (K .size) ≡ true = lt-ltb _ _ within in
+          let q : eqb (c .variable) (K .choose (stack-in s) .variable) ≡ true = eq-eqb _ _ (ap (λ (d : Choice). d .variable) e) in
+          rw (h .replayed, l, q) (ap (λ (d : Choice). is-open d b) (sym e))
+
+      node-more : (b : Bool) → is-open c b ≡ true → Node K (push (c .variable) b (stack-in s)) (pushing (noted s (c .true_open)) (c .variable) b)
+      node-more b o =
+          let t = stack-in s in
+          let k = holds-held K s h in
+          let x = opens-next K (s .open_true) (s .length) (c .true_open) t (c .variable) in
+          let y : c .true_open ≡ K .choose t .true_open = ap (λ (d : Choice). d .true_open) e in
+          let n = held-push f K F (noted s (c .true_open)) t (held-marked K s t (marked-as (s .open_true) (s .length) (c .true_open)) k (x true (h .deep) y (h .opens)))
+          (c .variable) b within (ap (λ (d : Choice). d .variable) e) (ap (λ (d : Choice). is-open d b) (sym e) ∙ o) (x b (h .deep) y (h .opens)) in
+          record {
+            holds = held-holds f K F _ _ n;
+            stack = held-stack f K F _ _ n;
+            place = refl;
+          }
+
+      pub replayed-chosen : (v : ℕ) (x b : Bool) (u : State) → v ≡ c .variable → x ≡ b → u ≡ pushing (noted s (c .true_open)) (c .variable) b
+          → Replayed K (push v x (stack-in s)) (record { known = is-open c b; state = u })
+      replayed-chosen v x b u p q r = rw (p, q, r) (record { known = sym (replays-open b); node = node-more b })
+
+-- what the next call needs
+module _ (f : Formula) (s : State) (w : Valid f s) (ne : s .length ≡ f .variables → ⊥) where
+  pub valid-short : s .length < f .variables
+  valid-short = not-full f (w .tree) (w .follows) s (w .holds) ne
+
+  pub valid-low : (m : ℕ) (c : Choice) → m ≡ full (f .variables) → c ≡ chosen f m (s .assignment) → c .variable < f .variables
+  valid-low m c e x = choice-low f (w .tree) (w .follows) s (w .holds) ne c (choice-is f (w .tree) (w .follows) s (w .holds) ne m c e x)
+
+-- ---- the trail, byte by byte
+
+module _ (K : Tree) where
+  -- a node's trail replays
+  pub node-replayed : (t : Stack) (s : State) → Node K t s → Replayed K t (record { known = true; state = s })
+  node-replayed t s n = record { known = sym (ap (replays K) (sym (n .stack)) ∙ n .holds .replayed); node = λ e. n }
+
+  module _ (l : List ℕ) (r : Tested) where
+    -- one byte more
+    pub replayed-next : (i : ℕ) (s : State) → i < length l → Node K (pushed empty (take i l)) s
+        → Replayed K (push (byte-number (getD l i 0) - 1) (byte-value (getD l i 0)) (stack-in s)) r → Replayed K (pushed empty (take (i + 1) l)) r
+    replayed-next i s h n w =
+        subst (λ (t : Stack). Replayed K t r) (ap (push (byte-number (getD l i 0) - 1) (byte-value (getD l i 0))) (n .stack) ∙ sym (pushed-more l i h)) w
+
+    -- a byte that does not replay
+    pub replayed-stops : (i k : ℕ) → i ≤ k → Replayed K (pushed empty (take i l)) r → r .known ≡ false → Replayed K (pushed empty (take k l)) r
+    replayed-stops i k h w e = record { known = e ∙ sym (replays-stops K l i k h (sym (w .known) ∙ e)); node = λ x. absurd (true≢false (sym x ∙ e)) }
