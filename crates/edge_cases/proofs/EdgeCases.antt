@@ -12,8 +12,8 @@ use Rattle.formula.specs.Format.{Literal, names, names-as}
 use Rattle.formula.specs.Masked.{variables}
 use Rattle.formula.specs.Refusals.{Listing, listing}
 use Rattle.matching.specs.Search.{owner, no-links, begin, see, scan, take-front, expand, search-from, rematch-from, match-rest, outcome, marks}
-use Rattle.matching.specs.Matched.{Matched}
 use Rattle.matched.specs.Judge.{accepted, refusal, judge}
+use Rattle.matched.specs.Pairing.{Pairs}
 use Rattle.splitting.specs.Nodes.{less, assign, remaining, occurs, named, first-from, upward-from}
 use Rattle.splitting.specs.Stripping.{pure, not-naming, strip}
 use Rattle.splitting.specs.Choosing.{matched, trial, first-passing, candidates, among, listed, last, emptied, last-listed, choice}
@@ -111,7 +111,7 @@ unfolding decode records read-record names
 tail-byte = refl
 
 -- start marker, budget 0, pairable sheet: spent, with the checkpoint unchanged
-pub start-zero : (s : List ℕ) (n : ℕ) (cs : List (List Literal)) → decode s ≡ readable n cs → Matched (map variables cs)
+pub start-zero : (s : List ℕ) (n : ℕ) (cs : List (List Literal)) → decode s ≡ readable n cs → (vs : List ℕ) → Pairs cs vs
     → walk-call s start 0 ≡ answered spent 0 0 start
 start-zero = demands.start-zero
 

@@ -1,10 +1,11 @@
 -- The tree of a matched formula is the one that the code's choices make.
-use Prim.Native.Nat.{ℕ, _+_, _*_, _≤_, _<_}
-use mathlib.Core.Bool.{Bool, true, false, cond, not, _||_, or-assoc, or-false, or-comm}
+use Prim.Native.Nat.{ℕ, suc, _+_, _*_, _≤_, _<_}
+use mathlib.Core.Bool.{Bool, true, false, cond, not, _&&_, _||_, or-assoc, or-false, or-comm}
 use mathlib.Core.List.{List, [], _∷_, map}
 use mathlib.Core.Path.{_≡_, refl, sym, ap, _∙_}
 use native.Mathlib.Nat.{le-trans, mul-le-mul}
 use native.Mathlib.Omega.{arith}
+use lib.Dec.{ltb}
 use lib.ListN.{length}
 use borrow.Author.Tests.{ltb-true, lt-ltb}
 use Rattle.lists.proofs.TestLaws.{and-both}
@@ -12,7 +13,7 @@ use Rattle.masks.specs.Mask.{bit, with, full}
 use Rattle.masks.proofs.BitLaws.{bit-none, bit-with, bit-full}
 use Rattle.masks.proofs.MembersLaws.{mask-same}
 use Rattle.matching.specs.Matched.{Matched}
-use Rattle.formula.specs.Format.{Literal, Sized}
+use Rattle.formula.specs.Format.{Literal, names, Sized}
 use Rattle.formula.specs.Masked.{variables, formula-of}
 use Rattle.splitting.specs.declared.Assignment.{Assignment}
 use Rattle.splitting.specs.Choosing.{choice}

@@ -1,19 +1,21 @@
 -- The place of a checkpoint's mode at the node of its trail.
-use Prim.Native.Nat.{ℕ, zero, suc}
-use mathlib.Core.Bool.{Bool, true, false, not, _&&_, _||_, true≢false, false≢true, and-true, and-false}
+use Prim.Native.Nat.{ℕ, zero, suc, _≤_, _<_}
+use mathlib.Core.Bool.{Bool, true, false, cond, not, _&&_, _||_, true≢false, false≢true, and-true, and-false, or-true}
 use mathlib.Core.Path.{_≡_, refl, sym, ap, _∙_, subst}
 use native.Mathlib.Omega.{arith}
 use lib.Dec.{eqb, ltb}
 use borrow.Author.Tests.{eq-eqb, ne-eqb, eqb-true, lt-ltb, le-ltb}
+use Rattle.masks.specs.Mask.{bit}
 use Rattle.formula.specs.declared.Formula.{Formula}
 use Rattle.splitting.specs.declared.Choice.{Choice}
 use Rattle.walk.specs.Checkpoints.{undone-mode}
 use Rattle.walk.specs.Checkpoints as walk
 use Rattle.walk.specs.InnerStack.{Stack, empty, push, depth, Tree}
-use Rattle.walk.specs.InnerTest.{is-empty, replays, fits, formed, read, accepts}
+use Rattle.walk.specs.InnerMachine.{Position, down, full, back, over}
+use Rattle.walk.specs.InnerTest.{is-empty, replays, fits, formed, read, accepts, position-of}
 use Rattle.enumeration.specs.declared.State.{State}
 use Rattle.enumeration.specs.declared.Tested.{Tested}
-use Rattle.enumeration.specs.InnerState.{stack-in, position-at, Follows, Holds, marked-as, at-place}
+use Rattle.enumeration.specs.InnerState.{stack-in, position-at, position-in, Follows, Holds, marked-as, at-place}
 use Rattle.enumeration.specs.InnerRead.{Node, Replayed, Taken}
 use Rattle.enumeration.proofs.StateLaws.{Held, holds-held, held-holds, held-place, opens-next}
 use Rattle.enumeration.proofs.ReplayLaws.{within}

@@ -1,6 +1,6 @@
 -- A checkpoint's variables are assigned again, one by one.
 use Prim.Native.Nat.{ℕ, _+_, _-_, _≤_, _<_}
-use mathlib.Core.Bool.{Bool, true, false, true≢false, false≢true}
+use mathlib.Core.Bool.{Bool, true, false, _&&_, true≢false, false≢true}
 use mathlib.Core.List.{List}
 use mathlib.Core.Path.{_≡_, refl, sym, ap, _∙_, subst}
 use native.Mathlib.Omega.{arith}
@@ -10,14 +10,15 @@ use borrow.Author.Tests.{eq-eqb, ne-eqb, lt-ltb, le-ltb}
 use Rattle.masks.specs.Mask.{full}
 use Rattle.formula.specs.declared.Formula.{Formula}
 use Rattle.splitting.specs.declared.Choice.{Choice}
-use Rattle.splitting.specs.InnerChoose.{chosen}
-use Rattle.walk.specs.InnerStack.{Stack, empty, push, depth, Tree}
-use Rattle.walk.specs.InnerTest.{byte-number, byte-value, pushed, is-open, replays}
+use Rattle.splitting.specs.InnerChoose.{assignment-of, chosen}
+use Rattle.splitting.specs.Terms.{opened}
+use Rattle.walk.specs.InnerStack.{Stack, empty, push, depth, trail-of, Tree}
+use Rattle.walk.specs.InnerTest.{byte-number, byte-value, pushed, replays}
 use Rattle.enumeration.specs.declared.State.{State}
 use Rattle.enumeration.specs.declared.Tested.{Tested}
 use Rattle.enumeration.specs.InnerState.{stack-in, Follows, Holds, Valid, pushing, marked-as}
 use Rattle.enumeration.specs.InnerRead.{Node, Replayed, noted}
-use Rattle.enumeration.proofs.StateLaws.{holds-held, held-stack, held-holds, held-push, held-marked, opens-next}
+use Rattle.enumeration.proofs.StateLaws.{Held, holds-held, held-stack, held-holds, held-push, held-marked, opens-next}
 use Rattle.enumeration.proofs.StepLaws.{choice-at}
 use Rattle.enumeration.proofs.FormLaws.{pushed-more, replays-stops}
 
@@ -58,21 +59,21 @@ module _ (f : Formula) (K : Tree) (F : Follows f K) (s : State) (h : Holds K s) 
       replayed-other v b x = record { known = sym (replays-other v b x); node = λ y. absurd (false≢true y) }
 
       -- the chosen one
-      replays-open : (b : Bool) → replays K (push (c .variable) b (stack-in s)) ≡ is-open c b
+      replays-open : (b : Bool) → replays K (push (c .variable) b (stack-in s)) ≡ opened c b
       unfolding replays
       replays-open b =
           let l : ltb (depth (stack-in s)) (K .size) ≡ true = lt-ltb _ _ within in
           let q : eqb (c .variable) (K .choose (stack-in s) .variable) ≡ true = eq-eqb _ _ (ap (λ (d : Choice). d .variable) e) in
-          rw (h .replayed, l, q) (ap (λ (d : Choice). is-open d b) (sym e))
+          rw (h .replayed, l, q) (ap (λ (d : Choice). opened d b) (sym e))
 
-      node-more : (b : Bool) → is-open c b ≡ true → Node K (push (c .variable) b (stack-in s)) (pushing (noted s (c .true_open)) (c .variable) b)
+      node-more : (b : Bool) → opened c b ≡ true → Node K (push (c .variable) b (stack-in s)) (pushing (noted s (c .true_open)) (c .variable) b)
       node-more b o =
           let t = stack-in s in
           let k = holds-held K s h in
           let x = opens-next K (s .open_true) (s .length) (c .true_open) t (c .variable) in
           let y : c .true_open ≡ K .choose t .true_open = ap (λ (d : Choice). d .true_open) e in
           let n = held-push f K F (noted s (c .true_open)) t (held-marked K s t (marked-as (s .open_true) (s .length) (c .true_open)) k (x true (h .deep) y (h .opens)))
-          (c .variable) b within (ap (λ (d : Choice). d .variable) e) (ap (λ (d : Choice). is-open d b) (sym e) ∙ o) (x b (h .deep) y (h .opens)) in
+          (c .variable) b within (ap (λ (d : Choice). d .variable) e) (ap (λ (d : Choice). opened d b) (sym e) ∙ o) (x b (h .deep) y (h .opens)) in
           record {
             holds = held-holds f K F _ _ n;
             stack = held-stack f K F _ _ n;
@@ -80,7 +81,7 @@ module _ (f : Formula) (K : Tree) (F : Follows f K) (s : State) (h : Holds K s) 
           }
 
       pub replayed-chosen : (v : ℕ) (x b : Bool) (u : State) → v ≡ c .variable → x ≡ b → u ≡ pushing (noted s (c .true_open)) (c .variable) b
-          → Replayed K (push v x (stack-in s)) (record { known = is-open c b; state = u })
+          → Replayed K (push v x (stack-in s)) (record { known = opened c b; state = u })
       replayed-chosen v x b u p q r = rw (p, q, r) (record { known = sym (replays-open b); node = node-more b })
 
 -- what the next call needs

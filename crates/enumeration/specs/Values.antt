@@ -3,7 +3,7 @@ use Prim.Native.Nat.{ℕ}
 use Rattle.formula.specs.Refusals.{listing}
 use Rattle.walk.specs.Checkpoints as walk
 use Rattle.walk.specs.PlainMachine as plain
-use Rattle.walk.specs.WalkCall.{says-model, says-spent, says-ended, says-refused, Result}
+use Rattle.walk.specs.WalkCall.{Kind, says-model, says-spent, says-ended, says-refused, Result}
 use Rattle.enumeration.specs.declared.Answer.{Answer}
 use Rattle.enumeration.specs.declared.Answer.the-variants.{Model, Spent, Ended, Refused}
 use Rattle.enumeration.specs.declared.Checkpoint.{Checkpoint}

@@ -16,7 +16,8 @@ use Rattle.walk.proofs.PositionLaws.{position-back}
 use Rattle.walk.proofs.TestLaws.{fits-stop, stop-fits}
 use Rattle.walk.proofs.ByteLaws.{Below, read-written, written-formed, formed-written, formed-mode}
 
-mode-le : (p : Position) → mode-of p ≤ 4
+-- a position's mode is 0 to 4
+pub mode-le : (p : Position) → mode-of p ≤ 4
 mode-le (down empty) = omega arith
 mode-le (down (push v b t)) = omega arith
 mode-le (full t) = omega arith

@@ -16,6 +16,7 @@ use Rattle.formula.specs.Masked.{variables}
 use Rattle.formula.specs.Models.{Model}
 use Rattle.matched.specs.Judge.{refusal, judge}
 use Rattle.matched.specs.Pairing.{Pairs, Pairable}
+use Rattle.matched.proofs.PairingLaws.{pairs-matches}
 use Rattle.splitting.specs.Terms.{Agrees}
 use Rattle.walk.specs.Plain.{assign, plain-walk, listing}
 use Rattle.walk.specs.Checkpoints.{Checkpoint, checkpoint-of, start, behind}
@@ -51,7 +52,12 @@ pub record Dealt (s : List ℕ) (n : ℕ) (cs : List (List Literal)) (bs : List 
   pub ample : (b : ℕ) → 96 ≤ b
       → (walk-call s (last-checkpoint s start bs) b .kind ≡ says-model) ⊎ (walk-call s (last-checkpoint s start bs) b .kind ≡ says-ended)
 
-module _ (s : List ℕ) (n : ℕ) (cs : List (List Literal)) (reads : decode s ≡ readable n cs) (M : Matched (map variables cs)) where
+-- 'A sheet is readable if none of 2 to 9 is given for it, and pairable if each rule can have a switch that it names, no switch used
+-- twice.'
+module _ (s : List ℕ) (n : ℕ) (cs : List (List Literal)) (reads : decode s ≡ readable n cs) (vs : List ℕ) (pairs : Pairs cs vs) where
+  M : Matched (map variables cs)
+  M = (vs, pairs-matches cs vs pairs)
+
   -- DEMAND 3
   pub demand-3 : (bs : List ℕ) → Dealt s n cs bs
   demand-3 bs = record {

@@ -10,9 +10,9 @@ use Rattle.lists.specs.Distinct.{Distinct}
 use Rattle.lists.proofs.DistinctLaws.{distinct-append}
 use Rattle.masks.specs.Mask.{bit}
 use Rattle.formula.specs.Format.{Literal}
+use Rattle.splitting.specs.Terms.{opened}
 use Rattle.walk.specs.Plain.{Entry, assign, undo, model, end, value-walk, models-of}
 use Rattle.walk.specs.InnerStack.{Stack, empty, push, depth, Tree}
-use Rattle.walk.specs.InnerTest.{is-open}
 use Rattle.walk.proofs.RestLaws.{entries, walk, Replayed, Live}
 
 abbrev when : Bool → List ℕ → List ℕ
@@ -55,7 +55,7 @@ Agrees a (push v b t) = (bit a v ≡ b) × Agrees a t
 pub record Splits (K : Tree) (Model : ℕ → Type 0) : Type 0 where
   pub full-model : (t : Stack) → Replayed K t → depth t ≡ K .size → Model (K .result t) × Agrees (K .result t) t
   pub full-only : (t : Stack) → Replayed K t → depth t ≡ K .size → (a : ℕ) → Model a → Agrees a t → a ≡ K .result t
-  pub shut : (t : Stack) → Replayed K t → depth t < K .size → (b : Bool) → is-open (K .choose t) b ≡ false → (a : ℕ) → Model a
+  pub shut : (t : Stack) → Replayed K t → depth t < K .size → (b : Bool) → opened (K .choose t) b ≡ false → (a : ℕ) → Model a
       → Agrees a (push (K .choose t .variable) b t) → ⊥
 
 module _ (K : Tree) (Model : ℕ → Type 0) (P : Splits K Model) where
@@ -107,7 +107,7 @@ module _ (K : Tree) (Model : ℕ → Type 0) (P : Splits K Model) where
       sub : (b : Bool) → List ℕ
       sub b = models-of (entries K d (push (K .choose t .variable) b t))
 
-      open-at : (b : Bool) → bit a (K .choose t .variable) ≡ b → (x : Bool) → is-open (K .choose t) b ≡ x → is-open (K .choose t) b ≡ true
+      open-at : (b : Bool) → bit a (K .choose t .variable) ≡ b → (x : Bool) → opened (K .choose t) b ≡ x → opened (K .choose t) b ≡ true
       open-at b e true o = o
       open-at b e false o = absurd (P .shut t r (omega arith) b o a p (e, g))
 

@@ -11,7 +11,7 @@ use lib.ListN.{length}
 use Rattle.masks.specs.Mask.{bit, full}
 use Rattle.masks.proofs.BitLaws.{bit-above}
 use Rattle.matching.specs.Matched.{Matched}
-use Rattle.formula.specs.Format.{Literal, distinct, Sized}
+use Rattle.formula.specs.Format.{Literal, names, distinct, Sized}
 use Rattle.formula.specs.Masked.{variables}
 use Rattle.formula.specs.Models.{Model}
 use Rattle.formula.proofs.FormatLaws.{clause-more}
@@ -23,7 +23,6 @@ use Rattle.splitting.specs.Terms.{Sound, Trail, opened}
 use Rattle.splitting.proofs.Theorems.{matched-sound, open-sound, sound-model, formula-below, remaining-snoc, full-model, open-means, choice-cost}
 use Rattle.walk.specs.Plain.{Entry, end, assignment, chosen, node-walk, plain-walk}
 use Rattle.walk.specs.InnerStack.{Stack, empty, push, depth, trail-of, tree}
-use Rattle.walk.specs.InnerTest.{is-open}
 use Rattle.walk.proofs.RestLaws.{entries, walk, Replayed, replayed-ind, Live}
 use Rattle.walk.proofs.PositionLaws.{length-trail}
 use Rattle.walk.proofs.ListingLaws.{Agrees, Splits}
@@ -44,10 +43,6 @@ node-same n cs (suc k) t =
 pub walk-same : (n : ℕ) (cs : List (List Literal)) → plain-walk n cs ≡ walk (tree n cs)
 unfolding plain-walk walk trail-of
 walk-same n cs = ap (λ (l : List Entry). l ++ (end ∷ [])) (node-same n cs n empty)
-
-open-is : (c : Choice) (b : Bool) → opened c b ≡ is-open c b
-open-is c false = refl
-open-is c true = refl
 
 -- agreeing with a trail, newest first or in order
 trail-agrees : (a : ℕ) (t : Stack) → terms.Agrees (bit a) (trail-of t) → Agrees a t
@@ -91,14 +86,14 @@ module _ (n : ℕ) (cs : List (List Literal)) (Z : Sized n cs) (M : Matched (map
   short : (t : Stack) → depth t < n → length (trail-of t) < n
   short t h = omega (arith, length-trail t)
 
-  grow : (t : Stack) → Node t → depth t < n → (b : Bool) → is-open (picked t) b ≡ true → Node (push (picked t .variable) b t)
+  grow : (t : Stack) → Node t → depth t < n → (b : Bool) → opened (picked t) b ≡ true → Node (push (picked t .variable) b t)
   unfolding trail-of
   grow t N h b o =
       let w = open-means n cs (trail-of t) fits (Z .clauses) (N .trail) (short t h) (N .sound) in
       record {
         trail = clause-more (record { variable = picked t .variable; positive = b }) (N .trail) (w .0) (w .1);
         sound = rw (remaining-snoc (trail-of t) (record { variable = picked t .variable; positive = b }) cs)
-            (open-sound n (full n) cs (trail-of t) fits low (N .sound) b (open-is (picked t) b ∙ o));
+            (open-sound n (full n) cs (trail-of t) fits low (N .sound) b o);
         below = (w .0, N .below);
       }
 
@@ -109,20 +104,29 @@ module _ (n : ℕ) (cs : List (List Literal)) (Z : Sized n cs) (M : Matched (map
   pub trail-below : (t : Stack) → Replayed (tree n cs) t → Below n t
   trail-below t r = node t r .below
 
+  -- its variables are below n, none twice
+  pub trail-over : (t : Stack) → Replayed (tree n cs) t → Trail n (trail-of t)
+  trail-over t r = node t r .trail
+
+  -- the chosen variable is below n and not assigned yet
+  pub choice-fresh : (t : Stack) → Replayed (tree n cs) t → depth t < n → (picked t .variable < n) × (names (trail-of t) (picked t .variable) ≡ false)
+  choice-fresh t r h =
+      let N = node t r in
+      let w = open-means n cs (trail-of t) fits (Z .clauses) (N .trail) (short t h) (N .sound) in (w .0, w .1)
+
   -- a value is open exactly if some model agrees with it
-  pub open-model : (t : Stack) → Replayed (tree n cs) t → depth t < n → (b : Bool) → is-open (picked t) b ≡ true
+  pub open-model : (t : Stack) → Replayed (tree n cs) t → depth t < n → (b : Bool) → opened (picked t) b ≡ true
       → (a : ℕ) × Model n cs a × Agrees a (push (picked t .variable) b t)
   open-model t r h b o =
       let N = node t r in
-      let w = open-means n cs (trail-of t) fits (Z .clauses) (N .trail) (short t h) (N .sound) .2 b .0 (open-is (picked t) b ∙ o) in
+      let w = open-means n cs (trail-of t) fits (Z .clauses) (N .trail) (short t h) (N .sound) .2 b .0 o in
       (w .0, w .1, (w .3, trail-agrees (w .0) t (w .2)))
 
   model-open : (t : Stack) → Replayed (tree n cs) t → depth t < n → (b : Bool) → (a : ℕ) → Model n cs a → Agrees a (push (picked t .variable) b t)
-      → is-open (picked t) b ≡ true
+      → opened (picked t) b ≡ true
   model-open t r h b a m g =
       let N = node t r in
-      sym (open-is (picked t) b)
-      ∙ open-means n cs (trail-of t) fits (Z .clauses) (N .trail) (short t h) (N .sound) .2 b .1 (a, m, agrees-trail a t (g .1), g .0)
+      open-means n cs (trail-of t) fits (Z .clauses) (N .trail) (short t h) (N .sound) .2 b .1 (a, m, agrees-trail a t (g .1), g .0)
 
   has-model : (t : Stack) → Replayed (tree n cs) t → (a : ℕ) × Model n cs a × Agrees a t
   has-model empty r = let w = sound-model n cs low (matched-sound n cs M) in (w .0, w .1, tt)

@@ -4,7 +4,7 @@ use mathlib.Core.Bool.{Bool, true, false, cond, not, _&&_, _||_}
 use mathlib.Core.List.{List, [], _∷_}
 use lib.Dec.{eqb, leb, ltb}
 use lib.ListN.{take, drop}
-use Rattle.splitting.specs.declared.Choice.{Choice}
+use Rattle.splitting.specs.Terms.{opened}
 use Rattle.walk.specs.Checkpoints.{Checkpoint, checkpoint-of, undone-mode}
 use Rattle.walk.specs.InnerStack.{Stack, empty, push, depth, trail-of, Tree}
 use Rattle.walk.specs.InnerMachine.{Position, down, full, back, over}
@@ -72,16 +72,11 @@ abbrev pub is-empty : Stack → Bool
 is-empty empty = true
 is-empty (push v b t) = false
 
--- the value b of the chosen variable is open
-abbrev pub is-open : Choice → Bool → Bool
-is-open c false = c .false_open
-is-open c true = c .true_open
-
 module _ (K : Tree) where
   -- each variable of the trail was chosen, and its value open
   unfoldable pub replays : Stack → Bool
   replays empty = true
-  replays (push v b t) = replays t && (ltb (depth t) (K .size) && (eqb v (K .choose t .variable) && is-open (K .choose t) b))
+  replays (push v b t) = replays t && (ltb (depth t) (K .size) && (eqb v (K .choose t .variable) && opened (K .choose t) b))
 
   -- the mode's own condition
   unfoldable pub fits : ℕ → Stack → Bool

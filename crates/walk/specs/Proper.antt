@@ -9,8 +9,8 @@ use Rattle.masks.specs.Mask.{full}
 use Rattle.formula.specs.Format.{Literal}
 use Rattle.splitting.specs.declared.Choice.{Choice}
 use Rattle.splitting.specs.Choosing.{choice}
+use Rattle.splitting.specs.Terms.{opened}
 use Rattle.walk.specs.Checkpoints.{Checkpoint, checkpoint-of}
-use Rattle.walk.specs.InnerTest.{is-open}
 
 module _ (n : ℕ) (cs : List (List Literal)) where
   -- the choice at the node of a trail
@@ -20,7 +20,7 @@ module _ (n : ℕ) (cs : List (List Literal)) where
   -- after the trail u each variable of t was chosen in its turn, and its value open
   abbrev pub ByChoice : List Literal → List Literal → Type 0
   ByChoice u [] = Unit {0}
-  ByChoice u (l ∷ t) = (l .variable ≡ at-node u .variable) × (is-open (at-node u) (l .positive) ≡ true) × ByChoice (u ++ (l ∷ [])) t
+  ByChoice u (l ∷ t) = (l .variable ≡ at-node u .variable) × (opened (at-node u) (l .positive) ≡ true) × ByChoice (u ++ (l ∷ [])) t
 
   -- '0 start, length 0; 1 just settled; 2 an off was just taken back; 3 an on was just taken back; 4 ended, length 0'. A value was
   -- undone only where it is open, at a node that is not full. At length 0 mode 3 is never had, and mode 2 only where true is open: else

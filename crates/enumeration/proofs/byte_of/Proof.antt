@@ -12,6 +12,9 @@ cast-result c = search needs
 add-result-2 : tie.Need-add-result-2
 add-result-2 c = search needs
 
+add-result-3 : tie.Need-add-result-3
+add-result-3 c = search needs
+
 cast-result-2 : tie.Need-cast-result-2
 cast-result-2 c = search needs
 
@@ -23,4 +26,4 @@ returns-2 c = rw (c .if1 .left)
 
 pub byte-of-spec : {M : Type 1} → statement M
 byte-of-spec =
-    tie.close (tie.spec add-result cast-result add-result-2 cast-result-2 returns returns-2)
+    tie.close (tie.spec add-result add-result-2 cast-result add-result-3 cast-result-2 returns returns-2)

@@ -6,6 +6,8 @@ use borrow.Author.Tests.{le-leb, lt-leb}
 use borrow.Author.Needs.{needs}
 use Rattle.enumeration.proofs.number_of.Statement.{statement}
 use Rattle.enumeration.proofs.number_of.Tie as tie
+use Rattle.enumeration.proofs.number_of.Reads as reads
+use Rattle.enumeration.proofs.number_of.Lts as lts
 
 cast-result : tie.Need-cast-result
 cast-result c = search needs

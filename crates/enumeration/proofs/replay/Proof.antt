@@ -1,6 +1,6 @@
 -- `enumeration::replay` meets its contract. The invariant: the state is the node of the first i bytes.
 use borrow.Author.Needs.{needs}
-use Prim.Native.Nat.{_+_, _-_, _≤_}
+use Prim.Native.Nat.{ℕ, _+_, _-_, _≤_, _<_}
 use mathlib.Core.Path.{_≡_}
 use native.Mathlib.Omega.{arith}
 use lib.ListN.{take}
@@ -9,6 +9,7 @@ use Rattle.walk.specs.InnerStack.{empty, Tree}
 use Rattle.walk.specs.InnerTest.{pushed}
 use Rattle.enumeration.specs.InnerState.{Follows}
 use Rattle.enumeration.specs.InnerRead.{Node}
+use Rattle.enumeration.specs.Values.{checkpoint-values}
 use Rattle.enumeration.proofs.FormLaws.{formed-means, numbered-byte}
 use Rattle.enumeration.proofs.ReplayLaws.{node-replayed, replayed-next, replayed-stops}
 use Rattle.enumeration.proofs.replay.Statement.{statement}

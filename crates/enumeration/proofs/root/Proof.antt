@@ -7,6 +7,8 @@ use Rattle.walk.specs.InnerStack.{trail-of}
 use Rattle.walk.specs.InnerTest.{pushed, replays}
 use Rattle.enumeration.proofs.root.Statement.{statement}
 use Rattle.enumeration.proofs.root.Tie as tie
+use Rattle.enumeration.proofs.root.Reads as reads
+use Rattle.enumeration.proofs.root.Lts as lts
 
 returns : tie.Need-returns
 unfolding padded assign-all trail-of pushed replays

@@ -4,6 +4,8 @@ use Rattle.lists.specs.Padded.{padded}
 use Rattle.walk.specs.Checkpoints.{checkpoint-of, start}
 use Rattle.enumeration.proofs.start_checkpoint.Statement.{statement}
 use Rattle.enumeration.proofs.start_checkpoint.Tie as tie
+use Rattle.enumeration.proofs.start_checkpoint.Reads as reads
+use Rattle.enumeration.proofs.start_checkpoint.Lts as lts
 
 returns : tie.Need-returns
 unfolding start checkpoint-of padded

@@ -1,7 +1,9 @@
 -- `enumeration::well_formed` meets its contract: the mode, the length, the bytes before it and those from it on.
 use borrow.Author.Needs.{needs}
-use mathlib.Core.Bool.{false≢true}
-use mathlib.Core.Path.{sym, _∙_}
+use mathlib.Core.Bool.{true, false, true≢false, false≢true}
+use mathlib.Core.Path.{_≡_, sym, _∙_}
+use lib.Dec.{leb}
+use borrow.Author.Tests.{le-leb, lt-leb}
 use Rattle.enumeration.proofs.FormLaws.{formed-mode, formed-length, formed-numbers, formed-zeros}
 use Rattle.enumeration.proofs.well_formed.Statement.{statement}
 use Rattle.enumeration.proofs.well_formed.Tie as tie
