@@ -5,7 +5,7 @@ VECTORS has one JSON object a line: "act", its input and the expected answer. Ve
 left out.
 
 Format. A file holds vectors of one act, one after the other, and nothing else; it has at most 65,536 bytes, so an act has
-files NAME0, NAME1, .. Numbers are little-endian. A vector is
+files NAME0, NAME1, .., at most ten; start has one, start. Numbers are little-endian. A vector is
 
     2 bytes   its number: the line of VECTORS, from 1, or from 60,000 for a vector of this script
     2 bytes   the length of its input
@@ -480,8 +480,10 @@ def main():
         old.unlink()
     report = []
     for act, found in groups.items():
-        for i, f in enumerate(files_of(found)):
-            (data / f'{act}{i}').write_bytes(f)
+        files = files_of(found)
+        assert len(files) <= 10
+        for i, f in enumerate(files):
+            (data / (act if act == 'start' else f'{act}{i}')).write_bytes(f)
         report.append((act, sum(map(len, found)), 'calls' if act == 'chain' else 'vectors'))
         if act in EDGES:
             edges = list(EDGES[act]())

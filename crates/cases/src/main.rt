@@ -23,6 +23,8 @@ mod runs;
 mod totals;
 mod walking;
 
+ghost use Prim.Native.Nat.{_<_, _≤_};
+ghost use lib.ListN.{length};
 ghost use Rattle.cases.specs.Runs.{AfterFile};
 ghost use Rattle.cases.specs.Totals.{Room};
 use runs::Act;
@@ -49,70 +51,34 @@ fn run_file(t: Totals, name: &[u8], act: Act) -> Totals
     run.totals
 }
 
-fn run_check() {
-    let mut t = run_file(totals::none(), b"check0", Act::Check);
-    t = run_file(t, b"check1", Act::Check);
-    report::summary(b"check", b"vectors", t);
-    report::summary(
-        b"check_edges",
-        b"vectors",
-        run_file(totals::none(), b"check_edges", Act::Check),
-    );
+// The files of an act, whose names end in 0, 1 and so on, and then the line that sums them up.
+fn run_files(name: &[u8], count: u8, act: Act, unit: &[u8])
+    requires { ⌜ (length (now name) < 16) × (count ≤ 10) ⌝ }
+{
+    let mut path = [0u8; 16];
+    let end = bytes::copy(name, &mut path);
+    let mut t = totals::none();
+    let mut i: u8 = 0;
+    while i < count {
+        path[end] = 48 + i;
+        t = run_file(t, &path[..end + 1], act);
+        i += 1;
+    }
+    report::summary(name, unit, t);
 }
 
-fn run_judge() {
-    let mut t = run_file(totals::none(), b"judge0", Act::Judge);
-    t = run_file(t, b"judge1", Act::Judge);
-    t = run_file(t, b"judge2", Act::Judge);
-    t = run_file(t, b"judge3", Act::Judge);
-    t = run_file(t, b"judge4", Act::Judge);
-    report::summary(b"judge", b"vectors", t);
-    report::summary(
-        b"judge_edges",
-        b"vectors",
-        run_file(totals::none(), b"judge_edges", Act::Judge),
-    );
-}
-
-fn run_start() {
-    report::summary(
-        b"start",
-        b"vectors",
-        run_file(totals::none(), b"start0", Act::Start),
-    );
-}
-
-fn run_walk() {
-    let mut t = run_file(totals::none(), b"walk0", Act::Walk);
-    t = run_file(t, b"walk1", Act::Walk);
-    t = run_file(t, b"walk2", Act::Walk);
-    t = run_file(t, b"walk3", Act::Walk);
-    t = run_file(t, b"walk4", Act::Walk);
-    t = run_file(t, b"walk5", Act::Walk);
-    report::summary(b"walk", b"vectors", t);
-    report::summary(
-        b"walk_edges",
-        b"vectors",
-        run_file(totals::none(), b"walk_edges", Act::Walk),
-    );
-}
-
-// The calls of chains.
-fn run_chain() {
-    let mut t = run_file(totals::none(), b"chain0", Act::Walk);
-    t = run_file(t, b"chain1", Act::Walk);
-    t = run_file(t, b"chain2", Act::Walk);
-    t = run_file(t, b"chain3", Act::Walk);
-    t = run_file(t, b"chain4", Act::Walk);
-    t = run_file(t, b"chain5", Act::Walk);
-    t = run_file(t, b"chain6", Act::Walk);
-    report::summary(b"chain", b"calls", t);
+// A file of its own, and its line.
+fn run_alone(name: &[u8], act: Act) {
+    report::summary(name, b"vectors", run_file(totals::none(), name, act));
 }
 
 fn main() {
-    run_check();
-    run_judge();
-    run_start();
-    run_walk();
-    run_chain();
+    run_files(b"check", 2, Act::Check, b"vectors");
+    run_alone(b"check_edges", Act::Check);
+    run_files(b"judge", 5, Act::Judge, b"vectors");
+    run_alone(b"judge_edges", Act::Judge);
+    run_alone(b"start", Act::Start);
+    run_files(b"walk", 6, Act::Walk, b"vectors");
+    run_alone(b"walk_edges", Act::Walk);
+    run_files(b"chain", 7, Act::Walk, b"calls");
 }

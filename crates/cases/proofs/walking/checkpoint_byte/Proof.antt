@@ -19,7 +19,7 @@ array-read-result : tie.Need-array-read-result
 array-read-result c = search needs
 
 returns-3 : tie.Need-returns-3
-returns-3 c = 
+returns-3 c =
     let a = c .before .before .before .args in
     let h : 2 ≤ a .i = omega arith in
     past-two _ _ (a .c .bytes) _ h
