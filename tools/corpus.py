@@ -5,17 +5,17 @@ VECTORS has one JSON object a line: "act", its input and the expected answer. Ve
 left out.
 
 Format. A file holds vectors of one act, one after the other, and nothing else; it has at most 65,536 bytes, so an act has
-files NAME0, NAME1, .. Numbers are little-endian. A vector is
+files NAME0, NAME1, .., at most ten; start has one, start. Numbers are little-endian. A vector is
 
     2 bytes   its number: the line of VECTORS, from 1, or from 60,000 for a vector of this script
     2 bytes   the length of its input
     ..        its input
-    6 bytes   the expected answer
+    6 bytes   the expected answer; start has none
     ..        its own fields, by act
 
 An answer:
 
-    1 byte    what it says: 0 no, 1 yes (check), 2 refused, 3 matched (judge)
+    1 byte    what it says: 0 no, 1 yes (check), 2 refused, 3 matched (judge), 4 model, 5 spent, 6 ended (walk)
     1 byte    the refusal's number, else 0
     2 bytes   the refusal's place, else 0
     1 byte    n, the number of variables, if matched, else 0
@@ -29,6 +29,24 @@ Own fields of judge, 98 bytes. The lent buffer is the first bytes of an array of
     1 byte    the fill: what every byte of the array is before the call
     96 bytes  the first 96 bytes of the array after the call; each later byte must be the fill
 
+A checkpoint, 50 bytes: its mode, its length and 48 bytes of its trail.
+
+Own field of start, 50 bytes: the expected checkpoint. Its input is empty.
+
+Own fields of walk, 121 bytes:
+
+    8 bytes   the expected model, else 0
+    4 bytes   the expected number of steps
+    4 bytes   the expected number of expansions
+    50 bytes  the checkpoint that the call must return
+    1 byte    which checkpoint the call gets: 0 the one that follows, 1 the start checkpoint, 2 the one that the call of the
+              vector before it returned, which stands in the same file
+    50 bytes  the checkpoint that the call gets if that byte is 0, else zeros
+    4 bytes   the budget
+
+A chain of VECTORS is a list of calls on one input: here a vector of walk for each, with the number of the chain; the first gets
+the start checkpoint and each other what the call before it returned.
+
 A further act is a coder in ACTS, and in the program a case of `Act`, its file names and a reader of its own fields.
 """
 import json
@@ -38,9 +56,10 @@ import sys
 LIMIT = 65536  # bytes of a file: what the program reads at once
 CASES = pathlib.Path(__file__).resolve().parent.parent / 'crates' / 'cases'
 
-NO, YES, REFUSED, MATCHED = range(4)
-SAYS = {'no': NO, 'yes': YES, 'refused': REFUSED}
+NO, YES, REFUSED, MATCHED, MODEL, SPENT, ENDED = range(7)
+SAYS = {'no': NO, 'yes': YES, 'refused': REFUSED, 'set-up': MODEL, 'spent': SPENT, 'ended': ENDED}
 WRITTEN = 96  # bytes of the array that judge may write
+START, LAST = 1, 2  # the checkpoint that a walk call gets, if it is not given
 
 
 def little(x, size):
@@ -61,9 +80,17 @@ def judge_fields(length, fill, written):
     return little(length, 1) + little(fill, 1) + written + bytes([fill]) * (WRITTEN - len(written))
 
 
+def walk_fields(model, steps, expansions, returned, origin, budget):
+    """The fields of walk; `origin` is START, LAST or the bytes of a checkpoint."""
+    flag, given = (0, origin) if isinstance(origin, bytes) else (origin, bytes(50))
+    assert len(returned) == len(given) == 50
+    return little(model, 8) + little(steps, 4) + little(expansions, 4) + returned + little(flag, 1) + given + little(budget, 4)
+
+
+# The coder of an act gives the vectors that stand together in one file.
 def check_vector(number, v):
     answer = answer_of(SAYS[v['answer']], *(v['refusal'] or ()))
-    return coded(number, bytes.fromhex(v['sheet']), answer, little(int(v['setup'], 16), 8))
+    return [coded(number, bytes.fromhex(v['sheet']), answer, little(int(v['setup'], 16), 8))]
 
 
 def judge_vector(number, v):
@@ -71,10 +98,29 @@ def judge_vector(number, v):
     assert len(after) == length and all(b == fill for b in after[WRITTEN:])
     says, refusal = (REFUSED, v['refusal']) if v['refusal'] else (MATCHED, (0, 0))
     answer = answer_of(says, *refusal, v['n'], v['m'])
-    return coded(number, bytes.fromhex(v['sheet']), answer, judge_fields(length, fill, after[:WRITTEN]))
+    return [coded(number, bytes.fromhex(v['sheet']), answer, judge_fields(length, fill, after[:WRITTEN]))]
 
 
-ACTS = {'check': check_vector, 'judge': judge_vector}
+def start_vector(number, v):
+    return [coded(number, b'', b'', bytes.fromhex(v['marker']))]
+
+
+def walk_vector(number, v):
+    answer = answer_of(SAYS[v['answer']], *(v['refusal'] or ()))
+    fields = walk_fields(int(v['setup'], 16), v['moves'], v['reaches'], bytes.fromhex(v['marker_out']),
+                         bytes.fromhex(v['marker']), v['budget'])
+    return [coded(number, bytes.fromhex(v['sheet']), answer, fields)]
+
+
+def chain_vector(number, v):
+    calls = []
+    for budget, answer, model, returned, steps, expansions in v['calls']:
+        fields = walk_fields(int(model, 16), steps, expansions, bytes.fromhex(returned), LAST if calls else START, budget)
+        calls.append(coded(number, bytes.fromhex(v['sheet']), answer_of(SAYS[answer]), fields))
+    return calls
+
+
+ACTS = {'check': check_vector, 'judge': judge_vector, 'start': start_vector, 'walk': walk_vector, 'chain': chain_vector}
 
 # Edge cases. The expected answers are written here by hand, from document 01.
 EXAMPLE = '01 02 02 01 02 02 04 03 01 03 02 04 05'
@@ -253,6 +299,144 @@ JUDGE_EDGES = [
 ]
 
 
+# walk: input, the checkpoint that the call gets, budget, what the answer says, the refusal's number and place, the model, the
+# checkpoint returned, steps, expansions
+def checkpoint(mode, length, trail='', past=''):
+    """The trail's bytes, zeros, and the last bytes, all of 48."""
+    first, last = bytes.fromhex(trail), bytes.fromhex(past)
+    return bytes([mode, length]) + first + bytes(48 - len(first) - len(last)) + last
+
+
+def refused(given, number, place, formulas_budgets):
+    """Refusals of one checkpoint: it comes back, with zeros."""
+    for formula, budget in formulas_budgets:
+        yield formula, given, budget, REFUSED, number, place, 0, given, 0, 0
+
+
+def foreign(given, *formulas):
+    return refused(given, 11, 0, [(f, 5) for f in formulas])
+
+
+CLOSED_TRUE = '01 01 03 01 04 05'  # the clause (not 1): variable 1 has no model as true
+TWO_FREE = '01 02 05'
+ALL_FREE = '01 30 05'
+PURE_LAST = '01 02 02 01 02 02 04 02 01 03 02 04 05'  # document 01's: clauses (1, 2) and (1, not 2); 2 is assigned before 1
+MOST = (1 << 32) - 1
+FIRST = checkpoint(0, 0)
+OVER = checkpoint(4, 0)
+STRANGE = checkpoint(200, 77, 'ff 00 80 07', '2a')
+
+WALK_EDGES = [
+    # no such mode, no such length
+    *foreign(STRANGE, EXAMPLE, CLOSED_TRUE, ALL_FREE),
+    *foreign(checkpoint(5, 0), EXAMPLE),
+    *foreign(checkpoint(255, 0), EXAMPLE),
+    *foreign(checkpoint(1, 49, in_order(1, 48)), ALL_FREE),
+    *foreign(checkpoint(1, 255, in_order(1, 48)), ALL_FREE),
+    # start and end with a length or with a byte past it
+    *foreign(checkpoint(0, 1, '01'), EXAMPLE),
+    *foreign(checkpoint(0, 1), EXAMPLE),
+    *foreign(checkpoint(0, 0, '01'), EXAMPLE),
+    *foreign(checkpoint(0, 0, '', '01'), EXAMPLE),
+    *foreign(checkpoint(4, 1, '01'), EXAMPLE),
+    *foreign(checkpoint(4, 2, '81 02'), EXAMPLE),
+    *foreign(checkpoint(4, 0, '01'), EXAMPLE),
+    *foreign(checkpoint(4, 0, '', '80'), EXAMPLE),
+    # nothing assigned: never just assigned, and never with true just undone
+    *foreign(checkpoint(1, 0), EXAMPLE, CLOSED_TRUE, TWO_FREE),
+    *foreign(checkpoint(3, 0), EXAMPLE, CLOSED_TRUE, TWO_FREE),
+    # false undone at the root: had only where true is open too
+    *foreign(checkpoint(2, 0), CLOSED_TRUE),
+    (EXAMPLE, checkpoint(2, 0), 0, SPENT, 0, 0, 0, checkpoint(2, 0), 0, 0),
+    (EXAMPLE, checkpoint(2, 0), 1, SPENT, 0, 0, 0, checkpoint(1, 1, '81'), 1, 0),
+    (EXAMPLE, checkpoint(2, 0), 2, MODEL, 0, 0, 0b01, checkpoint(1, 2, '81 02'), 2, 0),
+    # a byte past the length; a byte that names no variable
+    *foreign(checkpoint(1, 1, '01 82'), EXAMPLE),
+    *foreign(checkpoint(1, 1, '01', '01'), EXAMPLE),
+    *foreign(checkpoint(2, 0, '01'), EXAMPLE),
+    *foreign(checkpoint(1, 1, '80'), EXAMPLE),
+    *foreign(checkpoint(1, 1, '00'), EXAMPLE),
+    *foreign(checkpoint(1, 1, '03'), EXAMPLE),
+    *foreign(checkpoint(1, 1, 'ff'), EXAMPLE),
+    *foreign(checkpoint(1, 2, '01 80'), EXAMPLE),
+    # a trail of other choices
+    *foreign(checkpoint(1, 1, '02'), EXAMPLE, TWO_FREE),
+    *foreign(checkpoint(1, 1, '82'), EXAMPLE, TWO_FREE),
+    *foreign(checkpoint(1, 1, '01'), PURE_LAST),
+    *foreign(checkpoint(1, 2, '82 01'), EXAMPLE),
+    *foreign(checkpoint(1, 2, '01 01'), EXAMPLE, TWO_FREE),
+    *foreign(checkpoint(1, 2, '01 81'), EXAMPLE, TWO_FREE),
+    # closed values
+    *foreign(checkpoint(1, 2, '01 02'), EXAMPLE),
+    *foreign(checkpoint(1, 2, '81 82'), EXAMPLE),
+    *foreign(checkpoint(1, 2, '02 01'), PURE_LAST),
+    *foreign(checkpoint(1, 1, '81'), CLOSED_TRUE),
+    *foreign(checkpoint(2, 1, '01'), EXAMPLE),
+    *foreign(checkpoint(3, 1, '81'), EXAMPLE),
+    # false undone where true is closed, and true undone where false is
+    (EXAMPLE, checkpoint(2, 1, '81'), 0, SPENT, 0, 0, 0, checkpoint(2, 1, '81'), 0, 0),
+    (EXAMPLE, checkpoint(2, 1, '81'), 1, ENDED, 0, 0, 0, OVER, 1, 0),
+    (EXAMPLE, checkpoint(3, 1, '01'), 0, SPENT, 0, 0, 0, checkpoint(3, 1, '01'), 0, 0),
+    (EXAMPLE, checkpoint(3, 1, '01'), 1, SPENT, 0, 0, 0, checkpoint(2, 0), 1, 0),
+    (EXAMPLE, checkpoint(3, 1, '01'), 3, MODEL, 0, 0, 0b01, checkpoint(1, 2, '81 02'), 3, 0),
+    # nothing is undone at a full trail, and none is longer
+    *foreign(checkpoint(2, 2, '01 82'), EXAMPLE),
+    *foreign(checkpoint(3, 2, '01 82'), EXAMPLE),
+    *foreign(checkpoint(2, 1, '01'), CLOSED_TRUE),
+    *foreign(checkpoint(1, 3, '01 82 01'), EXAMPLE),
+    *foreign(checkpoint(2, 48, in_order(1, 48)), ALL_FREE),
+    *foreign(checkpoint(3, 48, in_order(1, 48)), ALL_FREE),
+    # a full trail: the model was handed out
+    (EXAMPLE, checkpoint(1, 2, '01 82'), 0, SPENT, 0, 0, 0, checkpoint(1, 2, '01 82'), 0, 0),
+    (EXAMPLE, checkpoint(1, 2, '01 82'), 1, SPENT, 0, 0, 0, checkpoint(3, 1, '01'), 1, 0),
+    (EXAMPLE, checkpoint(1, 2, '01 82'), 2, SPENT, 0, 0, 0, checkpoint(2, 0), 2, 0),
+    (EXAMPLE, checkpoint(1, 2, '01 82'), 3, SPENT, 0, 0, 0, checkpoint(1, 1, '81'), 3, 0),
+    (EXAMPLE, checkpoint(1, 2, '01 82'), 4, MODEL, 0, 0, 0b01, checkpoint(1, 2, '81 02'), 4, 0),
+    (EXAMPLE, checkpoint(1, 2, '81 02'), 1, SPENT, 0, 0, 0, checkpoint(2, 1, '81'), 1, 0),
+    (EXAMPLE, checkpoint(1, 2, '81 02'), 2, ENDED, 0, 0, 0, OVER, 2, 0),
+    (CLOSED_TRUE, checkpoint(1, 1, '01'), 0, SPENT, 0, 0, 0, checkpoint(1, 1, '01'), 0, 0),
+    (CLOSED_TRUE, checkpoint(1, 1, '01'), 1, ENDED, 0, 0, 0, OVER, 1, 0),
+    # refusals of the input come before those of the checkpoint, and before an end
+    *refused(STRANGE, 10, 2, [(UNMATCHED, 0), (UNMATCHED, MOST)]),
+    *refused(OVER, 10, 2, [(UNMATCHED, 0), (UNMATCHED, MOST)]),
+    *refused(FIRST, 10, 1, [('01 01 04 05', MOST)]),
+    *refused(STRANGE, 3, 2, [(UNREADABLE, MOST)]),
+    *refused(OVER, 3, 2, [(UNREADABLE, 0), (UNREADABLE, MOST)]),
+    *refused(OVER, 2, 0, [('', 0)]),
+    *refused(OVER, 9, 3, [('01 01 05 00', 0)]),
+    # budgets, from the start and from the end
+    (EXAMPLE, START, 0, SPENT, 0, 0, 0, FIRST, 0, 0),
+    (EXAMPLE, FIRST, 0, SPENT, 0, 0, 0, FIRST, 0, 0),
+    (EXAMPLE, FIRST, 1, SPENT, 0, 0, 0, checkpoint(1, 1, '01'), 1, 2),
+    (EXAMPLE, FIRST, 2, MODEL, 0, 0, 0b10, checkpoint(1, 2, '01 82'), 2, 2),
+    (EXAMPLE, FIRST, MOST, MODEL, 0, 0, 0b10, checkpoint(1, 2, '01 82'), 2, 2),
+    (EXAMPLE, checkpoint(1, 1, '01'), 1, MODEL, 0, 0, 0b10, checkpoint(1, 2, '01 82'), 1, 0),
+    (EXAMPLE, OVER, 0, ENDED, 0, 0, 0, OVER, 0, 0),
+    (EXAMPLE, OVER, MOST, ENDED, 0, 0, 0, OVER, 0, 0),
+    (CLOSED_TRUE, FIRST, MOST, MODEL, 0, 0, 0, checkpoint(1, 1, '01'), 1, 0),
+    # 48 variables
+    (ALL_FREE, FIRST, 47, SPENT, 0, 0, 0, checkpoint(1, 47, in_order(1, 47)), 47, 0),
+    (ALL_FREE, FIRST, 48, MODEL, 0, 0, 0, checkpoint(1, 48, in_order(1, 48)), 48, 0),
+    (ALL_FREE, LAST, 1, SPENT, 0, 0, 0, checkpoint(2, 47, in_order(1, 47)), 1, 0),
+    (ALL_FREE, LAST, MOST, MODEL, 0, 0, 1 << 47, checkpoint(1, 48, in_order(1, 47) + ' b0'), 1, 0),
+    (ALL_FREE, LAST, 2, SPENT, 0, 0, 0, checkpoint(2, 46, in_order(1, 46)), 2, 0),
+    (ALL_FREE, checkpoint(1, 48, in_order(0x81, 0xb0)), MOST, ENDED, 0, 0, 0, OVER, 48, 0),
+    # whole walks; the last checkpoint goes with the formula that it is for
+    (PURE_LAST, START, MOST, MODEL, 0, 0, 0b01, checkpoint(1, 2, '02 81'), 2, 0),
+    (PURE_LAST, LAST, MOST, MODEL, 0, 0, 0b11, checkpoint(1, 2, '82 81'), 4, 0),
+    (PURE_LAST, LAST, MOST, ENDED, 0, 0, 0, OVER, 2, 0),
+    (PURE_LAST, LAST, MOST, ENDED, 0, 0, 0, OVER, 0, 0),
+    (TWO_FREE, START, MOST, MODEL, 0, 0, 0b00, checkpoint(1, 2, '01 02'), 2, 0),
+    (TWO_FREE, LAST, MOST, MODEL, 0, 0, 0b10, checkpoint(1, 2, '01 82'), 2, 0),
+    (TWO_FREE, LAST, 0, SPENT, 0, 0, 0, checkpoint(1, 2, '01 82'), 0, 0),
+    (TWO_FREE, LAST, 1, SPENT, 0, 0, 0, checkpoint(3, 1, '01'), 1, 0),
+    (TWO_FREE, LAST, 3, MODEL, 0, 0, 0b01, checkpoint(1, 2, '81 02'), 3, 0),
+    (TWO_FREE, LAST, MOST, MODEL, 0, 0, 0b11, checkpoint(1, 2, '81 82'), 2, 0),
+    (TWO_FREE, LAST, 1, SPENT, 0, 0, 0, checkpoint(3, 1, '81'), 1, 0),
+    (TWO_FREE, LAST, 1, ENDED, 0, 0, 0, OVER, 1, 0),
+]
+
+
 def check_edges():
     for number, (given, assignment, *answer) in enumerate(CHECK_EDGES, 60000):
         yield coded(number, bytes.fromhex(given), answer_of(*answer), little(assignment, 8))
@@ -263,13 +447,20 @@ def judge_edges():
         yield coded(number, bytes.fromhex(given), answer_of(*answer), judge_fields(length, fill, bytes.fromhex(written)))
 
 
-EDGES = {'check': check_edges, 'judge': judge_edges}
+def walk_edges():
+    for number, (given, origin, budget, says, refusal, place, model, returned, *counts) in enumerate(WALK_EDGES, 62000):
+        fields = walk_fields(model, *counts, returned, origin, budget)
+        yield coded(number, bytes.fromhex(given), answer_of(says, refusal, place), fields)
 
 
-def files_of(vectors):
-    """The vectors joined into as few files as the limit allows, in order."""
+EDGES = {'check': check_edges, 'judge': judge_edges, 'walk': walk_edges}
+
+
+def files_of(groups):
+    """The groups joined into as few files as the limit allows, in order, each whole in a file."""
     files = [b'']
-    for v in vectors:
+    for g in groups:
+        v = b''.join(g)
         if LIMIT < len(files[-1]) + len(v):
             files.append(b'')
         files[-1] += v
@@ -277,25 +468,29 @@ def files_of(vectors):
 
 
 def main():
-    vectors = {act: [] for act in ACTS}
+    groups = {act: [] for act in ACTS}
     with open(sys.argv[1], encoding='utf-8') as lines:
         for number, line in enumerate(lines, 1):
             v = json.loads(line)
             if v['act'] in ACTS:
-                vectors[v['act']].append(ACTS[v['act']](number, v))
+                groups[v['act']].append(ACTS[v['act']](number, v))
     data = CASES / 'data'
     data.mkdir(parents=True, exist_ok=True)
     for old in data.iterdir():
         old.unlink()
     report = []
-    for act, found in vectors.items():
-        for i, f in enumerate(files_of(found)):
-            (data / f'{act}{i}').write_bytes(f)
-        edges = list(EDGES[act]())
-        (joined,) = files_of(edges)
-        (data / f'{act}_edges').write_bytes(joined)
-        report += [(act, len(found)), (f'{act}_edges', len(edges))]
-    (CASES / 'stdout').write_text(''.join(f'{name}: {n} vectors, 0 differences\n' for name, n in report))
+    for act, found in groups.items():
+        files = files_of(found)
+        assert len(files) <= 10
+        for i, f in enumerate(files):
+            (data / (act if act == 'start' else f'{act}{i}')).write_bytes(f)
+        report.append((act, sum(map(len, found)), 'calls' if act == 'chain' else 'vectors'))
+        if act in EDGES:
+            edges = list(EDGES[act]())
+            (joined,) = files_of([edges])
+            (data / f'{act}_edges').write_bytes(joined)
+            report.append((f'{act}_edges', len(edges), 'vectors'))
+    (CASES / 'stdout').write_text(''.join(f'{name}: {n} {unit}, 0 differences\n' for name, n, unit in report))
     for f in sorted(data.iterdir()):
         print(f'{f.name}: {f.stat().st_size} bytes')
 

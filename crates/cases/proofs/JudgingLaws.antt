@@ -1,9 +1,7 @@
--- Laws of `judged`, `first-wrong` and `judge-agrees`.
-use Prim.Native.Nat.{ℕ, suc, _+_, _-_, _<_, _≤_}
+-- Laws of `judged` and `judge-agrees`.
+use Prim.Native.Nat.{ℕ, _+_, _-_}
 use mathlib.Core.List.{List, _++_}
 use mathlib.Core.Path.{_≡_, refl}
-use native.Mathlib.Omega.{arith}
-use borrow.Author.Tests.{eq-eqb, ne-eqb}
 use lib.ListN.{getD, take, drop}
 use Rattle.formula.specs.declared.Refusal.{Refusal}
 use Rattle.formula.specs.declared.Refusal.the-variants.{ShortBuffer, Truncated, UnknownKind, Misplaced, BadVariableCount, NoSuchVariable, RepeatedVariable, TooManyClauses, TrailingByte, Unmatched, ForeignCheckpoint, StrayVariable}
@@ -14,7 +12,8 @@ use Rattle.cases.specs.declared.answers.Answer.{Answer}
 use Rattle.cases.specs.declared.corpus.Vector.{Vector}
 use Rattle.cases.specs.declared.judging.Judged.{Judged}
 use Rattle.cases.specs.Answers.{expected}
-use Rattle.cases.specs.Judging.{code, written, filled, judged, wanted-byte, first-wrong, alike, judge-agrees}
+use Rattle.cases.specs.Comparing.{first-wrong}
+use Rattle.cases.specs.Judging.{code, written, filled, judged, alike, judge-agrees}
 
 -- every refusal has a number
 pub refusal-code : (r : Refusal) → code (listing r .number) ≡ 2
@@ -48,25 +47,7 @@ pub compared :
     wanted ≡ expected s (v .end) →
     size ≡ getD s (v .end + 6) 0 →
     got ≡ judged (take (v .end - v .start) (drop (v .start) s)) size (getD s (v .end + 7) 0) →
-    wrong ≡ first-wrong s (v .end + 8) (getD s (v .end + 7) 0) (got .array) 256 0 →
+    wrong ≡ first-wrong s (v .end + 8) 96 (getD s (v .end + 7) 0) (got .array) →
     alike wanted (got .answer) wrong ≡ judge-agrees s v
 unfolding judge-agrees
 compared s v wanted size got wrong w z g f = rw (w, f, g, z)
-
--- after the last byte
-pub none-wrong : (s : List ℕ) (at fill : ℕ) (array : List ℕ) (n i : ℕ) → n ≤ i → first-wrong s at fill array (n - i) i ≡ i
-unfolding first-wrong
-none-wrong s at fill array n i h = let e : n - i ≡ 0 = omega arith in rw e
-
-module _ (s : List ℕ) (at fill : ℕ) (array : List ℕ) (n i : ℕ) (h : i < n) where
-  -- a wrong byte is the first
-  pub wrong-here : (getD array i 0 ≡ wanted-byte s at fill i → ⊥) → first-wrong s at fill array (n - i) i ≡ i
-  unfolding first-wrong
-  wrong-here d = let e : n - i ≡ suc (n - (i + 1)) = omega arith in rw (e, ne-eqb _ _ d)
-
-  -- past a right byte
-  pub right-here :
-      getD array i 0 ≡ wanted-byte s at fill i →
-      first-wrong s at fill array (n - i) i ≡ first-wrong s at fill array (n - (i + 1)) (i + 1)
-  unfolding first-wrong
-  right-here d = let e : n - i ≡ suc (n - (i + 1)) = omega arith in rw (e, eq-eqb _ _ d)

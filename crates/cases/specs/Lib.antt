@@ -1,6 +1,8 @@
 pub mod Answers
 pub mod Checking
+pub mod Comparing
 pub mod Corpus
 pub mod Judging
 pub mod Runs
 pub mod Totals
+pub mod Walking

@@ -5,42 +5,55 @@ use mathlib.Core.List.{List}
 use mathlib.Core.Path.{_≡_}
 use lib.Dec.{ltb}
 use lib.ListN.{length}
+use Rattle.walk.specs.Checkpoints.{Checkpoint, start}
 use Rattle.cases.specs.declared.corpus.Vector.{Vector}
 use Rattle.cases.specs.declared.corpus.Framed.the-variants.{Whole, Broken}
 use Rattle.cases.specs.declared.runs.Act.{Act}
-use Rattle.cases.specs.declared.runs.Act.the-variants.{Check, Judge}
+use Rattle.cases.specs.declared.runs.Act.the-variants.{Check, Judge, Start, Walk}
 use Rattle.cases.specs.declared.runs.Run.{Run}
 use Rattle.cases.specs.declared.totals.Totals.{Totals}
 use Rattle.cases.specs.Checking.{check-agrees}
 use Rattle.cases.specs.Corpus.{framed}
 use Rattle.cases.specs.Judging.{judge-agrees}
 use Rattle.cases.specs.Totals.{counted, Grown}
+use Rattle.cases.specs.Walking.{start-agrees, walk-agrees, walk-leaves}
 
 -- the size of the fields of an act's vector
 abbrev pub size-of : Act → ℕ
 size-of Check = 14
 size-of Judge = 104
+size-of Start = 50
+size-of Walk = 127
 
 -- the act gives what the vector expects
-abbrev pub agrees : Act → List ℕ → Vector → Bool
-agrees Check s v = check-agrees s v
-agrees Judge s v = judge-agrees s v
+abbrev pub agrees : Act → List ℕ → Vector → Checkpoint → Bool
+agrees Check s v last = check-agrees s v
+agrees Judge s v last = judge-agrees s v
+agrees Start s v last = start-agrees s v
+agrees Walk s v last = walk-agrees s v last
+
+-- the checkpoint that the last walk call returned, after the vector
+abbrev pub leaves : Act → List ℕ → Vector → Checkpoint → Checkpoint
+leaves Check s v last = last
+leaves Judge s v last = last
+leaves Start s v last = last
+leaves Walk s v last = walk-leaves s v last
 
 -- the vectors from an offset on, up to the end or to one that runs past it. The first number is at least the count of the
 -- bytes that are left.
-unfoldable pub run-from : ℕ → Act → List ℕ → ℕ → Totals → Run
-run-from zero act s at t = record { at = at; totals = t }
-run-from (suc k) act s at t =
+unfoldable pub run-from : ℕ → Act → List ℕ → ℕ → Totals → Checkpoint → Run
+run-from zero act s at t last = record { at = at; totals = t }
+run-from (suc k) act s at t last =
     cond (ltb at (length s))
     (elim (framed s at (size-of act)) [
-      | Whole v ↦ run-from k act s (v .end + size-of act) (counted t (agrees act s v))
+      | Whole v ↦ run-from k act s (v .end + size-of act) (counted t (agrees act s v last)) (leaves act s v last)
       | Broken ↦ record { at = at; totals = t }
     ])
     (record { at = at; totals = t })
 
--- all vectors, counted on from totals
+-- all vectors, counted on from totals; the start checkpoint stands for that of a last call
 unfoldable pub run-of : Act → List ℕ → Totals → Run
-run-of act s t = run-from (length s) act s 0 t
+run-of act s t = run-from (length s) act s 0 t start
 
 -- from t to r by a file: by some bytes, since no contract can say which a file has
 pub record AfterFile (act : Act) (t r : Totals) : Type 0 where

@@ -3,19 +3,32 @@ ghost use Prim.Native.Nat.{_+_, _≤_};
 ghost use mathlib.Core.Path.{_≡_};
 ghost use lib.ListN.{length};
 ghost use Rattle.formula.specs.Refusals.{listing};
-ghost use Rattle.cases.specs.Answers.{refused, expected, same};
+ghost use Rattle.cases.specs.Answers.{plain, refused, expected, same};
 use crate::corpus::two_bytes;
 use crate::corpus::wide;
 use formula::Refusal;
 
-// What an answer says: 0 no, 1 yes, 2 refused, 3 matched; the refusal's number and place, else zeros; and the numbers of variables
-// and of clauses if matched, else zeros.
+// What an answer says: 0 no, 1 yes, 2 refused, 3 matched, 4 model, 5 spent, 6 ended; the refusal's number and place, else zeros; and
+// the numbers of variables and of clauses if matched, else zeros.
 pub struct Answer {
     pub says: u64,
     pub number: u64,
     pub place: u64,
     pub variables: u64,
     pub clauses: u64,
+}
+
+// An answer that says only what it says.
+pub fn bare(says: u64) -> Answer
+    ensures { λ r. ⌜ r ≡ plain says 0 0 ⌝ }
+{
+    Answer {
+        says,
+        number: 0,
+        place: 0,
+        variables: 0,
+        clauses: 0,
+    }
 }
 
 pub fn refusal_answer(refusal: Refusal) -> Answer

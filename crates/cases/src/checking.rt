@@ -5,6 +5,7 @@ ghost use lib.ListN.{length};
 ghost use Rattle.formula.specs.Check.{values};
 ghost use Rattle.cases.specs.Checking.{written, check-agrees};
 use crate::answers::Answer;
+use crate::answers::bare;
 use crate::answers::equal;
 use crate::answers::expected_at;
 use crate::answers::refusal_answer;
@@ -17,20 +18,8 @@ fn answer_of(v: Verdict) -> Answer
     ensures { λ r. ⌜ r ≡ written (values v) ⌝ }
 {
     match v {
-        Verdict::NotModel => Answer {
-            says: 0,
-            number: 0,
-            place: 0,
-            variables: 0,
-            clauses: 0,
-        },
-        Verdict::Model => Answer {
-            says: 1,
-            number: 0,
-            place: 0,
-            variables: 0,
-            clauses: 0,
-        },
+        Verdict::NotModel => bare(0),
+        Verdict::Model => bare(1),
         Verdict::Refused(refusal) => refusal_answer(refusal),
     }
 }

@@ -3,11 +3,13 @@ ghost use Prim.Native.Nat.{_+_, _≤_};
 ghost use mathlib.Core.Path.{_≡_};
 ghost use lib.ListN.{length, replicate};
 ghost use Rattle.matched.specs.Judge.{values};
-ghost use Rattle.cases.specs.Judging.{written, judged, wanted-byte, first-wrong, alike, judge-agrees};
+ghost use Rattle.cases.specs.Judging.{written, judged, alike, judge-agrees};
 use crate::answers::Answer;
 use crate::answers::equal;
 use crate::answers::expected_at;
 use crate::answers::refusal_answer;
+use crate::comparing::first_wrong;
+use crate::comparing::wanted_byte;
 use crate::corpus::Vector;
 use crate::corpus::wide;
 use crate::report;
@@ -50,32 +52,6 @@ fn judge_filled(input: &[u8], size: usize, fill: u8) -> Judged
     Judged { answer, array }
 }
 
-// The byte that the array must have at i: the first 96 stand from an offset on, and the others are the fill.
-fn wanted_byte(bytes: &[u8], at: usize, fill: u8, i: usize) -> u8
-    requires { ⌜ at + 96 ≤ length (now bytes) ⌝ }
-    ensures { λ r. ⌜ r ≡ wanted-byte (now (bytes .entry)) at fill i ⌝ }
-{
-    if i < 96 {
-        return bytes[at + i];
-    }
-    fill
-}
-
-// Where the array first has another byte than it must; 256 if nowhere.
-fn first_wrong(bytes: &[u8], at: usize, fill: u8, array: [u8; 256]) -> usize
-    requires { ⌜ at + 96 ≤ length (now bytes) ⌝ }
-    ensures { λ r. ⌜ r ≡ first-wrong (now (bytes .entry)) at fill array 256 0 ⌝ }
-{
-    let mut i: usize = 0;
-    while i < 256 {
-        if array[i] != wanted_byte(bytes, at, fill, i) {
-            return i;
-        }
-        i += 1;
-    }
-    i
-}
-
 // The answers are the same, and the array is wrong nowhere.
 fn agree(wanted: Answer, got: Answer, wrong: usize) -> bool
     ensures { λ r. ⌜ r ≡ alike wanted got wrong ⌝ }
@@ -99,7 +75,7 @@ pub fn judge_vector(bytes: &[u8], v: Vector) -> bool
     let got = judge_filled(&bytes[start..end], size, fill);
     let answer = got.answer;
     let array = got.array;
-    let wrong = first_wrong(bytes, end + 8, fill, array);
+    let wrong = first_wrong(bytes, end + 8, 96, fill, &array);
     if agree(wanted, answer, wrong) {
         return true;
     }
@@ -107,7 +83,7 @@ pub fn judge_vector(bytes: &[u8], v: Vector) -> bool
     if wrong < 256 {
         report::wrong_byte(
             wrong,
-            wanted_byte(bytes, end + 8, fill, wrong),
+            wanted_byte(bytes, end + 8, 96, fill, wrong),
             array[wrong],
         );
     }

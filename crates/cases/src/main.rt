@@ -1,21 +1,30 @@
-// Runs the corpus in data/ against the library. For each act it prints how many vectors there are and how many answers
-// differ from the expected ones, after a line for each difference, each file that cannot be opened and each that breaks off.
+// Runs the corpus in data/ against the library. For each act it prints how many vectors there are and how many differ
+// from what they expect, after lines for each difference, each file that cannot be opened and each that breaks off.
 //
 // A file holds vectors of one act, at most 65,536 bytes of them. Numbers are little-endian. A vector is its number
 // (2 bytes), the length of its input (2 bytes), its input, the expected answer and the act's own fields. An answer is what it
-// says (1 byte: 0 no, 1 yes, 2 refused, 3 matched), the refusal's number (1 byte) and its place (2 bytes), and the numbers of
-// variables and of clauses of a matched formula (1 byte each). Check's own field is the assignment (8 bytes); judge's are the
-// length of the lent buffer (1 byte), the fill (1 byte) and the first 96 bytes after the call. The buffer is the first bytes of an
-// array of 256, which has the fill everywhere before the call and from byte 96 on after it.
+// says (1 byte: 0 no, 1 yes, 2 refused, 3 matched, 4 model, 5 spent, 6 ended), the refusal's number (1 byte) and its place
+// (2 bytes), and the numbers of variables and of clauses of a matched formula (1 byte each). The own fields:
+// - check: the assignment (8 bytes).
+// - judge: the length of the lent buffer (1 byte), the fill (1 byte) and the first 96 bytes after the call. The buffer is the first
+//   bytes of an array of 256, which has the fill everywhere before the call and from byte 96 on after it.
+// - start: the start checkpoint (50 bytes: mode, length, 48 bytes), and no expected answer.
+// - walk: the expected model (8 bytes), steps, expansions (4 bytes each) and checkpoint; which checkpoint the call gets (1 byte: 0
+//   the one that follows, 1 the start checkpoint, 2 the one that the call of the vector before it returned), a checkpoint, and the
+//   budget (4 bytes). A chain is a vector for each of its calls.
 // tools/corpus.py writes the files.
 mod answers;
 mod checking;
+mod comparing;
 mod corpus;
 mod judging;
 mod report;
 mod runs;
 mod totals;
+mod walking;
 
+ghost use Prim.Native.Nat.{_<_, _≤_};
+ghost use lib.ListN.{length};
 ghost use Rattle.cases.specs.Runs.{AfterFile};
 ghost use Rattle.cases.specs.Totals.{Room};
 use runs::Act;
@@ -42,30 +51,34 @@ fn run_file(t: Totals, name: &[u8], act: Act) -> Totals
     run.totals
 }
 
-fn run_check() {
-    let mut t = run_file(totals::none(), b"check0", Act::Check);
-    t = run_file(t, b"check1", Act::Check);
-    report::summary(b"check", t);
-    report::summary(
-        b"check_edges",
-        run_file(totals::none(), b"check_edges", Act::Check),
-    );
+// The files of an act, whose names end in 0, 1 and so on, and then the line that sums them up.
+fn run_files(name: &[u8], count: u8, act: Act, unit: &[u8])
+    requires { ⌜ (length (now name) < 16) × (count ≤ 10) ⌝ }
+{
+    let mut path = [0u8; 16];
+    let end = bytes::copy(name, &mut path);
+    let mut t = totals::none();
+    let mut i: u8 = 0;
+    while i < count {
+        path[end] = 48 + i;
+        t = run_file(t, &path[..end + 1], act);
+        i += 1;
+    }
+    report::summary(name, unit, t);
 }
 
-fn run_judge() {
-    let mut t = run_file(totals::none(), b"judge0", Act::Judge);
-    t = run_file(t, b"judge1", Act::Judge);
-    t = run_file(t, b"judge2", Act::Judge);
-    t = run_file(t, b"judge3", Act::Judge);
-    t = run_file(t, b"judge4", Act::Judge);
-    report::summary(b"judge", t);
-    report::summary(
-        b"judge_edges",
-        run_file(totals::none(), b"judge_edges", Act::Judge),
-    );
+// A file of its own, and its line.
+fn run_alone(name: &[u8], act: Act) {
+    report::summary(name, b"vectors", run_file(totals::none(), name, act));
 }
 
 fn main() {
-    run_check();
-    run_judge();
+    run_files(b"check", 2, Act::Check, b"vectors");
+    run_alone(b"check_edges", Act::Check);
+    run_files(b"judge", 5, Act::Judge, b"vectors");
+    run_alone(b"judge_edges", Act::Judge);
+    run_alone(b"start", Act::Start);
+    run_files(b"walk", 6, Act::Walk, b"vectors");
+    run_alone(b"walk_edges", Act::Walk);
+    run_files(b"chain", 7, Act::Walk, b"calls");
 }

@@ -18,6 +18,9 @@ fn says(n: u64) {
         1 => text(b"yes"),
         2 => text(b"refused"),
         3 => text(b"matched"),
+        4 => text(b"model"),
+        5 => text(b"spent"),
+        6 => text(b"ended"),
         _ => text(b"unknown"),
     }
 }
@@ -34,7 +37,7 @@ fn answer(a: Answer) {
     number(a.clauses);
 }
 
-// A vector whose answer, or whose buffer after the call, is not the expected one.
+// A vector that gives another answer, buffer or checkpoint than it expects.
 pub fn difference(vector: u64, wanted: Answer, got: Answer) {
     text(b"vector ");
     number(vector);
@@ -45,7 +48,25 @@ pub fn difference(vector: u64, wanted: Answer, got: Answer) {
     text(b"\n");
 }
 
-// The first wrong byte of that buffer, from 0.
+// A vector that has no answer, and gives another checkpoint than it expects.
+pub fn other_checkpoint(vector: u64) {
+    text(b"vector ");
+    number(vector);
+    text(b": another checkpoint\n");
+}
+
+// One of the vector's numbers.
+pub fn numbers(name: &[u8], wanted: u64, got: u64) {
+    text(b"  ");
+    text(name);
+    text(b": expected ");
+    number(wanted);
+    text(b", got ");
+    number(got);
+    text(b"\n");
+}
+
+// The first wrong byte of the vector's buffer or checkpoint, from 0.
 pub fn wrong_byte(at: usize, wanted: u8, got: u8) {
     text(b"  byte ");
     number(at as u64);
@@ -70,11 +91,14 @@ pub fn broken(name: &[u8], at: usize) {
     text(b"\n");
 }
 
-pub fn summary(name: &[u8], t: Totals) {
+// How many vectors, or calls, were run.
+pub fn summary(name: &[u8], unit: &[u8], t: Totals) {
     text(name);
     text(b": ");
     number(t.vectors);
-    text(b" vectors, ");
+    text(b" ");
+    text(unit);
+    text(b", ");
     number(t.differences);
     text(b" differences\n");
 }

@@ -2,7 +2,8 @@
 ghost use Prim.Native.Nat.{_+_, _≤_};
 ghost use mathlib.Core.Path.{_≡_};
 ghost use lib.ListN.{length};
-ghost use Rattle.cases.specs.Runs.{size-of, agrees, run-of};
+ghost use Rattle.enumeration.specs.Values.{checkpoint-values};
+ghost use Rattle.cases.specs.Runs.{size-of, agrees, leaves, run-of};
 ghost use Rattle.cases.specs.Totals.{Room, Grown};
 use crate::checking::check_vector;
 use crate::corpus::Framed;
@@ -11,10 +12,16 @@ use crate::corpus::frame;
 use crate::judging::judge_vector;
 use crate::totals;
 use crate::totals::Totals;
+use crate::walking::Compared;
+use crate::walking::start_vector;
+use crate::walking::walk_vector;
+use enumeration::Checkpoint;
 
 pub enum Act {
     Check,
     Judge,
+    Start,
+    Walk,
 }
 
 // Where a run over a file stopped: at the file's end, or at a vector that runs past it.
@@ -25,22 +32,36 @@ pub struct Run {
 
 // The size of the fields of an act's vector: the expected answer, and the act's own.
 fn fields_of(act: Act) -> usize
-    ensures { λ r. ⌜ (r ≡ size-of act) × (r ≤ 104) ⌝ }
+    ensures { λ r. ⌜ (r ≡ size-of act) × (r ≤ 127) ⌝ }
 {
     match act {
         Act::Check => 14,
         Act::Judge => 104,
+        Act::Start => 50,
+        Act::Walk => 127,
     }
 }
 
-// Whether the act gives what the vector expects; a difference is printed.
-fn vector_agrees(bytes: &[u8], v: Vector, act: Act) -> bool
+// Whether the act gives what the vector expects, and the checkpoint of the last walk call; a difference is printed.
+fn run_vector(bytes: &[u8], v: Vector, act: Act, last: Checkpoint) -> Compared
     requires { ⌜ (v .start ≤ v .end) × (v .end + size-of act ≤ length (now bytes)) ⌝ }
-    ensures { λ r. ⌜ r ≡ agrees act (now (bytes .entry)) v ⌝ }
+    ensures { λ r. ⌜ r .agrees ≡ agrees act (now (bytes .entry)) v (checkpoint-values last) ⌝ }
+    ensures { λ r. ⌜ checkpoint-values (r .last) ≡ leaves act (now (bytes .entry)) v (checkpoint-values last) ⌝ }
 {
     match act {
-        Act::Check => check_vector(bytes, v),
-        Act::Judge => judge_vector(bytes, v),
+        Act::Check => Compared {
+            agrees: check_vector(bytes, v),
+            last,
+        },
+        Act::Judge => Compared {
+            agrees: judge_vector(bytes, v),
+            last,
+        },
+        Act::Start => Compared {
+            agrees: start_vector(bytes, v),
+            last,
+        },
+        Act::Walk => walk_vector(bytes, v, last),
     }
 }
 
@@ -53,13 +74,16 @@ pub fn run_all(bytes: &[u8], act: Act, t: Totals) -> Run
     let fields = fields_of(act);
     let mut at: usize = 0;
     let mut counts = t;
+    let mut last = enumeration::start_checkpoint();
     while at < bytes.len() {
         match frame(bytes, at, fields) {
             Framed::Broken => {
                 return Run { at, totals: counts };
             }
             Framed::Whole(v) => {
-                counts = totals::count(counts, vector_agrees(bytes, v, act));
+                let compared = run_vector(bytes, v, act, last);
+                counts = totals::count(counts, compared.agrees);
+                last = compared.last;
                 at = v.end + fields;
             }
         }

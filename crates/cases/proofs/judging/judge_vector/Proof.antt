@@ -9,16 +9,14 @@ use Rattle.cases.proofs.judging.judge_vector.Tie as tie
 -- what the comparison gives
 told :
     (c : tie.After-agree) →
-    c .agree .result ≡
-    judge-agrees (c .before .before .before .before .before .before .before .before .before .before .before .args .bytes .now)
-    (c .before .before .before .before .before .before .before .before .before .before .before .args .v)
+    c .agree .result ≡ judge-agrees (c .before .before .before .before .before .before .before .before .before .before .before .before .args .bytes .now) (c .before .before .before .before .before .before .before .before .before .before .before .before .args .v)
 told c =
     c .agree .ensures
     ∙ compared _ _ _ _ _ _
-    (c .before .before .before .before .before .before .before .before .before .expected-at .ensures)
-    (c .before .before .before .before .before .before .before .wide .ensures .0)
-    (c .before .before .before .before .judge-filled .ensures)
-    (c .before .first-wrong .ensures)
+    (c .before .before .before .before .before .before .before .before .before .before .expected-at .ensures)
+    (c .before .before .before .before .before .before .before .before .wide .ensures .0)
+    (c .before .before .before .before .before .judge-filled .ensures)
+    (c .before .first-wrong .ensures .0)
 
 expected-at-requires : tie.Need-expected-at-requires
 expected-at-requires c κs = search needs
@@ -52,6 +50,9 @@ judge-filled-requires c κs = search needs
 
 add-first-wrong : tie.Need-add-first-wrong
 add-first-wrong c = search needs
+
+slice-aggregate-first-wrong : tie.Need-slice-aggregate-first-wrong
+slice-aggregate-first-wrong c = search needs
 
 first-wrong-requires : tie.Need-first-wrong-requires
 first-wrong-requires c κs = search needs
@@ -98,6 +99,7 @@ judge-vector-spec =
     part-judge-filled-end
     judge-filled-requires
     add-first-wrong
+    slice-aggregate-first-wrong
     first-wrong-requires
     agree-requires
     returns

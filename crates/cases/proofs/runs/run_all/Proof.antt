@@ -1,9 +1,10 @@
--- `run_all`: the invariant is that the run from the offset on, with the totals so far, gives what the whole run gives,
--- and that no count has grown above the offset. The measure is the number of bytes that are left.
+-- `run_all`: the invariant is that the run from the offset on, with the totals and the checkpoint so far, gives what the whole
+-- run gives, and that no count has grown above the offset. The measure is the number of bytes that are left.
 use Prim.Native.Nat.{_-_, _≤_}
 use mathlib.Core.Path.{_≡_, sym, _∙_}
 use native.Mathlib.Omega.{arith}
 use lib.ListN.{length}
+use Rattle.enumeration.specs.Values.{checkpoint-values}
 use Rattle.cases.specs.Runs.{size-of}
 use Rattle.cases.specs.Totals.{Grown}
 use Rattle.cases.proofs.FrameLaws.{Within, within}
@@ -14,18 +15,26 @@ use Rattle.cases.proofs.runs.run_all.Statement.{statement}
 use Rattle.cases.proofs.runs.run_all.Tie as tie
 
 abbrev Inv-loop : tie.InvT-loop
-Inv-loop bytes act fields at₀ counts₀ at counts =
-    (at ≤ length bytes) × Grown at counts₀ counts × Stands act bytes counts₀ at counts × (fields ≡ size-of act)
+Inv-loop bytes act fields at₀ counts₀ last₀ at counts last =
+    (at ≤ length bytes) × Grown at counts₀ counts × Stands act bytes counts₀ at counts (checkpoint-values last)
+    × (fields ≡ size-of act)
 
 abbrev μ-loop : tie.MeasureT-loop
-μ-loop bytes act fields at₀ counts₀ at counts = length bytes - at
+μ-loop bytes act fields at₀ counts₀ last₀ at counts last = length bytes - at
 
 fields-of-requires : tie.Need-fields-of-requires Inv-loop μ-loop
 fields-of-requires c κs = search needs
 
+start-checkpoint-requires : tie.Need-start-checkpoint-requires Inv-loop μ-loop
+start-checkpoint-requires c κs = search needs
+
 loop-holds : tie.Need-loop-holds Inv-loop μ-loop
-loop-holds c =
-    (omega arith, record { vectors = omega arith; differences = omega arith }, stands-first _ _ _, c .fields-of .ensures .0)
+loop-holds c = (
+  omega arith,
+  record { vectors = omega arith; differences = omega arith },
+  rw (c .start-checkpoint .ensures) (stands-first _ _ _),
+  c .before .fields-of .ensures .0,
+)
 
 frame-requires : tie.Need-frame-requires Inv-loop μ-loop
 frame-requires c κs = search needs
@@ -36,7 +45,7 @@ enum-told c = search needs
 returns : tie.Need-returns Inv-loop μ-loop
 returns c =
     let l = c .before .before .before .before .loop in (
-      stands-broken _ _ _ _ _ (l .inv .2) (c .before .before .before .loop-test .taken)
+      stands-broken _ _ _ _ _ _ (l .inv .2) (c .before .before .before .loop-test .taken)
           (rw (l .inv .3) at (sym (c .before .before .frame .ensures) ∙ c .enum-told .given .1)),
       record { vectors = omega arith; differences = omega arith },
     )
@@ -47,14 +56,14 @@ enum-known-v c = search needs
 -- where the vector lies
 placed :
     (c : tie.After-v Inv-loop μ-loop) →
-    Within (c .before .before .before .before .before .before .before .args .bytes .now)
+    Within (c .before .before .before .before .before .before .before .before .args .bytes .now)
     (c .before .before .before .before .loop .at)
-    (c .before .before .before .before .before .fields-of .result)
+    (c .before .before .before .before .before .before .fields-of .result)
     (c .v .given .0 .0)
 placed c = within _ _ _ _ (sym (c .before .before .frame .ensures) ∙ c .v .given .1)
 
-vector-agrees-requires : tie.Need-vector-agrees-requires Inv-loop μ-loop
-vector-agrees-requires c κs =
+run-vector-requires : tie.Need-run-vector-requires Inv-loop μ-loop
+run-vector-requires c κs =
     let w = placed (c .before) in
     (w .ordered, rw (c .before .before .before .before .before .loop .inv .3) at (w .whole))
 
@@ -62,30 +71,31 @@ count-requires : tie.Need-count-requires Inv-loop μ-loop
 count-requires c κs = search needs
 
 add-at : tie.Need-add-at Inv-loop μ-loop
-add-at c = let w = placed (c .before .before .before .before) in omega arith
+add-at c = let w = placed (c .before .before .before .before .before) in omega arith
 
 loop-less : tie.Need-loop-less Inv-loop μ-loop
-loop-less c = let w = placed (c .before .before .before .before) in omega arith
+loop-less c = let w = placed (c .before .before .before .before .before) in omega arith
 
 loop-again : tie.Need-loop-again Inv-loop μ-loop
 loop-again c =
-    let v = c .before .before .before .before in
+    let v = c .before .before .before .before .before in
     let e = sym (v .before .before .frame .ensures) ∙ v .v .given .1 in
     let w = placed v in
     let l = v .before .before .before .before .loop in
-    let b = counted-grown (l .counts) (c .before .before .vector-agrees .result) in
-    rw (c .before .count .ensures) (
+    let r = c .before .before .before .run-vector in
+    let b = counted-grown (l .counts) (r .result .agrees) in
+    rw (c .before .before .count .ensures) (
       omega arith,
       record { vectors = omega arith; differences = omega arith },
-      rw (c .before .before .vector-agrees .ensures)
+      rw (r .ensures .0, r .ensures .1)
           (rw (l .inv .3)
-          (stands-next _ _ _ _ _ (l .inv .2) _ (v .before .before .before .loop-test .taken) (rw (l .inv .3) at e))),
+          (stands-next _ _ _ _ _ _ (l .inv .2) _ (v .before .before .before .loop-test .taken) (rw (l .inv .3) at e))),
       l .inv .3,
     )
 
 returns-2 : tie.Need-returns-2 Inv-loop μ-loop
 returns-2 c = (
-  stands-done _ _ _ _ _ (c .before .loop .inv .2) (c .loop-test .left),
+  stands-done _ _ _ _ _ _ (c .before .loop .inv .2) (c .loop-test .left),
   record { vectors = omega arith; differences = omega arith },
 )
 
@@ -96,12 +106,13 @@ run-all-spec =
     Inv-loop
     μ-loop
     fields-of-requires
+    start-checkpoint-requires
     loop-holds
     frame-requires
     enum-told
     returns
     enum-known-v
-    vector-agrees-requires
+    run-vector-requires
     count-requires
     add-at
     loop-less

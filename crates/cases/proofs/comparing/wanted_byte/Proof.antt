@@ -1,8 +1,8 @@
 -- `wanted_byte`: by whether the file has the byte.
 use borrow.Author.Needs.{needs}
 use borrow.Author.Tests.{lt-ltb, le-ltb}
-use Rattle.cases.proofs.judging.wanted_byte.Statement.{statement}
-use Rattle.cases.proofs.judging.wanted_byte.Tie as tie
+use Rattle.cases.proofs.comparing.wanted_byte.Statement.{statement}
+use Rattle.cases.proofs.comparing.wanted_byte.Tie as tie
 
 add-result : tie.Need-add-result
 add-result c = search needs

@@ -1,0 +1,73 @@
+-- Laws of the walk's calls and comparisons: each from what its parts ensure.
+use Prim.Native.Nat.{ℕ, zero, suc, _+_, _-_, _≤_}
+use mathlib.Core.Bool.{Bool}
+use mathlib.Core.List.{List, [], _∷_, _++_, append-nil}
+use mathlib.Core.Path.{_≡_, refl, _∙_}
+use native.Mathlib.Omega.{arith}
+use lib.Dec.{eqb}
+use lib.ListN.{length, getD, take, drop, length-drop}
+use lib.Seq.{length-take-le, take-length, drop-length}
+use Rattle.walk.specs.Checkpoints.{Checkpoint, start}
+use Rattle.walk.specs.WalkCall.{Result, walk-call}
+use Rattle.enumeration.specs.declared.Answer.{Answer}
+use Rattle.enumeration.specs.declared.Answer.the-variants.{Model, Spent, Ended, Refused}
+use Rattle.enumeration.specs.declared.Walked.{Walked}
+use Rattle.enumeration.specs.Values.{checkpoint-values, answer-values, values}
+use Rattle.cases.specs.declared.corpus.Vector.{Vector}
+use Rattle.cases.specs.declared.walking.Told.{Told}
+use Rattle.cases.specs.Corpus.{four-bytes}
+use Rattle.cases.specs.Walking.{written, expected-call, alike, origin, called, checkpoint-wrong, start-agrees, walk-agrees}
+
+-- a byte of the trail is two places on in the checkpoint
+pub past-two : (mode length : ℕ) (trail : List ℕ) (i : ℕ) → 2 ≤ i → getD trail (i - 2) 0 ≡ getD (mode ∷ (length ∷ trail)) i 0
+past-two mode length trail zero h = absurd (omega arith)
+past-two mode length trail (suc zero) h = absurd (omega arith)
+past-two mode length trail (suc (suc i)) h = let e : suc (suc i) - 2 ≡ i = omega arith in rw e
+
+-- what was copied from a part of a list is the whole of an array of the part's length
+pub copied :
+    (s old new : List ℕ) (at : ℕ) →
+    at + 48 ≤ length s →
+    length old ≡ 48 →
+    (let part = take (at + 48 - at) (drop at s) in new ≡ take (length part) part ++ drop (length part) old) →
+    new ≡ take 48 (drop at s)
+copied s old new at h l f =
+    let d : at + 48 - at ≡ 48 = omega arith in
+    let m : 48 ≤ length (drop at s) = rw length-drop (omega arith) in
+    let n : length (take 48 (drop at s)) ≡ 48 = length-take-le 48 (drop at s) m in
+    let z : drop 48 old ≡ [] = rw (← l) (drop-length old) in
+    f ∙ rw (d, take-length, n, z, append-nil)
+
+-- the values of an answer have the checkpoint beside it
+kept : (a : Answer) (s e : ℕ) (c : Checkpoint) → answer-values a s e c .checkpoint ≡ c
+kept (Model a) s e c = refl
+kept Spent s e c = refl
+kept Ended s e c = refl
+kept (Refused r) s e c = refl
+
+pub checkpoint-kept : (w : Walked) → values w .checkpoint ≡ checkpoint-values (w .checkpoint)
+checkpoint-kept w = kept (w .answer) (w .steps) (w .expansions) (checkpoint-values (w .checkpoint))
+
+pub calling :
+    (s : List ℕ) (v : Vector) (last from : Checkpoint) (budget : ℕ) (r : Result) →
+    from ≡ origin s (v .end + 72) last →
+    budget ≡ four-bytes s (v .end + 123) →
+    r ≡ walk-call (take (v .end - v .start) (drop (v .start) s)) from budget → r ≡ called s v last
+unfolding called
+calling s v last from budget r f b e = rw (e, f, b)
+
+pub start-compared :
+    (s : List ℕ) (v : Vector) (c : Checkpoint) (wrong : ℕ) →
+    c ≡ start → wrong ≡ checkpoint-wrong s (v .end) c → eqb wrong 50 ≡ start-agrees s v
+unfolding start-agrees
+start-compared s v c wrong e f = rw (f, e)
+
+pub compared :
+    (s : List ℕ) (v : Vector) (last : Checkpoint) (wanted got : Told) (r : Result) (c : Checkpoint) (wrong : ℕ) →
+    wanted ≡ expected-call s (v .end) →
+    r ≡ called s v last →
+    got ≡ written r →
+    r .checkpoint ≡ c →
+    wrong ≡ checkpoint-wrong s (v .end + 22) c → alike wanted got wrong ≡ walk-agrees s v last
+unfolding walk-agrees
+compared s v last wanted got r c wrong w e g k f = rw (f, ← k, w, g, e)

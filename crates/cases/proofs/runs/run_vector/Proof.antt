@@ -1,0 +1,58 @@
+-- `run_vector`: by the act.
+use mathlib.Core.Path.{refl}
+use borrow.Author.Needs.{needs}
+use Rattle.cases.proofs.runs.run_vector.Statement.{statement}
+use Rattle.cases.proofs.runs.run_vector.Tie as tie
+
+enum-told : tie.Need-enum-told
+enum-told c = search needs
+
+check-vector-requires : tie.Need-check-vector-requires
+check-vector-requires c κs = rw (c .enum-told .given .1) at (c .before .before .before .pre)
+
+enum-told-2 : tie.Need-enum-told-2
+enum-told-2 c = search needs
+
+judge-vector-requires : tie.Need-judge-vector-requires
+judge-vector-requires c κs = rw (c .enum-told2 .given .1) at (c .before .before .before .pre)
+
+enum-told-3 : tie.Need-enum-told-3
+enum-told-3 c = search needs
+
+start-vector-requires : tie.Need-start-vector-requires
+start-vector-requires c κs = rw (c .enum-told3 .given .1) at (c .before .before .before .pre .1)
+
+enum-told-4 : tie.Need-enum-told-4
+enum-told-4 c = search needs
+
+walk-vector-requires : tie.Need-walk-vector-requires
+walk-vector-requires c κs = rw (c .enum-told4 .given .1) at (c .before .before .before .pre)
+
+returns : tie.Need-returns
+returns c = rw (c .before .enum-told .given .1) (c .check-vector .ensures, refl)
+
+returns-2 : tie.Need-returns-2
+returns-2 c = rw (c .before .enum-told2 .given .1) (c .judge-vector .ensures, refl)
+
+returns-3 : tie.Need-returns-3
+returns-3 c = rw (c .before .enum-told3 .given .1) (c .start-vector .ensures, refl)
+
+returns-4 : tie.Need-returns-4
+returns-4 c = rw (c .before .enum-told4 .given .1) (c .walk-vector .ensures)
+
+pub run-vector-spec : {M : Type 1} → statement M
+run-vector-spec =
+    tie.close
+    (tie.spec
+    enum-told
+    check-vector-requires
+    enum-told-2
+    judge-vector-requires
+    enum-told-3
+    start-vector-requires
+    enum-told-4
+    walk-vector-requires
+    returns
+    returns-2
+    returns-3
+    returns-4)

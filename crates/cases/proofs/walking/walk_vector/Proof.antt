@@ -1,0 +1,103 @@
+-- `walk_vector`: the comparison is that of `walk-agrees`, since each side is what its function ensures.
+use mathlib.Core.Path.{_≡_, sym, ap, _∙_}
+use Rattle.walk.specs.WalkCall.{Result}
+use Rattle.enumeration.specs.Values.{checkpoint-values}
+use Rattle.cases.specs.Walking.{called, walk-agrees, walk-leaves}
+use Rattle.cases.proofs.WalkingLaws.{checkpoint-kept, compared}
+use borrow.Author.Needs.{needs}
+use Rattle.cases.proofs.walking.walk_vector.Statement.{statement}
+use Rattle.cases.proofs.walking.walk_vector.Tie as tie
+
+-- what the comparison gives
+told :
+    (c : tie.After-agree) →
+    c .agree .result ≡ walk-agrees (c .before .before .before .before .before .before .before .args .bytes .now) (c .before .before .before .before .before .before .before .args .v) (checkpoint-values (c .before .before .before .before .before .before .before .args .last))
+told c =
+    c .agree .ensures
+    ∙ compared _ _ _ _ _ _ _ _
+    (c .before .before .before .before .before .expected-call .ensures)
+    (c .before .before .before .before .call .ensures)
+    (c .before .before .before .told-of .ensures)
+    (checkpoint-kept (c .before .before .before .before .call .result))
+    (c .before .checkpoint-wrong .ensures)
+
+-- the checkpoint that the call returned
+left :
+    (c : tie.After-agree) →
+    checkpoint-values (c .before .before .before .before .call .result .checkpoint)
+    ≡ walk-leaves (c .before .before .before .before .before .before .before .args .bytes .now) (c .before .before .before .before .before .before .before .args .v) (checkpoint-values (c .before .before .before .before .before .before .before .args .last))
+unfolding walk-leaves
+left c = sym (checkpoint-kept (c .before .before .before .before .call .result)) ∙ ap (λ (r : Result). r .checkpoint) (c .before .before .before .before .call .ensures)
+
+expected-call-requires : tie.Need-expected-call-requires
+expected-call-requires c κs = search needs
+
+call-requires : tie.Need-call-requires
+call-requires c κs = search needs
+
+told-of-requires : tie.Need-told-of-requires
+told-of-requires c κs = search needs
+
+add-checkpoint-wrong : tie.Need-add-checkpoint-wrong
+add-checkpoint-wrong c = search needs
+
+checkpoint-wrong-requires : tie.Need-checkpoint-wrong-requires
+checkpoint-wrong-requires c κs = search needs
+
+agree-requires : tie.Need-agree-requires
+agree-requires c κs = search needs
+
+returns : tie.Need-returns
+returns c = (sym (c .if1 .taken) ∙ told (c .before), left (c .before))
+
+difference-requires : tie.Need-difference-requires
+difference-requires c κs = search needs
+
+slice-aggregate-numbers : tie.Need-slice-aggregate-numbers
+slice-aggregate-numbers c = search needs
+
+numbers-requires : tie.Need-numbers-requires
+numbers-requires c κs = search needs
+
+slice-aggregate-numbers-2 : tie.Need-slice-aggregate-numbers-2
+slice-aggregate-numbers-2 c = search needs
+
+numbers-requires-2 : tie.Need-numbers-requires-2
+numbers-requires-2 c κs = search needs
+
+slice-aggregate-numbers-3 : tie.Need-slice-aggregate-numbers-3
+slice-aggregate-numbers-3 c = search needs
+
+numbers-requires-3 : tie.Need-numbers-requires-3
+numbers-requires-3 c κs = search needs
+
+add-report-byte : tie.Need-add-report-byte
+add-report-byte c = search needs
+
+report-byte-requires : tie.Need-report-byte-requires
+report-byte-requires c κs = search needs
+
+returns-2 : tie.Need-returns-2
+returns-2 c = (sym (c .before .before .before .before .before .before .before .before .before .before .if1 .left) ∙ told (c .before .before .before .before .before .before .before .before .before .before .before), left (c .before .before .before .before .before .before .before .before .before .before .before))
+
+pub walk-vector-spec : {M : Type 1} → statement M
+walk-vector-spec =
+    tie.close
+    (tie.spec
+    expected-call-requires
+    call-requires
+    told-of-requires
+    add-checkpoint-wrong
+    checkpoint-wrong-requires
+    agree-requires
+    returns
+    difference-requires
+    slice-aggregate-numbers
+    numbers-requires
+    slice-aggregate-numbers-2
+    numbers-requires-2
+    slice-aggregate-numbers-3
+    numbers-requires-3
+    add-report-byte
+    report-byte-requires
+    returns-2)

@@ -1,0 +1,20 @@
+-- Bytes that a call gives, compared with those that the corpus has.
+use Prim.Native.Nat.{ℕ, zero, suc, _+_}
+use mathlib.Core.Bool.{cond}
+use mathlib.Core.List.{List}
+use lib.Dec.{eqb, ltb}
+use lib.ListN.{length, getD}
+
+-- the byte that must stand at i: those before `kept` stand in s from an offset on, and the others are the fill
+abbrev pub wanted-byte : List ℕ → ℕ → ℕ → ℕ → ℕ → ℕ
+wanted-byte s at kept fill i = cond (ltb i kept) (getD s (at + i) 0) fill
+
+-- the first of k places from i on where another byte stands than must, else the place after them
+unfoldable pub wrong-from : List ℕ → ℕ → ℕ → ℕ → List ℕ → ℕ → ℕ → ℕ
+wrong-from s at kept fill got zero i = i
+wrong-from s at kept fill got (suc k) i =
+    cond (eqb (getD got i 0) (wanted-byte s at kept fill i)) (wrong-from s at kept fill got k (i + 1)) i
+
+-- the first of all places, else their number
+unfoldable pub first-wrong : List ℕ → ℕ → ℕ → ℕ → List ℕ → ℕ
+first-wrong s at kept fill got = wrong-from s at kept fill got (length got) 0

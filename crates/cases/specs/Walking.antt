@@ -1,0 +1,78 @@
+-- The vectors of start and walk: the answer and the checkpoint that the document fixes, compared with those that the corpus has.
+use Prim.Native.Nat.{ℕ, _+_, _-_}
+use mathlib.Core.Bool.{Bool, cond, _&&_}
+use mathlib.Core.List.{List}
+use lib.Dec.{eqb}
+use lib.ListN.{getD, take, drop}
+use Rattle.walk.specs.Checkpoints.{Checkpoint, start}
+use Rattle.walk.specs.WalkCall.{Kind, says-model, says-spent, says-ended, says-refused, Result, walk-call}
+use Rattle.cases.specs.declared.corpus.Vector.{Vector}
+use Rattle.cases.specs.declared.walking.Told.{Told}
+use Rattle.cases.specs.Answers.{plain, expected, same}
+use Rattle.cases.specs.Comparing.{first-wrong}
+use Rattle.cases.specs.Corpus.{four-bytes, eight-bytes}
+
+-- how the corpus writes what an answer says
+abbrev pub code : Kind → ℕ
+code says-model = 4
+code says-spent = 5
+code says-ended = 6
+code says-refused = 2
+
+abbrev pub written : Result → Told
+written r = record {
+  answer = plain (code (r .kind)) (r .number) (r .place);
+  model = r .model;
+  steps = r .steps;
+  expansions = r .expansions;
+}
+
+-- what a call must give: the answer, the model, the steps and the expansions
+abbrev pub expected-call : List ℕ → ℕ → Told
+expected-call s at = record {
+  answer = expected s at;
+  model = eight-bytes s (at + 6);
+  steps = four-bytes s (at + 14);
+  expansions = four-bytes s (at + 18);
+}
+
+-- the checkpoint at an offset: its mode, its length, its trail
+abbrev pub checkpoint-at : List ℕ → ℕ → Checkpoint
+checkpoint-at s at = record { mode = getD s at 0; length = getD s (at + 1) 0; bytes = take 48 (drop (at + 2) s) }
+
+-- the checkpoint that the call gets, by the byte at an offset: 0 the one that follows, 1 the start checkpoint, else the last
+abbrev pub origin : List ℕ → ℕ → Checkpoint → Checkpoint
+origin s at last =
+    cond (eqb (getD s at 0) 0) (checkpoint-at s (at + 1)) (cond (eqb (getD s at 0) 1) start last)
+
+-- the vector's call
+unfoldable pub called : List ℕ → Vector → Checkpoint → Result
+called s v last =
+    walk-call (take (v .end - v .start) (drop (v .start) s)) (origin s (v .end + 72) last) (four-bytes s (v .end + 123))
+
+-- where the checkpoint first has another byte than stands in s from an offset on; 50 if nowhere
+unfoldable pub checkpoint-wrong : List ℕ → ℕ → Checkpoint → ℕ
+checkpoint-wrong s at c =
+    cond (eqb (c .mode) (getD s at 0))
+    (cond (eqb (c .length) (getD s (at + 1) 0)) (2 + first-wrong s (at + 2) 48 0 (c .bytes)) 1)
+    0
+
+-- no byte of the checkpoint is wrong, and all else is the same
+abbrev pub alike : Told → Told → ℕ → Bool
+alike a b wrong =
+    eqb wrong 50 && eqb (a .model) (b .model) && eqb (a .steps) (b .steps) && eqb (a .expansions) (b .expansions)
+    && same (a .answer) (b .answer)
+
+-- the start checkpoint is the expected one
+unfoldable pub start-agrees : List ℕ → Vector → Bool
+start-agrees s v = eqb (checkpoint-wrong s (v .end) start) 50
+
+-- the vector's call gives what it must
+unfoldable pub walk-agrees : List ℕ → Vector → Checkpoint → Bool
+walk-agrees s v last =
+    let r = called s v last in
+    alike (expected-call s (v .end)) (written r) (checkpoint-wrong s (v .end + 22) (r .checkpoint))
+
+-- the checkpoint that the call returns
+unfoldable pub walk-leaves : List ℕ → Vector → Checkpoint → Checkpoint
+walk-leaves s v last = called s v last .checkpoint
