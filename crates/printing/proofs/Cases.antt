@@ -1,6 +1,6 @@
 -- 01's example of a printed walk, computed from the definition.
 use mathlib.Core.Bool.{xor}
-use mathlib.Core.List.{List, [], _∷_, _++_}
+use mathlib.Core.List.{[], _∷_, _++_}
 use mathlib.Core.Path.{_≡_, refl}
 use Rattle.lists.specs.Tabulated.{tabulated}
 use Rattle.masks.specs.Mask.{bit, members}

@@ -13,7 +13,7 @@ use Rattle.formula.specs.Format.{Literal}
 use Rattle.formula.specs.Masked.{variables}
 use Rattle.formula.specs.Refusals.{listing}
 use Rattle.matching.specs.Search.{Outcome, success, failure, outcome}
-use Rattle.walk.specs.PlainMachine.{Answer, found, spent, ended, Call, plain-call}
+use Rattle.walk.specs.PlainMachine.{Answer, found, spent, ended, plain-call}
 
 -- the words `switches`, `rules`, `end`, `more`, `refused`
 abbrev pub switches-word : List ℕ
