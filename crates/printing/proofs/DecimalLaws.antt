@@ -2,7 +2,7 @@
 use Prim.Native.Nat.{ℕ, zero, suc, _+_, _/_, _%_, _^_, _≤_, _<_}
 use mathlib.Core.Bool.{Bool, true, false, cond}
 use mathlib.Core.List.{List, [], _∷_, _++_}
-use mathlib.Core.Path.{_≡_, refl, ap}
+use mathlib.Core.Path.{_≡_, refl, ap, _∙_}
 use native.Mathlib.Nat.{pow-suc, div-lt-iff-lt-mul, div-lt-self}
 use native.Mathlib.Omega.{arith}
 use lib.Dec.{ltb}
@@ -14,7 +14,7 @@ use Rattle.printing.specs.Printed.{decimal-within, decimal}
 shorter : (k x : ℕ) → x < 10 ^ suc k → x / 10 < 10 ^ k
 shorter k x h = let z : 0 < 10 = omega arith in div-lt-iff-lt-mul z .1 (rw pow-suc at h)
 
-smaller : (x : ℕ) → 10 ≤ x → x / 10 < x
+pub smaller : (x : ℕ) → 10 ≤ x → x / 10 < x
 smaller x h = div-lt-self (omega arith) (omega arith)
 
 below-power : (x : ℕ) → x < 10 ^ suc x
@@ -75,3 +75,7 @@ decimal-more zero h = absurd (omega arith)
 decimal-more (suc y) h =
     let l : suc y / 10 ≤ y = (let s = smaller (suc y) h in omega arith) in
     rw (le-ltb (suc y) 10 h, within-same y (suc y / 10) (suc y / 10) (omega (arith, below-power y)) (omega arith))
+
+-- one digit more
+pub more-length : (x : ℕ) → 10 ≤ x → length (decimal x) ≡ length (decimal (x / 10)) + 1
+more-length x h = ap length (decimal-more x h) ∙ length-append (decimal (x / 10)) ((48 + (x % 10)) ∷ [])

@@ -1,3 +1,4 @@
 pub mod Cases
 pub mod DecimalLaws
+pub mod PlacedLaws
 pub mod PrintedLaws
