@@ -22,11 +22,11 @@ module _ {A : Type 0} where
   set-placed at x b h = rw add-one (set-split b at x h)
 
   -- one list behind the other
-  pub placed-placed : (at : ℕ) (xs ys b : List A) → at + length xs + length ys ≤ length b → placed (at + length xs) ys (placed at xs b) ≡ placed at (xs ++ ys) b
+  pub placed-placed : (at : ℕ) (xs ys b : List A) → at ≤ length b → placed (at + length xs) ys (placed at xs b) ≡ placed at (xs ++ ys) b
   placed-placed at xs ys b h =
       let d = drop (at + length xs) b in
       let p = take at b ++ xs in
-      let t : length (take at b) ≡ at = length-take-le at b (omega arith) in
+      let t : length (take at b) ≡ at = length-take-le at b h in
       let l : length p ≡ at + length xs = length-append (take at b) xs ∙ omega arith in
       let o : at + length xs + length ys ≡ at + length (xs ++ ys) = (let q = length-append xs ys in omega arith) in
       let e : placed at xs b ≡ p ++ d = sym (append-assoc (take at b) xs d) in
@@ -74,11 +74,9 @@ pub wrote-one : (at x : ℕ) (b : List ℕ) → at < length b → Wrote (x ∷ [
 wrote-one at x b h = record { buffer = set-placed at x b h; next = refl }
 
 -- one writer behind the other
-pub wrote-more : {xs ys : List ℕ} {at p r : ℕ} {b c d : List ℕ} → Room at (xs ++ ys) b → Wrote xs at b c p → Wrote ys p c d r → Wrote (xs ++ ys) at b d r
+pub wrote-more : {xs ys : List ℕ} {at p r : ℕ} {b c d : List ℕ} → at ≤ length b → Wrote xs at b c p → Wrote ys p c d r → Wrote (xs ++ ys) at b d r
 wrote-more {xs} {ys} {at} {p} {r} {b} {c} {d} h v w =
-    let l = length-append xs ys in
-    let k : at + length xs + length ys ≤ length b = omega arith in
     record {
-      buffer = w .buffer ∙ ap (λ (t : ℕ). placed t ys c) (v .next) ∙ ap (placed (at + length xs) ys) (v .buffer) ∙ placed-placed at xs ys b k;
-      next = (let m = v .next in let n = w .next in omega arith);
+      buffer = w .buffer ∙ ap (λ (t : ℕ). placed t ys c) (v .next) ∙ ap (placed (at + length xs) ys) (v .buffer) ∙ placed-placed at xs ys b h;
+      next = (let l = length-append xs ys in let m = v .next in let n = w .next in omega arith);
     }

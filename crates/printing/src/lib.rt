@@ -5,7 +5,7 @@ ghost use mathlib.Core.List.{[], _∷_};
 ghost use Prim.Native.Nat.{_+_, _<_, _≤_};
 ghost use lib.ListN.{length};
 ghost use Rattle.printing.specs.Placed.{Room, Wrote};
-ghost use Rattle.printing.specs.Printed.{decimal, digit, digits};
+ghost use Rattle.printing.specs.Printed.{decimal, digit, digits, line-of, header, model-line, end-line, more-line, refused-line};
 
 // One byte.
 fn put_byte(x: u8, buffer: &mut [u8], at: usize) -> usize
@@ -63,4 +63,70 @@ fn put_digits(n: usize, a: u64, buffer: &mut [u8], at: usize) -> usize
         i += 1;
     }
     at + i
+}
+
+// Two numbers at the end of a line.
+fn put_numbers(x: u64, y: u64, buffer: &mut [u8], at: usize) -> usize
+    requires { ⌜ Room at (line-of (decimal x ∷ decimal y ∷ [])) (now buffer) ⌝ }
+    ensures { λ r. ⌜ Wrote (line-of (decimal x ∷ decimal y ∷ [])) at (now (buffer .entry)) (now (buffer .exit)) r ⌝ }
+{
+    let blank = put_decimal(x, buffer, at);
+    let second = put_byte(b' ', buffer, blank);
+    let feed = put_decimal(y, buffer, second);
+    put_byte(b'\n', buffer, feed)
+}
+
+// The first line: the numbers of variables and clauses.
+pub fn put_header(n: usize, m: usize, buffer: &mut [u8], at: usize) -> usize
+    requires { ⌜ Room at (header n m) (now buffer) ⌝ }
+    ensures { λ r. ⌜ Wrote (header n m) at (now (buffer .entry)) (now (buffer .exit)) r ⌝ }
+{
+    let first = put_word(b"switches ", buffer, at);
+    let word = put_decimal(n as u64, buffer, first);
+    let second = put_word(b" rules ", buffer, word);
+    let feed = put_decimal(m as u64, buffer, second);
+    put_byte(b'\n', buffer, feed)
+}
+
+// The line of a model of n variables.
+pub fn put_model_line(
+    n: usize,
+    a: u64,
+    steps: u64,
+    expansions: u64,
+    buffer: &mut [u8],
+    at: usize,
+) -> usize
+    requires { ⌜ (n ≤ 64) × Room at (model-line n a steps expansions) (now buffer) ⌝ }
+    ensures { λ r. ⌜ Wrote (model-line n a steps expansions) at (now (buffer .entry)) (now (buffer .exit)) r ⌝ }
+{
+    let blank = put_digits(n, a, buffer, at);
+    let numbers = put_byte(b' ', buffer, blank);
+    put_numbers(steps, expansions, buffer, numbers)
+}
+
+// The line at the end of a walk.
+pub fn put_end_line(steps: u64, expansions: u64, buffer: &mut [u8], at: usize) -> usize
+    requires { ⌜ Room at (end-line steps expansions) (now buffer) ⌝ }
+    ensures { λ r. ⌜ Wrote (end-line steps expansions) at (now (buffer .entry)) (now (buffer .exit)) r ⌝ }
+{
+    let numbers = put_word(b"end ", buffer, at);
+    put_numbers(steps, expansions, buffer, numbers)
+}
+
+// The line after the last model that is listed.
+pub fn put_more_line(buffer: &mut [u8], at: usize) -> usize
+    requires { ⌜ Room at more-line (now buffer) ⌝ }
+    ensures { λ r. ⌜ Wrote more-line at (now (buffer .entry)) (now (buffer .exit)) r ⌝ }
+{
+    put_word(b"more\n", buffer, at)
+}
+
+// The line of a refusal.
+pub fn put_refused_line(number: u64, place: usize, buffer: &mut [u8], at: usize) -> usize
+    requires { ⌜ Room at (refused-line number place) (now buffer) ⌝ }
+    ensures { λ r. ⌜ Wrote (refused-line number place) at (now (buffer .entry)) (now (buffer .exit)) r ⌝ }
+{
+    let numbers = put_word(b"refused ", buffer, at);
+    put_numbers(number, place as u64, buffer, numbers)
 }

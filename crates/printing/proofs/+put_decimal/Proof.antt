@@ -131,7 +131,7 @@ put-decimal-returns-2 t c =
     let s = c .before .before .before .before .before .before .before .before .before .before in
     let h : 10 ≤ s .args .x = omega arith in
     rw (decimal-more (s .args .x) h)
-    (wrote-more (rw (decimal-more (s .args .x) h) at (s .pre .1)) (c .before .before .before .before .before .before .put-decimal .ensures) (c .before .before .put-byte2 .ensures))
+    (wrote-more (omega (arith, s .pre .1)) (c .before .before .before .before .before .before .put-decimal .ensures) (c .before .before .put-byte2 .ensures))
 
 pub +put-decimal-spec : {M : Type 1} → statement M
 +put-decimal-spec = close μ-put-decimal λ t. put-decimal-lts.spec (
