@@ -1,4 +1,5 @@
 pub mod Cases
 pub mod DecimalLaws
+pub mod LineLaws
 pub mod PlacedLaws
 pub mod PrintedLaws

@@ -1,6 +1,7 @@
--- How long the printed lines are.
+-- How long the whole print is, and that no call that it makes says spent.
 use Prim.Native.Nat.{ℕ, zero, suc, _+_, _*_, _^_, _≤_, _<_}
 use mathlib.Core.List.{List, [], _∷_, map}
+use mathlib.Core.Logic.{_⊎_, inl, inr}
 use mathlib.Core.Path.{_≡_, refl, ap, _∙_}
 use native.Mathlib.Nat.{mul-le-mul}
 use native.Mathlib.Omega.{arith}
@@ -8,7 +9,6 @@ use lib.Bits.{or-lt}
 use lib.ListN.{length, getD, replicate, length-append, length-map, List·getD-map}
 use lib.Pow.{pow-pos}
 use Rattle.lists.proofs.EveryLaws.{every-getD}
-use Rattle.lists.proofs.TabulatedLaws.{length-tabulated}
 use Rattle.masks.proofs.SizeLaws.{size-le}
 use Rattle.formula.specs.declared.Refusal.{Refusal}
 use Rattle.formula.specs.Decode.{Decoding, readable, refused, decode}
@@ -18,35 +18,18 @@ use Rattle.formula.specs.Refusals.{listing}
 use Rattle.formula.specs.Table.{Beginning, written, Given, no-kind, kind-unknown, kind-misplaced, no-body, count-bad, variable-unknown, variable-repeated, clause-extra, byte-extra}
 use Rattle.formula.proofs.ClauseLaws.{variables-lt}
 use Rattle.formula.proofs.Demands.{accepted-only, refused-only, numbers}
-use Rattle.matching.specs.Matched.{union}
+use Rattle.matching.specs.Matched.{Matched, union}
 use Rattle.matching.specs.Search.{Outcome, success, failure, outcome}
 use Rattle.matching.proofs.Theorems.{success-matches, failure-few, pigeonhole}
 use Rattle.matched.specs.Pairing.{Pairs}
 use Rattle.matched.proofs.PairingLaws.{masks-words, matches-pairs, pairs-matches}
-use Rattle.walk.specs.PlainMachine.{Answer, found, spent, ended, plain-call, plain-calls}
-use Rattle.walk.specs.WalkCall.{kind-of, plain-result}
+use Rattle.walk.specs.PlainMachine.{Answer, found, spent, ended, plain-call, plain-calls, state-after}
+use Rattle.walk.specs.WalkCall.{says-model, says-ended, kind-of, plain-result}
 use Rattle.walk.specs.Gaps.{gap-after, gaps-from, gaps, PacedLater, Paced}
 use Rattle.walk.proofs.Demands.{demand-3}
-use Rattle.printing.specs.Printed.{digit, header, model-line, end-line, refused-line, call-lines, walk-lines, outcome-lines, decoding-lines, printed}
-use Rattle.printing.proofs.DecimalLaws.{decimal-length}
-
--- ---- a line
-
-pub header-length : (n m : ℕ) → n < 100 → m < 100 → length (header n m) ≤ 21
-header-length n m h k = let a = decimal-length 1 n h in let b = decimal-length 1 m k in simp length-append (omega arith)
-
-pub model-line-length : (n a s e : ℕ) → n ≤ 48 → s < 100 → e < 10 ^ 7 → length (model-line n a s e) ≤ 60
-model-line-length n a s e h k l =
-    let x = decimal-length 1 s k in
-    let y = decimal-length 6 e l in
-    let z = length-tabulated (digit a) n in
-    simp length-append (omega arith)
-
-pub end-line-length : (s e : ℕ) → s < 100 → e < 10 ^ 7 → length (end-line s e) ≤ 15
-end-line-length s e k l = let x = decimal-length 1 s k in let y = decimal-length 6 e l in simp length-append (omega arith)
-
-pub refused-line-length : (number place : ℕ) → number < 100 → place < 100000 → length (refused-line number place) ≤ 17
-refused-line-length number place k l = let x = decimal-length 1 number k in let y = decimal-length 4 place l in simp length-append (omega arith)
+use Rattle.walk.proofs.FormulaLaws.{call-plain, last-plain}
+use Rattle.printing.specs.Printed.{header, model-line, refused-line, call-lines, walk-lines, outcome-lines, decoding-lines, printed}
+use Rattle.printing.proofs.LineLaws.{header-length, model-line-length, end-line-length, refused-line-length}
 
 -- ---- the lines of a walk
 
@@ -169,3 +152,20 @@ printed-length s h = go (decode s) refl
     go : (d : Decoding) → decode s ≡ d → length (decoding-lines d) ≤ 60026
     go (readable n cs) e = walked n cs e (outcome (map variables cs)) refl
     go (refused r) e = let a = refused-short s r e h in omega arith
+
+-- ---- no call of the print says spent
+
+not-spent : (a : Answer) → (kind-of a ≡ says-model) ⊎ (kind-of a ≡ says-ended) → a ≡ spent → ⊥
+not-spent a (inl h) e = let z : _≡_ {A = ℕ} 0 1 = cc in omega arith
+not-spent a (inr h) e = let z : _≡_ {A = ℕ} 0 1 = cc in omega arith
+
+-- after j calls on budgets of 96, the next one on that budget brings a model or the end
+pub never-spent : (s : List ℕ) (n : ℕ) (cs : List (List Literal)) (vs : List ℕ) → decode s ≡ readable n cs → Pairs cs vs → (j : ℕ)
+    → plain-call n cs 96 (state-after n cs 0 (replicate j 96)) .answer ≡ spent → ⊥
+never-spent s n cs vs e w j = not-spent (plain-call n cs 96 (state-after n cs 0 (replicate j 96)) .answer) (rw (call-plain s n cs e m bs 96) at (rw (last-plain s n cs e m bs) at (demand-3 s n cs e vs w bs .ample 96 (omega arith))))
+  where
+    bs : List ℕ
+    bs = replicate j 96
+
+    m : Matched (map variables cs)
+    m = (vs, pairs-matches cs vs w)

@@ -5,7 +5,8 @@ ghost use mathlib.Core.List.{[], _∷_};
 ghost use Prim.Native.Nat.{_+_, _<_, _≤_};
 ghost use lib.ListN.{length};
 ghost use Rattle.printing.specs.Placed.{Room, Wrote};
-ghost use Rattle.printing.specs.Printed.{decimal, digit, digits, line-of, header, model-line, end-line, more-line, refused-line};
+ghost use Rattle.printing.specs.Printed.{decimal, digit, digits, line-of, header, model-line, end-line, more-line, refusal-line};
+use formula::Refusal;
 
 // One byte.
 fn put_byte(x: u8, buffer: &mut [u8], at: usize) -> usize
@@ -123,10 +124,12 @@ pub fn put_more_line(buffer: &mut [u8], at: usize) -> usize
 }
 
 // The line of a refusal.
-pub fn put_refused_line(number: u64, place: usize, buffer: &mut [u8], at: usize) -> usize
-    requires { ⌜ Room at (refused-line number place) (now buffer) ⌝ }
-    ensures { λ r. ⌜ Wrote (refused-line number place) at (now (buffer .entry)) (now (buffer .exit)) r ⌝ }
+pub fn put_refusal_line(refusal: Refusal, buffer: &mut [u8], at: usize) -> usize
+    requires { ⌜ Room at (refusal-line refusal) (now buffer) ⌝ }
+    ensures { λ r. ⌜ Wrote (refusal-line refusal) at (now (buffer .entry)) (now (buffer .exit)) r ⌝ }
 {
+    let number = formula::number_of(refusal);
+    let place = formula::place_of(refusal);
     let numbers = put_word(b"refused ", buffer, at);
     put_numbers(number, place as u64, buffer, numbers)
 }

@@ -1,9 +1,9 @@
 -- `printing::put_header` meets its contract: one writer behind the other.
 use native.Mathlib.Omega.{arith}
 use Prim.Native.Nat.{_≤_}
-use mathlib.Core.List.{[], _∷_, append-assoc}
-use lib.ListN.{length, length-append}
-use Rattle.printing.specs.Printed.{rules-word, decimal, line-of}
+use mathlib.Core.List.{append-assoc}
+use lib.ListN.{length}
+use Rattle.printing.proofs.LineLaws.{header-sum}
 use Rattle.printing.proofs.PlacedLaws.{wrote-more}
 use borrow.Author.Needs.{needs}
 use Rattle.printing.proofs.put_header.Statement.{statement}
@@ -18,7 +18,7 @@ put-word-requires c κs = search needs
 put-decimal-requires : tie.Need-put-decimal-requires
 put-decimal-requires c κs =
     let s = c .before .before .before .before .before .before .before in
-    omega (arith, length-append (decimal (s .args .n)) (32 ∷ line-of (rules-word ∷ decimal (s .args .m) ∷ [])), length-append (decimal (s .args .m)) (10 ∷ []))
+    omega (arith, header-sum (s .args .n) (s .args .m))
 
 slice-aggregate-put-word-2 : tie.Need-slice-aggregate-put-word-2
 slice-aggregate-put-word-2 c = search needs
@@ -26,17 +26,17 @@ slice-aggregate-put-word-2 c = search needs
 put-word-requires-2 : tie.Need-put-word-requires-2
 put-word-requires-2 c κs =
     let s = c .before .before .before .before .before .before .before .before .before .before .before .before in
-    omega (arith, length-append (decimal (s .args .n)) (32 ∷ line-of (rules-word ∷ decimal (s .args .m) ∷ [])), length-append (decimal (s .args .m)) (10 ∷ []))
+    omega (arith, header-sum (s .args .n) (s .args .m))
 
 put-decimal-requires-2 : tie.Need-put-decimal-requires-2
 put-decimal-requires-2 c κs =
     let s = c .before .before .before .before .before .before .before .before .before .before .before .before .before .before .before .before in
-    omega (arith, length-append (decimal (s .args .n)) (32 ∷ line-of (rules-word ∷ decimal (s .args .m) ∷ [])), length-append (decimal (s .args .m)) (10 ∷ []))
+    omega (arith, header-sum (s .args .n) (s .args .m))
 
 put-byte-requires : tie.Need-put-byte-requires
 put-byte-requires c κs =
     let s = c .before .before .before .before .before .before .before .before .before .before .before .before .before .before .before .before .before .before .before .before in
-    omega (arith, length-append (decimal (s .args .n)) (32 ∷ line-of (rules-word ∷ decimal (s .args .m) ∷ [])), length-append (decimal (s .args .m)) (10 ∷ []))
+    omega (arith, header-sum (s .args .n) (s .args .m))
 
 same-length : tie.Need-same-length
 same-length c = search needs

@@ -1,9 +1,10 @@
 -- `printing::put_model_line` meets its contract: one writer behind the other.
 use native.Mathlib.Omega.{arith}
 use Prim.Native.Nat.{_≤_}
-use mathlib.Core.List.{[], _∷_, append-assoc}
-use lib.ListN.{length, length-append}
-use Rattle.printing.specs.Printed.{decimal, digit, digits, line-of}
+use mathlib.Core.List.{append-assoc}
+use lib.ListN.{length}
+use Rattle.printing.specs.Printed.{digit}
+use Rattle.printing.proofs.LineLaws.{model-line-sum}
 use Rattle.printing.proofs.PlacedLaws.{wrote-more}
 use Rattle.lists.proofs.TabulatedLaws.{length-tabulated}
 use borrow.Author.Needs.{needs}
@@ -11,17 +12,17 @@ use Rattle.printing.proofs.put_model_line.Statement.{statement}
 use Rattle.printing.proofs.put_model_line.Tie as tie
 
 put-digits-requires : tie.Need-put-digits-requires
-put-digits-requires c κs = let s = c .before .before in (s .pre .0, omega (arith, length-append (digits (s .args .n) (s .args .a)) (32 ∷ line-of (decimal (s .args .steps) ∷ decimal (s .args .expansions) ∷ [])), length-tabulated (digit (s .args .a)) (s .args .n)))
+put-digits-requires c κs = let s = c .before .before in (s .pre .0, omega (arith, model-line-sum (s .args .n) (s .args .a) (s .args .steps) (s .args .expansions), length-tabulated (digit (s .args .a)) (s .args .n)))
 
 put-byte-requires : tie.Need-put-byte-requires
 put-byte-requires c κs =
     let s = c .before .before .before .before .before .before in
-    omega (arith, length-append (digits (s .args .n) (s .args .a)) (32 ∷ line-of (decimal (s .args .steps) ∷ decimal (s .args .expansions) ∷ [])), length-tabulated (digit (s .args .a)) (s .args .n))
+    omega (arith, model-line-sum (s .args .n) (s .args .a) (s .args .steps) (s .args .expansions), length-tabulated (digit (s .args .a)) (s .args .n))
 
 put-numbers-requires : tie.Need-put-numbers-requires
 put-numbers-requires c κs =
     let s = c .before .before .before .before .before .before .before .before .before .before in
-    omega (arith, length-append (digits (s .args .n) (s .args .a)) (32 ∷ line-of (decimal (s .args .steps) ∷ decimal (s .args .expansions) ∷ [])), length-tabulated (digit (s .args .a)) (s .args .n))
+    omega (arith, model-line-sum (s .args .n) (s .args .a) (s .args .steps) (s .args .expansions), length-tabulated (digit (s .args .a)) (s .args .n))
 
 same-length : tie.Need-same-length
 same-length c = search needs

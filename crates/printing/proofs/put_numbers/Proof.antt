@@ -1,9 +1,9 @@
 -- `printing::put_numbers` meets its contract: one writer behind the other.
 use native.Mathlib.Omega.{arith}
 use Prim.Native.Nat.{_≤_}
-use mathlib.Core.List.{[], _∷_, append-assoc}
-use lib.ListN.{length, length-append}
-use Rattle.printing.specs.Printed.{decimal, line-of}
+use mathlib.Core.List.{append-assoc}
+use lib.ListN.{length}
+use Rattle.printing.proofs.LineLaws.{numbers-sum}
 use Rattle.printing.proofs.PlacedLaws.{wrote-more}
 use borrow.Author.Needs.{needs}
 use Rattle.printing.proofs.put_numbers.Statement.{statement}
@@ -12,22 +12,22 @@ use Rattle.printing.proofs.put_numbers.Tie as tie
 put-decimal-requires : tie.Need-put-decimal-requires
 put-decimal-requires c κs =
     let s = c .before .before in
-    omega (arith, length-append (decimal (s .args .x)) (32 ∷ line-of (decimal (s .args .y) ∷ [])), length-append (decimal (s .args .y)) (10 ∷ []))
+    omega (arith, numbers-sum (s .args .x) (s .args .y))
 
 put-byte-requires : tie.Need-put-byte-requires
 put-byte-requires c κs =
     let s = c .before .before .before .before .before .before in
-    omega (arith, length-append (decimal (s .args .x)) (32 ∷ line-of (decimal (s .args .y) ∷ [])), length-append (decimal (s .args .y)) (10 ∷ []))
+    omega (arith, numbers-sum (s .args .x) (s .args .y))
 
 put-decimal-requires-2 : tie.Need-put-decimal-requires-2
 put-decimal-requires-2 c κs =
     let s = c .before .before .before .before .before .before .before .before .before .before in
-    omega (arith, length-append (decimal (s .args .x)) (32 ∷ line-of (decimal (s .args .y) ∷ [])), length-append (decimal (s .args .y)) (10 ∷ []))
+    omega (arith, numbers-sum (s .args .x) (s .args .y))
 
 put-byte-requires-2 : tie.Need-put-byte-requires-2
 put-byte-requires-2 c κs =
     let s = c .before .before .before .before .before .before .before .before .before .before .before .before .before .before in
-    omega (arith, length-append (decimal (s .args .x)) (32 ∷ line-of (decimal (s .args .y) ∷ [])), length-append (decimal (s .args .y)) (10 ∷ []))
+    omega (arith, numbers-sum (s .args .x) (s .args .y))
 
 same-length : tie.Need-same-length
 same-length c = search needs
