@@ -1,2 +1,3 @@
+pub mod InnerLines
 pub mod Placed
 pub mod Printed
