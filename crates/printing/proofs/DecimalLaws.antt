@@ -1,12 +1,12 @@
 -- Laws of numbers in decimal.
-use Prim.Native.Nat.{ℕ, zero, suc, _+_, _/_, _%_, _^_, _≤_, _<_}
+use Prim.Native.Nat.{ℕ, zero, suc, _+_, _*_, _-_, _/_, _%_, _^_, _≤_, _<_}
 use mathlib.Core.Bool.{Bool, true, false, cond}
 use mathlib.Core.List.{List, [], _∷_, _++_}
 use mathlib.Core.Path.{_≡_, refl, ap, _∙_}
-use native.Mathlib.Nat.{pow-suc, div-lt-iff-lt-mul, div-lt-self}
+use native.Mathlib.Nat.{pow-suc, div-lt-iff-lt-mul, div-lt-self, div-add-mod'}
 use native.Mathlib.Omega.{arith}
 use lib.Dec.{ltb}
-use lib.ListN.{length, length-append}
+use lib.ListN.{length, getD, length-append, List·getD-append}
 use borrow.Author.Tests.{ltb-false, lt-ltb, le-ltb}
 use Rattle.printing.specs.Printed.{decimal-within, decimal}
 
@@ -58,11 +58,6 @@ pub decimal-length : (k x : ℕ) → x < 10 ^ suc k → length (decimal x) ≤ s
 unfolding decimal
 decimal-length k x h = rw (← within-same k x x h (omega arith)) (within-length (suc k) x)
 
--- and each number has at least one
-pub decimal-some : (x : ℕ) → 1 ≤ length (decimal x)
-unfolding decimal
-decimal-some x = within-some x x
-
 -- one digit
 pub decimal-one : (x : ℕ) → x < 10 → decimal x ≡ (48 + x) ∷ []
 unfolding decimal decimal-within
@@ -79,3 +74,44 @@ decimal-more (suc y) h =
 -- one digit more
 pub more-length : (x : ℕ) → 10 ≤ x → length (decimal x) ≡ length (decimal (x / 10)) + 1
 more-length x h = ap length (decimal-more x h) ∙ length-append (decimal (x / 10)) ((48 + (x % 10)) ∷ [])
+
+-- ---- the digits tell the number, and the first is not 0
+
+-- the number that digits tell, v being told by those before
+abbrev pub told : ℕ → List ℕ → ℕ
+told v [] = v
+told v (d ∷ ds) = told (v * 10 + (d - 48)) ds
+
+told-append : (v : ℕ) (xs ys : List ℕ) → told v (xs ++ ys) ≡ told (told v xs) ys
+told-append v [] ys = refl
+told-append v (x ∷ xs) ys = told-append (v * 10 + (x - 48)) xs ys
+
+within-told : (k x : ℕ) → x < 10 ^ suc k → told 0 (decimal-within (suc k) x) ≡ x
+unfolding decimal-within
+within-told zero x h = rw (lt-ltb x 10 h) (omega arith)
+within-told (suc k) x h = go (ltb x 10) (within-told k (x / 10) (shorter (suc k) x h))
+  where
+    go : (b : Bool) → told 0 (decimal-within (suc k) (x / 10)) ≡ x / 10
+        → told 0 (cond b ((48 + x) ∷ []) (decimal-within (suc k) (x / 10) ++ ((48 + (x % 10)) ∷ []))) ≡ x
+    go true f = omega arith
+    go false f = told-append 0 (decimal-within (suc k) (x / 10)) ((48 + (x % 10)) ∷ []) ∙ rw f (omega (arith, div-add-mod' x 10))
+
+pub decimal-told : (x : ℕ) → told 0 (decimal x) ≡ x
+unfolding decimal
+decimal-told x = within-told x x (below-power x)
+
+within-leads : (k x : ℕ) → x < 10 ^ suc k → 1 ≤ x → 49 ≤ getD (decimal-within (suc k) x) 0 0
+unfolding decimal-within
+within-leads zero x h l = rw (lt-ltb x 10 h) (omega arith)
+within-leads (suc k) x h l = go (ltb x 10) refl (within-leads k (x / 10) (shorter (suc k) x h))
+  where
+    go : (b : Bool) → ltb x 10 ≡ b → (1 ≤ x / 10 → 49 ≤ getD (decimal-within (suc k) (x / 10)) 0 0)
+        → 49 ≤ getD (cond b ((48 + x) ∷ []) (decimal-within (suc k) (x / 10) ++ ((48 + (x % 10)) ∷ []))) 0 0
+    go true e f = omega arith
+    go false e f =
+        let t = ltb-false x 10 e in
+        rw (List·getD-append (decimal-within (suc k) (x / 10)) ((48 + (x % 10)) ∷ []) 0 0 (within-some k (x / 10))) (f (omega (arith, div-add-mod' x 10)))
+
+pub decimal-leads : (x : ℕ) → 1 ≤ x → 49 ≤ getD (decimal x) 0 0
+unfolding decimal
+decimal-leads x = within-leads x x (below-power x)
