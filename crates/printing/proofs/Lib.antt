@@ -1,0 +1,7 @@
+pub mod Cases
+pub mod DecimalLaws
+pub mod JudgedLaws
+pub mod LineLaws
+pub mod PlacedLaws
+pub mod PrintedLaws
+pub mod WalkLinesLaws

@@ -1,0 +1,20 @@
+-- `printing::put_byte` meets its contract.
+use Rattle.printing.proofs.PlacedLaws.{wrote-one}
+use borrow.Author.Needs.{needs}
+use Rattle.printing.proofs.put_byte.Statement.{statement}
+use Rattle.printing.proofs.put_byte.Tie as tie
+
+slice-write-buffer : tie.Need-slice-write-buffer
+slice-write-buffer c = search needs
+
+add-result : tie.Need-add-result
+add-result c = search needs
+
+same-length : tie.Need-same-length
+same-length c = search needs
+
+returns : tie.Need-returns
+returns c = wrote-one (c .args .at) (c .args .x) (c .args .buffer .now) (c .pre)
+
+pub put-byte-spec : {M : Type 1} → statement M
+put-byte-spec = tie.close (tie.spec slice-write-buffer add-result same-length returns)

@@ -1,0 +1,55 @@
+-- `printing::put_numbers` meets its contract: one writer behind the other.
+use native.Mathlib.Omega.{arith}
+use Prim.Native.Nat.{_≤_}
+use mathlib.Core.List.{append-assoc}
+use lib.ListN.{length}
+use Rattle.printing.proofs.LineLaws.{numbers-sum}
+use Rattle.printing.proofs.PlacedLaws.{wrote-more}
+use borrow.Author.Needs.{needs}
+use Rattle.printing.proofs.put_numbers.Statement.{statement}
+use Rattle.printing.proofs.put_numbers.Tie as tie
+
+put-decimal-requires : tie.Need-put-decimal-requires
+put-decimal-requires c κs =
+    let s = c .before .before in
+    omega (arith, numbers-sum (s .args .x) (s .args .y))
+
+put-byte-requires : tie.Need-put-byte-requires
+put-byte-requires c κs =
+    let s = c .before .before .before .before .before .before in
+    omega (arith, numbers-sum (s .args .x) (s .args .y))
+
+put-decimal-requires-2 : tie.Need-put-decimal-requires-2
+put-decimal-requires-2 c κs =
+    let s = c .before .before .before .before .before .before .before .before .before .before in
+    omega (arith, numbers-sum (s .args .x) (s .args .y))
+
+put-byte-requires-2 : tie.Need-put-byte-requires-2
+put-byte-requires-2 c κs =
+    let s = c .before .before .before .before .before .before .before .before .before .before .before .before .before .before in
+    omega (arith, numbers-sum (s .args .x) (s .args .y))
+
+same-length : tie.Need-same-length
+same-length c = search needs
+
+returns : tie.Need-returns
+returns c =
+    let s = c .before .before .before .before .before .before .before .before .before .before .before .before .before .before .before .before .before in
+    let h : s .args .at ≤ length (s .args .buffer .now) = omega arith in
+    simp append-assoc at
+    (wrote-more h
+    (wrote-more h
+    (wrote-more h (c .before .before .before .before .before .before .before .before .before .before .before .before .before .before .put-decimal .ensures) (c .before .before .before .before .before .before .before .before .before .before .put-byte .ensures))
+    (c .before .before .before .before .before .before .put-decimal2 .ensures))
+    (c .before .before .put-byte2 .ensures))
+
+pub put-numbers-spec : {M : Type 1} → statement M
+put-numbers-spec =
+    tie.close
+    (tie.spec
+    put-decimal-requires
+    put-byte-requires
+    put-decimal-requires-2
+    put-byte-requires-2
+    same-length
+    returns)

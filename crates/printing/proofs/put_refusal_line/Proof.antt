@@ -1,0 +1,44 @@
+-- `printing::put_refusal_line` meets its contract: one writer behind the other.
+use native.Mathlib.Omega.{arith}
+use Prim.Native.Nat.{_≤_}
+use lib.ListN.{length}
+use Rattle.printing.proofs.PlacedLaws.{wrote-more}
+use borrow.Author.Needs.{needs}
+use Rattle.printing.proofs.put_refusal_line.Statement.{statement}
+use Rattle.printing.proofs.put_refusal_line.Tie as tie
+
+number-of-requires : tie.Need-number-of-requires
+number-of-requires c κs = search needs
+
+place-of-requires : tie.Need-place-of-requires
+place-of-requires c κs = search needs
+
+slice-aggregate-put-word : tie.Need-slice-aggregate-put-word
+slice-aggregate-put-word c = search needs
+
+put-word-requires : tie.Need-put-word-requires
+put-word-requires c κs = search needs
+
+put-numbers-requires : tie.Need-put-numbers-requires
+put-numbers-requires c κs = rw (c .before .before .before .before .before .before .before .number-of .ensures, c .before .before .before .before .before .before .place-of .ensures) (omega arith)
+
+same-length : tie.Need-same-length
+same-length c = search needs
+
+returns : tie.Need-returns
+returns c =
+    let s = c .before .before .before .before .before .before .before .before .before .before .before .before in
+    let h : s .args .at ≤ length (s .args .buffer .now) = omega arith in
+    rw (← c .before .before .before .before .before .before .before .before .before .before .number-of .ensures, ← c .before .before .before .before .before .before .before .before .before .place-of .ensures) (wrote-more h (c .before .before .before .before .before .before .put-word .ensures) (c .before .before .put-numbers .ensures))
+
+pub put-refusal-line-spec : {M : Type 1} → statement M
+put-refusal-line-spec =
+    tie.close
+    (tie.spec
+    number-of-requires
+    place-of-requires
+    slice-aggregate-put-word
+    put-word-requires
+    put-numbers-requires
+    same-length
+    returns)

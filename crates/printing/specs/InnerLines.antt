@@ -1,0 +1,27 @@
+-- The lines as the code writes them: call after call of the machine that resumes, and as results of walk calls.
+use Prim.Native.Nat.{ℕ, zero, suc}
+use mathlib.Core.List.{List, [], _∷_, _++_}
+use Rattle.walk.specs.InnerStack.{Tree}
+use Rattle.walk.specs.InnerMachine.{Position, resume}
+use Rattle.walk.specs.WalkCall.{Kind, says-model, says-spent, says-ended, says-refused, Result}
+use Rattle.printing.specs.Printed.{model-line, end-line, more-line, call-lines}
+
+module _ (K : Tree) (n : ℕ) where
+  -- from a position, with room for j models more
+  unfoldable pub lines-from : ℕ → Position → List ℕ
+  lines-from zero p = more-line
+  lines-from (suc j) p =
+      let r = resume K 96 p in
+      call-lines n (r .answer) (r .steps) (r .expansions) (lines-from j (r .position))
+
+-- the line of a result, and then the rest
+abbrev pub kind-lines : ℕ → Kind → Result → List ℕ → List ℕ
+kind-lines n says-model r rest = model-line n (r .model) (r .steps) (r .expansions) ++ rest
+kind-lines n says-spent r rest = []
+kind-lines n says-ended r rest = end-line (r .steps) (r .expansions)
+kind-lines n says-refused r rest = []
+
+-- the lines of a list of walk calls
+unfoldable pub result-lines : ℕ → List Result → List ℕ
+result-lines n [] = more-line
+result-lines n (r ∷ rs) = kind-lines n (r .kind) r (result-lines n rs)

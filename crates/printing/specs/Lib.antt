@@ -1,0 +1,3 @@
+pub mod InnerLines
+pub mod Placed
+pub mod Printed
