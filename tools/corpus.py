@@ -44,8 +44,8 @@ Own fields of walk, 121 bytes:
     50 bytes  the checkpoint that the call gets if that byte is 0, else zeros
     4 bytes   the budget
 
-A chain of VECTORS is a list of calls on one input: here a vector of walk for each, with the number of the chain; the first gets
-the start checkpoint and each other what the call before it returned.
+A chain of VECTORS is a list of calls on one input, which may be empty: here a vector of walk for each call, with the number of
+the chain; the first gets the start checkpoint and each other what the call before it returned. A chain stands in one file.
 
 A further act is a coder in ACTS, and in the program a case of `Act`, its file names and a reader of its own fields.
 """

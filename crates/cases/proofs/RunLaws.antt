@@ -34,7 +34,8 @@ run-whole :
     (k : ℕ) (act : Act) (s : List ℕ) (at : ℕ) (t : Totals) (last : Checkpoint) (v : Vector) →
     at < length s →
     framed s at (size-of act) ≡ Whole v →
-    run-from (suc k) act s at t last ≡ run-from k act s (v .end + size-of act) (counted t (agrees act s v last)) (leaves act s v last)
+    run-from (suc k) act s at t last
+    ≡ run-from k act s (v .end + size-of act) (counted t (agrees act s v last)) (leaves act s v last)
 unfolding run-from
 run-whole k act s at t last v h e = rw (lt-ltb _ _ h, e)
 
@@ -48,7 +49,9 @@ pub stands-first : (act : Act) (s : List ℕ) (first : Totals) → Stands act s 
 unfolding run-of
 stands-first act s first = record { fuel = length s; enough = omega arith; rest = refl }
 
-module _ (act : Act) (s : List ℕ) (first : Totals) (at : ℕ) (t : Totals) (last : Checkpoint) (p : Stands act s first at t last) where
+module _
+    (act : Act) (s : List ℕ) (first : Totals) (at : ℕ) (t : Totals) (last : Checkpoint)
+    (p : Stands act s first at t last) where
   pub stands-done : length s ≤ at → record { at = at; totals = t } ≡ run-of act s first
   stands-done h = sym (run-done (p .fuel) act s at t last h) ∙ p .rest
 
@@ -59,7 +62,9 @@ module _ (act : Act) (s : List ℕ) (first : Totals) (at : ℕ) (t : Totals) (la
       (k : ℕ) (v : Vector) →
       length s - at ≤ k →
       run-from k act s at t last ≡ run-of act s first →
-      at < length s → framed s at (size-of act) ≡ Whole v → Stands act s first (v .end + size-of act) (counted t (agrees act s v last)) (leaves act s v last)
+      at < length s →
+      framed s at (size-of act) ≡ Whole v →
+      Stands act s first (v .end + size-of act) (counted t (agrees act s v last)) (leaves act s v last)
   step zero v n r h e = absurd (omega arith)
   step (suc k) v n r h e =
       let w = within s at (size-of act) v e in
@@ -67,5 +72,7 @@ module _ (act : Act) (s : List ℕ) (first : Totals) (at : ℕ) (t : Totals) (la
 
   pub stands-next :
       (v : Vector) →
-      at < length s → framed s at (size-of act) ≡ Whole v → Stands act s first (v .end + size-of act) (counted t (agrees act s v last)) (leaves act s v last)
+      at < length s →
+      framed s at (size-of act) ≡ Whole v →
+      Stands act s first (v .end + size-of act) (counted t (agrees act s v last)) (leaves act s v last)
   stands-next v h e = step (p .fuel) v (p .enough) (p .rest) h e

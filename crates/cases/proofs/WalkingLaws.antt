@@ -1,6 +1,5 @@
 -- Laws of the walk's calls and comparisons: each from what its parts ensure.
 use Prim.Native.Nat.{ℕ, zero, suc, _+_, _-_, _≤_}
-use mathlib.Core.Bool.{Bool}
 use mathlib.Core.List.{List, [], _∷_, _++_, append-nil}
 use mathlib.Core.Path.{_≡_, refl, _∙_}
 use native.Mathlib.Omega.{arith}
@@ -19,7 +18,9 @@ use Rattle.cases.specs.Corpus.{four-bytes}
 use Rattle.cases.specs.Walking.{written, expected-call, alike, origin, called, checkpoint-wrong, start-agrees, walk-agrees}
 
 -- a byte of the trail is two places on in the checkpoint
-pub past-two : (mode length : ℕ) (trail : List ℕ) (i : ℕ) → 2 ≤ i → getD trail (i - 2) 0 ≡ getD (mode ∷ (length ∷ trail)) i 0
+pub past-two :
+    (mode length : ℕ) (trail : List ℕ) (i : ℕ) →
+    2 ≤ i → getD trail (i - 2) 0 ≡ getD (mode ∷ (length ∷ trail)) i 0
 past-two mode length trail zero h = absurd (omega arith)
 past-two mode length trail (suc zero) h = absurd (omega arith)
 past-two mode length trail (suc (suc i)) h = let e : suc (suc i) - 2 ≡ i = omega arith in rw e

@@ -15,6 +15,6 @@ wrong-from s at kept fill got zero i = i
 wrong-from s at kept fill got (suc k) i =
     cond (eqb (getD got i 0) (wanted-byte s at kept fill i)) (wrong-from s at kept fill got k (i + 1)) i
 
--- the first of all places, else their number
+-- the first of all places, else how many they are
 unfoldable pub first-wrong : List ℕ → ℕ → ℕ → ℕ → List ℕ → ℕ
 first-wrong s at kept fill got = wrong-from s at kept fill got (length got) 0

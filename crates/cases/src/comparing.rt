@@ -15,7 +15,7 @@ pub fn wanted_byte(bytes: &[u8], at: usize, kept: usize, fill: u8, i: usize) -> 
     fill
 }
 
-// Where the bytes that a call gave first have another than they must; their number if nowhere.
+// Where the bytes that a call gave first have another than they must; how many they are, if nowhere.
 pub fn first_wrong(bytes: &[u8], at: usize, kept: usize, fill: u8, got: &[u8]) -> usize
     requires { ⌜ at + kept ≤ length (now bytes) ⌝ }
     ensures { λ r. ⌜ (r ≡ first-wrong (now (bytes .entry)) at kept fill (now (got .entry))) × (r ≤ length (now (got .entry))) ⌝ }

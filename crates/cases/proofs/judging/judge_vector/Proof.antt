@@ -6,10 +6,14 @@ use Rattle.cases.proofs.JudgingLaws.{compared}
 use Rattle.cases.proofs.judging.judge_vector.Statement.{statement}
 use Rattle.cases.proofs.judging.judge_vector.Tie as tie
 
+-- the entry
+abbrev entry : tie.After-agree → tie.Start
+entry c = c .before .before .before .before .before .before .before .before .before .before .before .before
+
 -- what the comparison gives
 told :
     (c : tie.After-agree) →
-    c .agree .result ≡ judge-agrees (c .before .before .before .before .before .before .before .before .before .before .before .before .args .bytes .now) (c .before .before .before .before .before .before .before .before .before .before .before .before .args .v)
+    c .agree .result ≡ judge-agrees (entry c .args .bytes .now) (entry c .args .v)
 told c =
     c .agree .ensures
     ∙ compared _ _ _ _ _ _

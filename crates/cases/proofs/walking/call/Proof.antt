@@ -32,7 +32,11 @@ walk-requires : tie.Need-walk-requires
 walk-requires c κs = search needs
 
 returns : tie.Need-returns
-returns c = calling _ _ _ _ _ _ (c .before .before .before .call-origin .ensures) (c .before .before .four-bytes .ensures .0) (c .walk .ensures)
+returns c =
+    calling _ _ _ _ _ _
+    (c .before .before .before .call-origin .ensures)
+    (c .before .before .four-bytes .ensures .0)
+    (c .walk .ensures)
 
 pub call-spec : {M : Type 1} → statement M
 call-spec =

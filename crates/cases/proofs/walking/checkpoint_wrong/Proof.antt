@@ -37,7 +37,12 @@ add-result c = let l = slice-aggregate-first-wrong (c .before) in omega (arith, 
 
 returns-3 : tie.Need-returns-3
 unfolding checkpoint-wrong
-returns-3 c = rw (eq-eqb _ _ (c .before .before .before .before .before .before .if1 .left), eq-eqb _ _ (c .before .before .before .if2 .left), c .first-wrong .ensures .0)
+returns-3 c =
+    rw (
+      eq-eqb _ _ (c .before .before .before .before .before .before .if1 .left),
+      eq-eqb _ _ (c .before .before .before .if2 .left),
+      c .first-wrong .ensures .0,
+    )
 
 pub checkpoint-wrong-spec : {M : Type 1} → statement M
 checkpoint-wrong-spec =

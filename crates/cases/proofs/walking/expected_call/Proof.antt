@@ -25,7 +25,13 @@ four-bytes-requires-2 : tie.Need-four-bytes-requires-2
 four-bytes-requires-2 c κs = search needs
 
 returns : tie.Need-returns
-returns c = rw (c .before .before .before .expected-at .ensures, c .before .before .eight-bytes .ensures, c .before .four-bytes .ensures .0, c .four-bytes2 .ensures .0)
+returns c =
+    rw (
+      c .before .before .before .expected-at .ensures,
+      c .before .before .eight-bytes .ensures,
+      c .before .four-bytes .ensures .0,
+      c .four-bytes2 .ensures .0,
+    )
 
 pub expected-call-spec : {M : Type 1} → statement M
 expected-call-spec =

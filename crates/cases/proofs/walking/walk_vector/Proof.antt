@@ -2,32 +2,41 @@
 use mathlib.Core.Path.{_≡_, sym, ap, _∙_}
 use Rattle.walk.specs.WalkCall.{Result}
 use Rattle.enumeration.specs.Values.{checkpoint-values}
-use Rattle.cases.specs.Walking.{called, walk-agrees, walk-leaves}
+use Rattle.cases.specs.Walking.{walk-agrees, walk-leaves}
 use Rattle.cases.proofs.WalkingLaws.{checkpoint-kept, compared}
 use borrow.Author.Needs.{needs}
 use Rattle.cases.proofs.walking.walk_vector.Statement.{statement}
 use Rattle.cases.proofs.walking.walk_vector.Tie as tie
 
+-- the call, and the entry
+abbrev calling : tie.After-agree → tie.After-call
+calling c = c .before .before .before .before
+
+abbrev entry : tie.After-agree → tie.Start
+entry c = calling c .before .before .before
+
 -- what the comparison gives
 told :
     (c : tie.After-agree) →
-    c .agree .result ≡ walk-agrees (c .before .before .before .before .before .before .before .args .bytes .now) (c .before .before .before .before .before .before .before .args .v) (checkpoint-values (c .before .before .before .before .before .before .before .args .last))
+    c .agree .result ≡
+    walk-agrees (entry c .args .bytes .now) (entry c .args .v) (checkpoint-values (entry c .args .last))
 told c =
     c .agree .ensures
     ∙ compared _ _ _ _ _ _ _ _
-    (c .before .before .before .before .before .expected-call .ensures)
-    (c .before .before .before .before .call .ensures)
+    (calling c .before .expected-call .ensures)
+    (calling c .call .ensures)
     (c .before .before .before .told-of .ensures)
-    (checkpoint-kept (c .before .before .before .before .call .result))
+    (checkpoint-kept (calling c .call .result))
     (c .before .checkpoint-wrong .ensures)
 
 -- the checkpoint that the call returned
 left :
     (c : tie.After-agree) →
-    checkpoint-values (c .before .before .before .before .call .result .checkpoint)
-    ≡ walk-leaves (c .before .before .before .before .before .before .before .args .bytes .now) (c .before .before .before .before .before .before .before .args .v) (checkpoint-values (c .before .before .before .before .before .before .before .args .last))
+    checkpoint-values (calling c .call .result .checkpoint) ≡
+    walk-leaves (entry c .args .bytes .now) (entry c .args .v) (checkpoint-values (entry c .args .last))
 unfolding walk-leaves
-left c = sym (checkpoint-kept (c .before .before .before .before .call .result)) ∙ ap (λ (r : Result). r .checkpoint) (c .before .before .before .before .call .ensures)
+left c =
+    sym (checkpoint-kept (calling c .call .result)) ∙ ap (λ (r : Result). r .checkpoint) (calling c .call .ensures)
 
 expected-call-requires : tie.Need-expected-call-requires
 expected-call-requires c κs = search needs
@@ -78,7 +87,9 @@ report-byte-requires : tie.Need-report-byte-requires
 report-byte-requires c κs = search needs
 
 returns-2 : tie.Need-returns-2
-returns-2 c = (sym (c .before .before .before .before .before .before .before .before .before .before .if1 .left) ∙ told (c .before .before .before .before .before .before .before .before .before .before .before), left (c .before .before .before .before .before .before .before .before .before .before .before))
+returns-2 c =
+    let e = c .before .before .before .before .before .before .before .before .before .before in
+    (sym (e .if1 .left) ∙ told (e .before), left (e .before))
 
 pub walk-vector-spec : {M : Type 1} → statement M
 walk-vector-spec =
