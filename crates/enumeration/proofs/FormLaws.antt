@@ -4,16 +4,16 @@ use mathlib.Core.Bool.{Bool, true, false, not, _&&_, and-false}
 use mathlib.Core.List.{List, [], _∷_}
 use mathlib.Core.Path.{_≡_, refl, sym, ap, _∙_}
 use native.Mathlib.Decide.{decLt}
-use native.Mathlib.Numerals.{add-one}
 use native.Mathlib.Omega.{arith}
 use lib.Dec.{eqb, leb}
 use lib.ListN.{length, take, drop, getD, length-drop}
-use lib.Seq.{length-take-le, take-suc, take-add, getD-take, getD-drop}
+use lib.Seq.{length-take-le, take-add, getD-take, getD-drop}
 use borrow.Author.Tests.{eq-eqb, ne-eqb, eqb-false, not-true, leb-true, le-leb, lt-leb}
 use Rattle.lists.proofs.TestLaws.{and-left, and-right}
 use Rattle.walk.specs.Checkpoints.{Checkpoint}
-use Rattle.walk.specs.InnerStack.{Stack, empty, push, Tree}
-use Rattle.walk.specs.InnerTest.{byte-number, byte-value, pushed, numbered, zeros, formed, replays}
+use Rattle.walk.specs.InnerStack.{empty, Tree}
+use Rattle.walk.specs.InnerTest.{byte-number, pushed, numbered, zeros, formed, replays}
+use Rattle.walk.proofs.ReplayLaws.{replays-fails}
 use Rattle.walk.proofs.ByteLaws.{pushed-append}
 
 -- ---- tests of all bytes
@@ -87,19 +87,7 @@ zeros-next l end i w e k m n = at (decLt k i)
 
 -- ---- the trail of some bytes
 
--- one byte more
-pub pushed-more : (l : List ℕ) (i : ℕ) → i < length l
-    → pushed empty (take (i + 1) l) ≡ push (byte-number (getD l i 0) - 1) (byte-value (getD l i 0)) (pushed empty (take i l))
-unfolding pushed
-pushed-more l i h = rw (add-one i, take-suc l i 0 h, pushed-append (take i l) (getD l i 0 ∷ []) empty)
-
 module _ (K : Tree) where
-  -- a trail that does not replay goes on to none that does
-  replays-none : (xs : List ℕ) (t : Stack) → replays K t ≡ false → replays K (pushed t xs) ≡ false
-  unfolding pushed replays
-  replays-none [] t e = e
-  replays-none (x ∷ xs) t e = replays-none xs (push (byte-number x - 1) (byte-value x) t) (rw e)
-
   -- where the first i bytes do not replay, more do not either
   pub replays-stops : (l : List ℕ) (i k : ℕ) → i ≤ k → replays K (pushed empty (take i l)) ≡ false → replays K (pushed empty (take k l)) ≡ false
   replays-stops l i k h e =
@@ -107,7 +95,7 @@ module _ (K : Tree) where
       ap (λ (n : ℕ). replays K (pushed empty (take n l))) q
       ∙ ap (λ (m : List ℕ). replays K (pushed empty m)) (take-add i (k - i) l)
       ∙ ap (replays K) (pushed-append (take i l) (take (k - i) (drop i l)) empty)
-      ∙ replays-none (take (k - i) (drop i l)) (pushed empty (take i l)) e
+      ∙ replays-fails K (take (k - i) (drop i l)) (pushed empty (take i l)) e
 
 -- ---- what the form of a checkpoint says
 

@@ -3,6 +3,7 @@ use Prim.Native.Nat.{ℕ, _+_, _-_, _≤_, _<_}
 use mathlib.Core.Bool.{Bool, true, false, true≢false, false≢true}
 use mathlib.Core.List.{List}
 use mathlib.Core.Path.{_≡_, refl, sym, ap, _∙_, subst}
+use native.Mathlib.Numerals.{add-one}
 use native.Mathlib.Omega.{arith}
 use lib.Dec.{eqb, ltb}
 use lib.ListN.{length, take, getD}
@@ -14,13 +15,14 @@ use Rattle.splitting.specs.InnerChoose.{chosen}
 use Rattle.splitting.specs.Terms.{opened}
 use Rattle.walk.specs.InnerStack.{Stack, empty, push, depth, Tree}
 use Rattle.walk.specs.InnerTest.{byte-number, byte-value, pushed, replays}
+use Rattle.walk.proofs.ReplayLaws.{read-next}
 use Rattle.enumeration.specs.declared.State.{State}
 use Rattle.enumeration.specs.declared.Tested.{Tested}
 use Rattle.enumeration.specs.InnerState.{stack-in, Follows, Holds, Valid, pushing, marked-as}
 use Rattle.enumeration.specs.InnerRead.{Node, Replayed, noted}
 use Rattle.enumeration.proofs.StateLaws.{holds-held, held-stack, held-holds, held-push, held-marked, opens-next}
 use Rattle.enumeration.proofs.StepLaws.{choice-at}
-use Rattle.enumeration.proofs.FormLaws.{pushed-more, replays-stops}
+use Rattle.enumeration.proofs.FormLaws.{replays-stops}
 
 module _ (f : Formula) (K : Tree) (F : Follows f K) (s : State) (h : Holds K s) where
   -- a trail of full length goes no further
@@ -111,7 +113,7 @@ module _ (K : Tree) where
     pub replayed-next : (i : ℕ) (s : State) → i < length l → Node K (pushed empty (take i l)) s
         → Replayed K (push (byte-number (getD l i 0) - 1) (byte-value (getD l i 0)) (stack-in s)) r → Replayed K (pushed empty (take (i + 1) l)) r
     replayed-next i s h n w =
-        subst (λ (t : Stack). Replayed K t r) (ap (push (byte-number (getD l i 0) - 1) (byte-value (getD l i 0))) (n .stack) ∙ sym (pushed-more l i h)) w
+        subst (λ (t : Stack). Replayed K t r) (ap (push (byte-number (getD l i 0) - 1) (byte-value (getD l i 0))) (n .stack) ∙ sym (rw (add-one i) (read-next l i h))) w
 
     -- a byte that does not replay
     pub replayed-stops : (i k : ℕ) → i ≤ k → Replayed K (pushed empty (take i l)) r → r .known ≡ false → Replayed K (pushed empty (take k l)) r
