@@ -4,14 +4,13 @@ use mathlib.Core.Bool.{Bool, true, false, _&&_, _||_, Bool·beq, true≢false, o
 use mathlib.Core.List.{List, [], _∷_, _++_}
 use mathlib.Core.Logic.{_⊎_, inl, inr, ⊎-elim}
 use mathlib.Core.Path.{_≡_, refl, sym, ap, _∙_}
-use lib.Bits.{or-lt}
 use lib.Dec.{eqb}
 use lib.Pow.{pow-pos}
 use borrow.Author.Tests.{eqb-true, eq-eqb, ne-eqb}
 use Rattle.lists.specs.Every.{Every}
 use Rattle.lists.proofs.TestLaws.{and-left, and-right, or-cases, or-swap, eqb-comm}
 use Rattle.masks.specs.Mask.{bit}
-use Rattle.masks.proofs.BitLaws.{bit-or, bit-pow, bit-with, bit-none, with-lt, mask-ext}
+use Rattle.masks.proofs.BitLaws.{bit-or, bit-pow, bit-with, bit-none, with-lt}
 use Rattle.masks.proofs.MeetLaws.{apart-of}
 use Rattle.masks.proofs.MembersLaws.{mask-same, member-some}
 use Rattle.formula.specs.declared.Clause.{Clause}

@@ -12,7 +12,7 @@ use Rattle.formula.specs.declared.Outcome.the-variants.{Accepted, Refuse
 use Rattle.formula.specs.declared.Refusal.{Refusal}
 use Rattle.formula.specs.Decode.{Decoding, readable, refused, decode}
 use Rattle.formula.specs.Format.{Literal, ClauseOver, Sized, Encodes}
-use Rattle.formula.specs.Masked.{no-clause, with-literals, clause-of, formula-of, held, decoded, ClauseFits, FormulaFits}
+use Rattle.formula.specs.Masked.{no-clause, with-literals, clause-of, formula-of, held, decoded, FormulaFits}
 use Rattle.formula.proofs.ClauseLaws.{clause-fits}
 use Rattle.formula.proofs.OutcomeLaws.{decode-means}
 

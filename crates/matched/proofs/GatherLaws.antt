@@ -1,13 +1,13 @@
 -- Laws of the lists that the code of find_matching writes: one element more.
 use Prim.Native.Nat.{ℕ, _+_, _<_}
-use mathlib.Core.List.{List, [], _∷_, _++_}
+use mathlib.Core.List.{List}
 use mathlib.Core.Path.{_≡_, sym, ap, _∙_}
 use native.Mathlib.Omega.{arith}
 use lib.ListN.{length, set}
 use Rattle.lists.specs.Over.{over}
 use Rattle.lists.specs.Padded.{padded}
 use Rattle.lists.specs.Tabulated.{tabulated}
-use Rattle.lists.proofs.OverLaws.{over-length, over-set}
+use Rattle.lists.proofs.OverLaws.{over-set}
 use Rattle.lists.proofs.PaddedLaws.{padded-set}
 use Rattle.lists.proofs.TabulatedLaws.{length-tabulated, tabulated-more}
 

@@ -1,8 +1,8 @@
 -- What the code writes into the buffer is what judge leaves there.
-use Prim.Native.Nat.{ℕ, zero, suc, _+_, _^_, _≤_, _<_}
-use mathlib.Core.Bool.{Bool, true, false, true≢false, false≢true}
+use Prim.Native.Nat.{ℕ, suc, _+_, _^_, _≤_, _<_}
+use mathlib.Core.Bool.{true, false, true≢false, false≢true}
 use mathlib.Core.List.{List, [], _∷_, map}
-use mathlib.Core.Path.{_≡_, refl, sym, ap, _∙_, subst}
+use mathlib.Core.Path.{_≡_, refl, sym, ap, _∙_}
 use native.Mathlib.Decide.{decLt}
 use native.Mathlib.Numerals.{add-one}
 use native.Mathlib.Omega.{arith}
@@ -13,20 +13,19 @@ use borrow.Author.Tests.{le-ltb, lt-ltb}
 use Rattle.lists.specs.Over.{over}
 use Rattle.lists.specs.Padded.{padded}
 use Rattle.lists.specs.Tabulated.{tabulated}
-use Rattle.lists.proofs.EveryLaws.{every-getD}
 use Rattle.lists.proofs.PaddedLaws.{getD-padded, getD-padded-past, length-padded, take-padded}
-use Rattle.lists.proofs.TabulatedLaws.{length-tabulated, getD-tabulated, tabulated-same, tabulated-self, tabulated-map}
+use Rattle.lists.proofs.TabulatedLaws.{length-tabulated, getD-tabulated, tabulated-same, tabulated-map}
 use Rattle.masks.proofs.BitLaws.{bit-below}
 use Rattle.formula.specs.declared.Formula.{Formula}
 use Rattle.formula.specs.declared.Refusal.{Refusal}
 use Rattle.formula.specs.declared.Refusal.the-variants.{ShortBuffer, Unmatched}
 use Rattle.formula.specs.Decode.{refused, decode}
-use Rattle.formula.specs.Format.{Literal, ClauseOver, Sized}
+use Rattle.formula.specs.Format.{Literal, Sized}
 use Rattle.formula.specs.Masked.{no-clause, named, variables, with-literals, clause-of, formula-of, FormulaFits}
 use Rattle.formula.proofs.ClauseLaws.{variables-named}
 use Rattle.formula.proofs.MaskedLaws.{Accepts}
 use Rattle.matching.specs.declared.Matching.{Matching}
-use Rattle.matching.specs.Matched.{Words, Matches}
+use Rattle.matching.specs.Matched.{Words}
 use Rattle.matching.specs.Result.{Clauses, packed}
 use Rattle.matching.specs.Search.{Outcome, success, failure, outcome, marks}
 use Rattle.matching.proofs.MatchedLaws.{length-marks, marks-le}

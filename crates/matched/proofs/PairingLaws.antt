@@ -1,6 +1,5 @@
 -- Pairings of written clauses are matchings of their masks.
 use Prim.Native.Nat.{ℕ, suc, _^_, _≤_, _<_}
-use mathlib.Core.Bool.{true}
 use mathlib.Core.List.{List, [], map}
 use mathlib.Core.Path.{_≡_, refl, sym, ap, _∙_}
 use native.Mathlib.Omega.{arith}
@@ -12,15 +11,15 @@ use Rattle.lists.proofs.EveryLaws.{every-getD}
 use Rattle.masks.specs.Mask.{bit, size}
 use Rattle.formula.specs.declared.Refusal.the-variants.{Unmatched}
 use Rattle.formula.specs.Decode.{Decoding, readable, refused, decode}
-use Rattle.formula.specs.Format.{Literal, names, ClauseOver, Sized}
+use Rattle.formula.specs.Format.{Literal, ClauseOver, Sized}
 use Rattle.formula.specs.Masked.{variables}
 use Rattle.formula.proofs.ClauseLaws.{variables-bit, variables-lt}
 use Rattle.formula.proofs.Demands.{accepted-only, numbers}
 use Rattle.matching.specs.Matched.{Matches, Words, union}
-use Rattle.matching.specs.Search.{Outcome, success, failure, outcome, marks, succeeds}
+use Rattle.matching.specs.Search.{Outcome, success, failure, outcome, marks}
 use Rattle.matching.proofs.MatchedLaws.{length-marks, marks-le}
 use Rattle.matching.proofs.OutcomeLaws.{words-chosen}
-use Rattle.matching.proofs.Theorems.{success-matches, matched-succeeds, failure-unmatched, failure-tight, failure-marked, pigeonhole, sub-list-matched}
+use Rattle.matching.proofs.Theorems.{success-matches, failure-unmatched, failure-tight, failure-marked, pigeonhole, sub-list-matched}
 use Rattle.matched.specs.Judge.{Judged, accepted, refusal, by-outcome, judge}
 use Rattle.matched.specs.Pairing.{Pairs, Pairable, Violator, marked}
 use Rattle.matched.proofs.JudgeLaws.{judge-refused}

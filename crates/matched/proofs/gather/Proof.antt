@@ -2,8 +2,7 @@
 use borrow.Author.Needs.{needs}
 use Prim.Native.Nat.{_≤_, _-_}
 use native.Mathlib.Omega.{arith}
-use mathlib.Core.Path.{_≡_, refl, ap, _∙_}
-use lib.ListN.{set}
+use mathlib.Core.Path.{_≡_, refl}
 use Rattle.lists.specs.Padded.{padded}
 use Rattle.lists.specs.Tabulated.{tabulated}
 use Rattle.matched.specs.InnerGather.{sets-of}

@@ -2,12 +2,10 @@
 use borrow.Author.Needs.{needs}
 use Prim.Native.Nat.{_≤_, _-_}
 use native.Mathlib.Omega.{arith}
-use mathlib.Core.Path.{_≡_, refl, ap, _∙_}
-use lib.ListN.{length, set, length-set}
+use mathlib.Core.Path.{_≡_, refl}
+use lib.ListN.{length, length-set}
 use Rattle.lists.specs.Over.{over}
 use Rattle.lists.specs.Tabulated.{tabulated}
-use Rattle.lists.proofs.OverLaws.{over-length}
-use Rattle.lists.proofs.TabulatedLaws.{length-tabulated}
 use Rattle.matched.specs.InnerGather.{raised}
 use Rattle.matched.proofs.GatherLaws.{over-tabulated}
 use Rattle.matched.proofs.write.Statement.{statement}
