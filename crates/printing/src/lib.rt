@@ -5,7 +5,13 @@ ghost use mathlib.Core.List.{[], _∷_};
 ghost use Prim.Native.Nat.{_+_, _<_, _≤_};
 ghost use lib.ListN.{length};
 ghost use Rattle.printing.specs.Placed.{Room, Wrote};
+ghost use Rattle.formula.specs.Masked.{FormulaFits};
+ghost use Rattle.walk.specs.InnerStack.{empty, Tree};
+ghost use Rattle.walk.specs.InnerMachine.{down};
+ghost use Rattle.enumeration.specs.InnerState.{Follows};
+ghost use Rattle.printing.specs.InnerLines.{lines-from, Fitting};
 ghost use Rattle.printing.specs.Printed.{decimal, digit, digits, line-of, header, model-line, end-line, more-line, refusal-line};
+use formula::Formula;
 use formula::Refusal;
 
 // One byte.
@@ -132,4 +138,27 @@ pub fn put_refusal_line(refusal: Refusal, buffer: &mut [u8], at: usize) -> usize
     let place = formula::place_of(refusal);
     let numbers = put_word(b"refused ", buffer, at);
     put_numbers(number, place as u64, buffer, numbers)
+}
+
+// The lines of a walk from its start: at most 1,000 models, each by a run that goes on to the next one or to the end.
+fn put_walk(f: Formula, buffer: &mut [u8], at: usize) -> usize
+    requires { ⌜ FormulaFits f × Fitting f at (now buffer) ⌝ }
+    ensures { λ r. ⌜ ((K : Tree) → Follows f K → Wrote (lines-from K (f .variables) 1000 (down empty)) at (now (buffer .entry)) (now (buffer .exit)) r) ⌝ }
+{
+    let mut s = enumeration::root();
+    let mut next = at;
+    let mut left: usize = 1000;
+    while 0 < left {
+        let r = enumeration::go_on(f, s, 96);
+        if r.answer == 2 {
+            return put_end_line(r.steps, r.expansions, buffer, next);
+        }
+        if r.answer != 0 {
+            return next;
+        }
+        next = put_model_line(f.variables, r.model, r.steps, r.expansions, buffer, next);
+        s = r.state;
+        left -= 1;
+    }
+    put_more_line(buffer, next)
 }
