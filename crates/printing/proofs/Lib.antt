@@ -4,5 +4,6 @@ pub mod GoingLaws
 pub mod JudgedLaws
 pub mod LineLaws
 pub mod PlacedLaws
+pub mod PrintLaws
 pub mod PrintedLaws
 pub mod WalkLinesLaws
