@@ -1,10 +1,11 @@
 -- 01, 'Cases at the edges': the cases marked to be proved, in 01's order, each computed from the definitions.
 use Prim.Native.Nat.{ℕ, _-_, _≤_}
 use mathlib.Core.Bool.{true, false, xor}
-use mathlib.Core.List.{List, [], _∷_, map}
+use mathlib.Core.List.{List, [], _∷_, _++_, map}
 use mathlib.Core.Path.{_≡_, refl}
 use lib.ListN.{length, drop}
 use borrow.Author.Tests.{le-ltb}
+use Rattle.lists.specs.Tabulated.{tabulated}
 use Rattle.masks.specs.Mask.{bit, members}
 use Rattle.formula.specs.declared.Refusal.the-variants.{Unmatched}
 use Rattle.formula.specs.Decode.{Decoding, readable, refused, decode, records, read-record}
@@ -22,6 +23,7 @@ use Rattle.walk.specs.Checkpoints.{start}
 use Rattle.walk.specs.PlainMachine.{Answer, found, spent, ended, Call, go-on, plain-call, plain-calls}
 use Rattle.walk.specs.WalkCall.{answered, walk-call}
 use Rattle.walk.proofs.Demands as demands
+use Rattle.printing.specs.Printed.{switches-word, rules-word, end-word, decimal-within, decimal, walk-lines, printed}
 
 -- 01's switch s, named as on or as off
 abbrev on : ℕ → Literal
@@ -60,6 +62,15 @@ pub example-walk : map line (plain-calls 2 ((on 1 ∷ on 2 ∷ []) ∷ (off 1 �
     ≡ (found 2, 2, 2) ∷ (found 1, 4, 0) ∷ (ended, 2, 0) ∷ []
 unfolding plain-calls plain-call go-on plain-walk node-walk assignment choice remaining assign less names names-as occurs named first-from upward-from pure not-naming strip variables matched trial first-passing candidates among listed last emptied last-listed outcome match-rest search-from expand take-front scan see begin no-links owner rematch-from bit members xor
 example-walk = refl
+
+-- 'prints, whole': the four lines, as bytes
+pub example-printed : printed example
+    ≡ (switches-word ++ (32 ∷ 50 ∷ 32 ∷ [])) ++ (rules-word ++ (32 ∷ 50 ∷ 10 ∷ []))
+    ++ (48 ∷ 49 ∷ 32 ∷ 50 ∷ 32 ∷ 50 ∷ 10 ∷ [])
+    ++ (49 ∷ 48 ∷ 32 ∷ 52 ∷ 32 ∷ 48 ∷ 10 ∷ [])
+    ++ (end-word ++ (32 ∷ 50 ∷ 32 ∷ 48 ∷ 10 ∷ []))
+unfolding printed walk-lines decimal decimal-within tabulated decode records read-record plain-call go-on plain-walk node-walk assignment choice remaining assign less names names-as occurs named first-from upward-from pure not-naming strip variables matched trial first-passing candidates among listed last emptied last-listed outcome match-rest search-from expand take-front scan see begin no-links owner rematch-from bit members xor
+example-printed = refl
 
 -- rules (1 on, 2 on), (1 on, 3 on), (2 on, 3 on): 110, 101, 011, 111 at 3, 6, 4, 2 moves, end 3, no reaches
 pub three-pairs : map line (plain-calls 3 ((on 1 ∷ on 2 ∷ []) ∷ (on 1 ∷ on 3 ∷ []) ∷ (on 2 ∷ on 3 ∷ []) ∷ []) 0 (96 ∷ 96 ∷ 96 ∷ 96 ∷ 96 ∷ []))
