@@ -1,11 +1,14 @@
 -- What is printed, by the reader's answer and by the matching.
 use Prim.Native.Nat.{ℕ, _+_, _≤_, _<_}
-use mathlib.Core.Bool.{true, false, true≢false, false≢true}
+use mathlib.Core.Bool.{Bool, cond, true, false, true≢false, false≢true}
 use mathlib.Core.List.{List, _++_, map}
 use mathlib.Core.Path.{_≡_, refl, sym, ap, _∙_}
 use native.Mathlib.Omega.{arith}
+use lib.Dec.{ltb}
 use lib.ListN.{length, length-append}
-use borrow.Author.Tests.{lt-ltb, le-ltb}
+use borrow.Author.Tests.{ltb-false, lt-ltb, le-ltb}
+use Rattle.lists.specs.Over.{over}
+use Rattle.lists.proofs.OverLaws.{over-length}
 use Rattle.formula.specs.declared.Formula.{Formula}
 use Rattle.formula.specs.declared.Refusal.{Refusal}
 use Rattle.formula.specs.declared.Refusal.the-variants.{Unmatched}
@@ -27,8 +30,9 @@ use Rattle.enumeration.proofs.WalkLaws.{packed-is, succeeds-is, complete-follow
 use Rattle.printing.specs.Placed.{Room, Wrote}
 use Rattle.printing.specs.Printed.{header, refusal-line, walk-lines, outcome-lines, decoding-lines, printed}
 use Rattle.printing.specs.InnerLines.{lines-from, Reads}
-use Rattle.printing.specs.Printing.{unwritten, printing}
+use Rattle.printing.specs.Printing.{Printing, unwritten, printing}
 use Rattle.printing.proofs.PlacedLaws.{wrote-length}
+use Rattle.printing.proofs.PrintedLaws.{printed-length}
 use Rattle.printing.proofs.WalkLinesLaws.{lines-resumed}
 
 -- a refused input
@@ -120,3 +124,20 @@ module _ (s b : List ℕ) (long : 60026 ≤ length b) where
   print-written c r h w =
       let z : 0 + length (printed s) ≡ length (printed s) = omega arith in
       rw (le-ltb (length b) 60026 long, le-ltb 16384 (length s) h, w .next, w .buffer, z)
+
+-- no more bytes are counted than the buffer has
+pub count-within : (s b c : List ℕ) (r : ℕ) → printing s b ≡ record { count = r; buffer = c } → r ≤ length c
+unfolding printing
+count-within s b c r e =
+    rw (← ap (λ (p : Printing). p .count) e, ← ap (λ (p : Printing). p .buffer) e)
+    (go (ltb (length b) 60026) (ltb 16384 (length s)) refl refl)
+  where
+    go : (x y : Bool) → ltb (length b) 60026 ≡ x → ltb 16384 (length s) ≡ y
+        → (let p = cond x (unwritten b) (cond y (unwritten b) (record { count = length (printed s); buffer = over (printed s) b })) in p .count ≤ length (p .buffer))
+    go true y h k = omega arith
+    go false true h k = omega arith
+    go false false h k =
+        let l = ltb-false (length b) 60026 h in
+        let m = ltb-false 16384 (length s) k in
+        let n = printed-length s (omega arith) in
+        rw (over-length (printed s) b (omega arith)) (omega arith)
