@@ -1,10 +1,17 @@
 -- The lines as the code writes them: call after call of the machine that resumes, and as results of walk calls.
 use Prim.Native.Nat.{ℕ, zero, suc}
+use mathlib.Core.Path.{_≡_}
 use mathlib.Core.List.{List, [], _∷_, _++_}
-use Rattle.walk.specs.InnerStack.{Tree}
-use Rattle.walk.specs.InnerMachine.{Position, resume}
+use Rattle.walk.specs.InnerStack.{empty, Tree}
+use Rattle.walk.specs.InnerMachine.{Position, down, resume}
 use Rattle.walk.specs.WalkCall.{Kind, says-model, says-spent, says-ended, says-refused, Result}
-use Rattle.printing.specs.Printed.{model-line, end-line, more-line, call-lines}
+use Rattle.formula.specs.declared.Formula.{Formula}
+use Rattle.formula.specs.Decode.{readable, decode}
+use Rattle.formula.specs.Format.{Literal}
+use Rattle.formula.specs.Masked.{formula-of}
+use Rattle.enumeration.specs.InnerState.{Follows}
+use Rattle.printing.specs.Placed.{Room}
+use Rattle.printing.specs.Printed.{model-line, end-line, more-line, call-lines, printed}
 
 module _ (K : Tree) (n : ℕ) where
   -- from a position, with room for j models more
@@ -13,6 +20,25 @@ module _ (K : Tree) (n : ℕ) where
   lines-from (suc j) p =
       let r = resume K 96 p in
       call-lines n (r .answer) (r .steps) (r .expansions) (lines-from j (r .position))
+
+-- the formula's choices make a tree, and b has room for its lines from `at` on
+pub record Fitting (f : Formula) (at : ℕ) (b : List ℕ) : Type 0 where
+  pub tree : Tree
+  pub follows : Follows f tree
+  pub room : Room at (lines-from tree (f .variables) 1000 (down empty)) b
+
+-- s encodes the formula
+pub record Reads (s : List ℕ) (f : Formula) : Type 0 where
+  pub variables : ℕ
+  pub clauses : List (List Literal)
+  pub reads : decode s ≡ readable variables clauses
+  pub formula : f ≡ formula-of variables clauses
+
+-- some input does, and b has room for its print
+pub record Printable (f : Formula) (b : List ℕ) : Type 0 where
+  pub input : List ℕ
+  pub reads : Reads input f
+  pub room : Room 0 (printed input) b
 
 -- the line of a result, and then the rest
 abbrev pub kind-lines : ℕ → Kind → Result → List ℕ → List ℕ

@@ -1,3 +1,4 @@
 pub mod InnerLines
 pub mod Placed
 pub mod Printed
+pub mod Printing

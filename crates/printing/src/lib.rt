@@ -1,11 +1,19 @@
 // The printed walk (01): its lines as bytes, written into a lent buffer. A writer is given the offset at which it starts, and answers
 // with the one behind what it wrote.
 ghost use mathlib.Core.Path.{_≡_};
-ghost use mathlib.Core.List.{[], _∷_};
-ghost use Prim.Native.Nat.{_+_, _<_, _≤_};
+ghost use mathlib.Core.List.{List, [], _∷_};
+ghost use Prim.Native.Nat.{ℕ, _+_, _<_, _≤_};
 ghost use lib.ListN.{length};
 ghost use Rattle.printing.specs.Placed.{Room, Wrote};
-ghost use Rattle.printing.specs.Printed.{decimal, digit, digits, line-of, header, model-line, end-line, more-line, refusal-line};
+ghost use Rattle.formula.specs.Masked.{FormulaFits};
+ghost use Rattle.walk.specs.InnerStack.{empty, Tree};
+ghost use Rattle.walk.specs.InnerMachine.{down};
+ghost use Rattle.enumeration.specs.InnerState.{Follows};
+ghost use Rattle.printing.specs.InnerLines.{lines-from, Fitting, Reads, Printable};
+ghost use Rattle.printing.specs.Printing.{printing};
+ghost use Rattle.printing.specs.Printed.{decimal, digit, digits, line-of, header, model-line, end-line, more-line, refusal-line, printed};
+use formula::Formula;
+use formula::Outcome;
 use formula::Refusal;
 
 // One byte.
@@ -132,4 +140,61 @@ pub fn put_refusal_line(refusal: Refusal, buffer: &mut [u8], at: usize) -> usize
     let place = formula::place_of(refusal);
     let numbers = put_word(b"refused ", buffer, at);
     put_numbers(number, place as u64, buffer, numbers)
+}
+
+// The lines of a walk from its start: at most 1,000 models, each by a run that goes on to the next one or to the end.
+fn put_walk(f: Formula, buffer: &mut [u8], at: usize) -> usize
+    requires { ⌜ FormulaFits f × Fitting f at (now buffer) ⌝ }
+    ensures { λ r. ⌜ ((K : Tree) → Follows f K → Wrote (lines-from K (f .variables) 1000 (down empty)) at (now (buffer .entry)) (now (buffer .exit)) r) ⌝ }
+{
+    let mut s = enumeration::root();
+    let mut next = at;
+    let mut left: usize = 1000;
+    while 0 < left {
+        let r = enumeration::go_on(f, s, 96);
+        if r.answer == 2 {
+            return put_end_line(r.steps, r.expansions, buffer, next);
+        }
+        if r.answer != 0 {
+            return next;
+        }
+        next = put_model_line(f.variables, r.model, r.steps, r.expansions, buffer, next);
+        s = r.state;
+        left -= 1;
+    }
+    put_more_line(buffer, next)
+}
+
+// The print of a formula that was read.
+fn put_formula(f: Formula, buffer: &mut [u8]) -> usize
+    requires { ⌜ Printable f (now buffer) ⌝ }
+    ensures { λ r. ⌜ ((s : List ℕ) → Reads s f → Wrote (printed s) 0 (now (buffer .entry)) (now (buffer .exit)) r) ⌝ }
+{
+    let m = matched::match_formula(f);
+    if m.complete {
+        let next = put_header(f.variables, f.count, buffer, 0);
+        return put_walk(f, buffer, next);
+    }
+    put_refusal_line(Refusal::Unmatched(m.marked), buffer, 0)
+}
+
+// Prints the walk of an input (01), or its refusal, into the first bytes of the buffer, and answers how many these are.
+pub fn print(input: &[u8], buffer: &mut [u8]) -> usize
+    ensures { λ r. ⌜ printing (now (input .entry)) (now (buffer .entry)) ≡ record { count = r; buffer = now (buffer .exit) } ⌝ }
+{
+    if buffer.len() < 60026 {
+        return 0;
+    }
+    if 16384 < input.len() {
+        return 0;
+    }
+    let d = formula::decode(input);
+    let outcome = d.outcome;
+    match outcome {
+        Outcome::Refused(refusal) => put_refusal_line(refusal, buffer, 0),
+        Outcome::Accepted => {
+            let f = d.formula;
+            put_formula(f, buffer)
+        }
+    }
 }

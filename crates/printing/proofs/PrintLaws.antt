@@ -1,0 +1,122 @@
+-- What is printed, by the reader's answer and by the matching.
+use Prim.Native.Nat.{ℕ, _+_, _≤_, _<_}
+use mathlib.Core.Bool.{true, false, true≢false, false≢true}
+use mathlib.Core.List.{List, _++_, map}
+use mathlib.Core.Path.{_≡_, refl, sym, ap, _∙_}
+use native.Mathlib.Omega.{arith}
+use lib.ListN.{length, length-append}
+use borrow.Author.Tests.{lt-ltb, le-ltb}
+use Rattle.formula.specs.declared.Formula.{Formula}
+use Rattle.formula.specs.declared.Refusal.{Refusal}
+use Rattle.formula.specs.declared.Refusal.the-variants.{Unmatched}
+use Rattle.formula.specs.Decode.{refused, decode}
+use Rattle.formula.specs.Format.{Literal, Sized}
+use Rattle.formula.specs.Masked.{variables, FormulaFits}
+use Rattle.formula.proofs.Demands.{accepted-only}
+use Rattle.formula.proofs.MaskedLaws.{formula-fits, Accepts}
+use Rattle.matching.specs.declared.Matching.{Matching}
+use Rattle.matching.specs.Result.{packed}
+use Rattle.matching.specs.Search.{Outcome, success, failure, outcome, succeeds}
+use Rattle.matching.proofs.Theorems.{succeeds-matched}
+use Rattle.matched.specs.InnerGather.{sets-of}
+use Rattle.matched.proofs.PairingLaws.{masks-words}
+use Rattle.walk.specs.InnerStack.{empty, tree}
+use Rattle.walk.specs.InnerMachine.{down}
+use Rattle.enumeration.specs.InnerState.{Follows}
+use Rattle.enumeration.proofs.WalkLaws.{packed-is, succeeds-is, complete-follows}
+use Rattle.printing.specs.Placed.{Room, Wrote}
+use Rattle.printing.specs.Printed.{header, refusal-line, walk-lines, outcome-lines, decoding-lines, printed}
+use Rattle.printing.specs.InnerLines.{lines-from, Reads}
+use Rattle.printing.specs.Printing.{unwritten, printing}
+use Rattle.printing.proofs.PlacedLaws.{wrote-length}
+use Rattle.printing.proofs.WalkLinesLaws.{lines-resumed}
+
+-- a refused input
+pub refused-prints : (s : List ℕ) (r : Refusal) → decode s ≡ refused r → printed s ≡ refusal-line r
+unfolding printed
+refused-prints s r e = ap decoding-lines e
+
+-- an accepted one
+pub accepts-reads : (s : List ℕ) (f : Formula) → Accepts s f → Reads s f
+accepts-reads s f a = record { variables = a .variables; clauses = a .clauses; reads = a .reads; formula = a .formula }
+
+-- by the matching's outcome
+success-lines : (n : ℕ) (cs : List (List Literal)) (o : Outcome) → succeeds o ≡ true → outcome-lines n cs o ≡ header n (length cs) ++ walk-lines n cs 1000 0
+success-lines n cs (success vs e) t = refl
+success-lines n cs (failure taken e) t = absurd (false≢true t)
+
+failure-lines : (n k : ℕ) (cs : List (List Literal)) (o : Outcome) → packed k o .complete ≡ false → outcome-lines n cs o ≡ refusal-line (Unmatched (packed k o .marked))
+unfolding packed
+failure-lines n k cs (success vs e) t = absurd (true≢false t)
+failure-lines n k cs (failure taken e) t = refl
+
+module _ (s : List ℕ) (f : Formula) (R : Reads s f) where
+  sized : Sized (R .variables) (R .clauses)
+  sized = accepted-only s (R .variables) (R .clauses) (R .reads) .sized
+
+  pub reads-fits : FormulaFits f
+  reads-fits = rw (R .formula) (formula-fits sized)
+
+  printed-outcome : printed s ≡ outcome-lines (R .variables) (R .clauses) (outcome (map variables (R .clauses)))
+  unfolding printed
+  printed-outcome = ap decoding-lines (R .reads)
+
+  module _ (m : Matching) (e : m ≡ packed (f .count) (outcome (sets-of (f .clauses) (f .count)))) where
+    -- complete: the formula's choices make its tree
+    pub matched-follows : m .complete ≡ true → Follows f (tree (R .variables) (R .clauses))
+    matched-follows t = complete-follows f m e (R .variables) (R .clauses) (R .formula) sized t
+
+    -- and the lines of its walk are printed
+    pub matched-prints : m .complete ≡ true
+        → printed s ≡ header (f .variables) (f .count) ++ lines-from (tree (R .variables) (R .clauses)) (f .variables) 1000 (down empty)
+    matched-prints t =
+        let n = R .variables in
+        let cs = R .clauses in
+        let a = succeeds-is f m e n cs (R .formula) sized t in
+        printed-outcome
+        ∙ success-lines n cs (outcome (map variables cs)) a
+        ∙ ap (λ (l : List ℕ). header n (length cs) ++ l) (lines-resumed s n cs (R .reads) (succeeds-matched (map variables cs) (masks-words sized) a) 1000)
+        ∙ ap (λ (g : Formula). header (g .variables) (g .count) ++ lines-from (tree n cs) (g .variables) 1000 (down empty)) (sym (R .formula))
+
+    -- not complete: the refusal
+    pub unmatched-prints : m .complete ≡ false → printed s ≡ refusal-line (Unmatched (m .marked))
+    unmatched-prints t =
+        let o = outcome (map variables (R .clauses)) in
+        let p = packed-is f m e (R .variables) (R .clauses) (R .formula) sized in
+        printed-outcome
+        ∙ failure-lines (R .variables) (f .count) (R .clauses) o (sym (ap (λ (x : Matching). x .complete) p) ∙ t)
+        ∙ ap (λ (x : Matching). refusal-line (Unmatched (x .marked))) (sym p)
+
+-- ---- room
+
+-- for the first part of a list
+pub room-front : (xs ys ws b : List ℕ) → ws ≡ xs ++ ys → Room 0 ws b → Room 0 xs b
+room-front xs ys ws b e h = let l = ap length e ∙ length-append xs ys in omega arith
+
+-- and for the part behind it
+pub room-behind : (xs ys ws b c : List ℕ) (p : ℕ) → ws ≡ xs ++ ys → Room 0 ws b → Wrote xs 0 b c p → Room p ys c
+room-behind xs ys ws b c p e h w =
+    let l = ap length e ∙ length-append xs ys in
+    let n = w .next in
+    let k = wrote-length (room-front xs ys ws b e h) w in
+    omega arith
+
+-- ---- the act
+
+-- a short buffer
+pub print-short : (s b : List ℕ) → length b < 60026 → printing s b ≡ unwritten b
+unfolding printing
+print-short s b h = rw (lt-ltb (length b) 60026 h)
+
+module _ (s b : List ℕ) (long : 60026 ≤ length b) where
+  -- a long input
+  pub print-long : 16384 < length s → printing s b ≡ unwritten b
+  unfolding printing
+  print-long h = rw (le-ltb (length b) 60026 long, lt-ltb 16384 (length s) h)
+
+  -- the whole print
+  pub print-written : (c : List ℕ) (r : ℕ) → length s ≤ 16384 → Wrote (printed s) 0 b c r → printing s b ≡ record { count = r; buffer = c }
+  unfolding printing
+  print-written c r h w =
+      let z : 0 + length (printed s) ≡ length (printed s) = omega arith in
+      rw (le-ltb (length b) 60026 long, le-ltb 16384 (length s) h, w .next, w .buffer, z)

@@ -1,0 +1,78 @@
+-- `put_formula` prints by the matching: the header and the walk, or the refusal.
+use native.Mathlib.Omega.{arith}
+use mathlib.Core.Path.{subst}
+use mathlib.Core.List.{List}
+use Prim.Native.Nat.{ℕ}
+use borrow.Author.Needs.{needs}
+use Rattle.walk.specs.InnerStack.{empty, tree}
+use Rattle.walk.specs.InnerMachine.{down}
+use Rattle.printing.specs.Placed.{Room}
+use Rattle.printing.specs.Printed.{header}
+use Rattle.printing.specs.InnerLines.{lines-from}
+use Rattle.printing.proofs.PlacedLaws.{wrote-more}
+use Rattle.printing.proofs.PrintLaws.{reads-fits, matched-follows, matched-prints, unmatched-prints, room-front, room-behind}
+use Rattle.printing.proofs.put_formula.Statement.{statement}
+use Rattle.printing.proofs.put_formula.Tie as tie
+
+match-formula-requires : tie.Need-match-formula-requires
+match-formula-requires c κs = reads-fits _ _ (c .before .pre .reads)
+
+put-header-requires : tie.Need-put-header-requires
+put-header-requires c κs =
+    let b = c .before .before .before .before in
+    let w = b .pre in
+    let f = b .args .f in
+    room-front (header (f .variables) (f .count)) (lines-from (tree (w .reads .variables) (w .reads .clauses)) (f .variables) 1000 (down empty)) _ (b .args .buffer .now)
+    (matched-prints _ _ (w .reads) _ (c .before .before .match-formula .ensures) (c .before .if1 .taken)) (w .room)
+
+put-walk-requires : tie.Need-put-walk-requires
+put-walk-requires c κs =
+    let w = c .before .before .before .before .before .before .before .before .pre in
+    let e = c .before .before .before .before .before .before .match-formula .ensures in
+    let t = c .before .before .before .before .before .if1 .taken in (
+      reads-fits _ _ (w .reads),
+      record {
+        tree = tree (w .reads .variables) (w .reads .clauses);
+        follows = matched-follows _ _ (w .reads) _ e t;
+        room = room-behind _ _ _ _ _ _ (matched-prints _ _ (w .reads) _ e t) (w .room) (c .before .before .before .put-header .ensures);
+      },
+    )
+
+same-length : tie.Need-same-length
+same-length c = search needs
+
+returns : tie.Need-returns
+returns c =
+    λ s R.
+    let e = c .before .before .before .before .before .before .before .before .before .match-formula .ensures in
+    let t = c .before .before .before .before .before .before .before .before .if1 .taken in
+    rw (matched-prints s _ R _ e t)
+    (wrote-more (omega arith) (c .before .before .before .before .before .before .put-header .ensures) (c .before .before .put-walk .ensures _ (matched-follows s _ R _ e t)))
+
+put-refusal-line-requires : tie.Need-put-refusal-line-requires
+put-refusal-line-requires c κs =
+    let b = c .before .before .before .before in
+    let w = b .pre in
+    subst (λ (l : List ℕ). Room 0 l (b .args .buffer .now)) (unmatched-prints _ _ (w .reads) _ (c .before .before .match-formula .ensures) (c .before .if1 .left)) (w .room)
+
+same-length-2 : tie.Need-same-length-2
+same-length-2 c = search needs
+
+returns-2 : tie.Need-returns-2
+returns-2 c =
+    λ s R.
+    rw (unmatched-prints s _ R _ (c .before .before .before .before .before .match-formula .ensures) (c .before .before .before .before .if1 .left))
+    (c .before .before .put-refusal-line .ensures)
+
+pub put-formula-spec : {M : Type 1} → statement M
+put-formula-spec =
+    tie.close
+    (tie.spec
+    match-formula-requires
+    put-header-requires
+    put-walk-requires
+    same-length
+    returns
+    put-refusal-line-requires
+    same-length-2
+    returns-2)
