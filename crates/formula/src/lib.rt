@@ -345,7 +345,7 @@ fn holds(c: Clause, assignment: u64) -> bool
 }
 
 // Every clause of the formula holds.
-fn all_hold(f: Formula, assignment: u64) -> bool
+pub fn all_hold(f: Formula, assignment: u64) -> bool
     requires { ⌜ f .count ≤ 96 ⌝ }
     ensures { λ r. ⌜ r ≡ clauses-hold assignment (f .clauses) (f .count) ⌝ }
 {

@@ -1,0 +1,2 @@
+pub mod TrialLaws
+pub mod ComparisonLaws
