@@ -31,6 +31,9 @@ Own fields of judge, 98 bytes. The lent buffer is the first bytes of an array of
 
 A checkpoint, 50 bytes: its mode, its length and 48 bytes of its trail.
 
+Formulas have no own fields: each input of VECTORS once, with the number of the first vector that has it. The answer says 7, not
+compared, if the input is refused or has more than 12 variables, else 8, with the number of models as the place.
+
 Own field of start, 50 bytes: the expected checkpoint. Its input is empty.
 
 Own fields of walk, 121 bytes:
@@ -56,7 +59,7 @@ import sys
 LIMIT = 65536  # bytes of a file: what the program reads at once
 CASES = pathlib.Path(__file__).resolve().parent.parent / 'crates' / 'cases'
 
-NO, YES, REFUSED, MATCHED, MODEL, SPENT, ENDED = range(7)
+NO, YES, REFUSED, MATCHED, MODEL, SPENT, ENDED, NOT_COMPARED, LISTED = range(9)
 SAYS = {'no': NO, 'yes': YES, 'refused': REFUSED, 'set-up': MODEL, 'spent': SPENT, 'ended': ENDED}
 WRITTEN = 96  # bytes of the array that judge may write
 START, LAST = 1, 2  # the checkpoint that a walk call gets, if it is not given
@@ -121,6 +124,59 @@ def chain_vector(number, v):
 
 
 ACTS = {'check': check_vector, 'judge': judge_vector, 'start': start_vector, 'walk': walk_vector, 'chain': chain_vector}
+
+
+def read(given):
+    """The number of variables and the clauses, each a list of (variable, value); None if the input is refused."""
+    if len(given) < 2 or given[0] != 1 or not 1 <= given[1] <= 48:
+        return None
+    n, clauses, clause, at = given[1], [], {}, 2
+    while at < len(given):
+        kind = given[at]
+        if kind in (2, 3):
+            if at + 1 == len(given) or not 1 <= given[at + 1] <= n or given[at + 1] in clause:
+                return None
+            clause[given[at + 1]] = kind == 2
+            at += 2
+        elif kind == 4:
+            clauses.append(list(clause.items()))
+            clause = {}
+            at += 1
+            if len(clauses) > 96:
+                return None
+        else:
+            return (n, clauses) if kind == 5 and not clause and at + 1 == len(given) else None
+    return None
+
+
+def matchable(clauses):
+    """Whether each clause can have a variable of its own."""
+    owner = {}
+
+    def place(c, seen):
+        for v, _ in clauses[c]:
+            if v not in seen:
+                seen.add(v)
+                if v not in owner or place(owner[v], seen):
+                    owner[v] = c
+                    return True
+        return False
+
+    return all(place(c, set()) for c in range(len(clauses)))
+
+
+def models(n, clauses):
+    """How many assignments satisfy each clause, by trial of all."""
+    pairs = [(sum(1 << (v - 1) for v, x in c if x), sum(1 << (v - 1) for v, x in c if not x)) for c in clauses]
+    return sum(all(a & yes or ~a & no for yes, no in pairs) for a in range(1 << n))
+
+
+def formula_vector(number, given):
+    formula = read(given)
+    if formula is None or formula[0] > 12 or not matchable(formula[1]):
+        return [coded(number, given, answer_of(NOT_COMPARED), b'')]
+    return [coded(number, given, answer_of(LISTED, place=models(*formula)), b'')]
+
 
 # Edge cases. The expected answers are written here by hand, from document 01.
 EXAMPLE = '01 02 02 01 02 02 04 03 01 03 02 04 05'
@@ -468,12 +524,17 @@ def files_of(groups):
 
 
 def main():
-    groups = {act: [] for act in ACTS}
+    groups = {act: [] for act in [*ACTS, 'formulas']}
+    inputs = set()
     with open(sys.argv[1], encoding='utf-8') as lines:
         for number, line in enumerate(lines, 1):
             v = json.loads(line)
             if v['act'] in ACTS:
                 groups[v['act']].append(ACTS[v['act']](number, v))
+            given = v.get('sheet', v.get('stdin'))
+            if given is not None and given not in inputs:
+                inputs.add(given)
+                groups['formulas'].append(formula_vector(number, bytes.fromhex(given)))
     data = CASES / 'data'
     data.mkdir(parents=True, exist_ok=True)
     for old in data.iterdir():

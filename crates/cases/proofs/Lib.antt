@@ -4,4 +4,5 @@ pub mod FrameLaws
 pub mod JudgingLaws
 pub mod RunLaws
 pub mod TotalsLaws
+pub mod TryingLaws
 pub mod WalkingLaws

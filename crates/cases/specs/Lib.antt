@@ -5,4 +5,5 @@ pub mod Corpus
 pub mod Judging
 pub mod Runs
 pub mod Totals
+pub mod Trying
 pub mod Walking

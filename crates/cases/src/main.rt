@@ -12,6 +12,8 @@
 // - walk: the expected model (8 bytes), steps, expansions (4 bytes each) and checkpoint; which checkpoint the call gets (1 byte: 0
 //   the one that follows, 1 the start checkpoint, 2 the one that the call of the vector before it returned), a checkpoint, and the
 //   budget (4 bytes). A chain is a vector for each of its calls.
+// - formulas: none. The answer says that the walk was not compared with a trial of all assignments (7), or that both have the same
+//   models (8), with their number as the place.
 // tools/corpus.py writes the files.
 mod answers;
 mod checking;
@@ -21,6 +23,7 @@ mod judging;
 mod report;
 mod runs;
 mod totals;
+mod trying;
 mod walking;
 
 ghost use Prim.Native.Nat.{_<_, _≤_};
@@ -81,4 +84,5 @@ fn main() {
     run_files(b"walk", 6, Act::Walk, b"vectors");
     run_alone(b"walk_edges", Act::Walk);
     run_files(b"chain", 7, Act::Walk, b"calls");
+    run_files(b"formulas", 6, Act::Compare, b"vectors");
 }

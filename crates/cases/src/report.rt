@@ -21,6 +21,9 @@ fn says(n: u64) {
         4 => text(b"model"),
         5 => text(b"spent"),
         6 => text(b"ended"),
+        7 => text(b"not compared"),
+        8 => text(b"models"),
+        9 => text(b"other models"),
         _ => text(b"unknown"),
     }
 }

@@ -12,6 +12,7 @@ use crate::corpus::frame;
 use crate::judging::judge_vector;
 use crate::totals;
 use crate::totals::Totals;
+use crate::trying::compare_vector;
 use crate::walking::Compared;
 use crate::walking::start_vector;
 use crate::walking::walk_vector;
@@ -22,6 +23,7 @@ pub enum Act {
     Judge,
     Start,
     Walk,
+    Compare,
 }
 
 // Where a run over a file stopped: at the file's end, or at a vector that runs past it.
@@ -39,6 +41,7 @@ fn fields_of(act: Act) -> usize
         Act::Judge => 104,
         Act::Start => 50,
         Act::Walk => 127,
+        Act::Compare => 6,
     }
 }
 
@@ -62,6 +65,10 @@ fn run_vector(bytes: &[u8], v: Vector, act: Act, last: Checkpoint) -> Compared
             last,
         },
         Act::Walk => walk_vector(bytes, v, last),
+        Act::Compare => Compared {
+            agrees: compare_vector(bytes, v),
+            last,
+        },
     }
 }
 

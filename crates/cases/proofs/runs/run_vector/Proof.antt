@@ -28,6 +28,12 @@ enum-told-4 c = search needs
 walk-vector-requires : tie.Need-walk-vector-requires
 walk-vector-requires c κs = rw (c .enum-told4 .given .1) at (c .before .before .before .pre)
 
+enum-told-5 : tie.Need-enum-told-5
+enum-told-5 c = search needs
+
+compare-vector-requires : tie.Need-compare-vector-requires
+compare-vector-requires c κs = rw (c .enum-told5 .given .1) at (c .before .before .before .pre)
+
 returns : tie.Need-returns
 returns c = rw (c .before .enum-told .given .1) (c .check-vector .ensures, refl)
 
@@ -39,6 +45,9 @@ returns-3 c = rw (c .before .enum-told3 .given .1) (c .start-vector .ensures, re
 
 returns-4 : tie.Need-returns-4
 returns-4 c = rw (c .before .enum-told4 .given .1) (c .walk-vector .ensures)
+
+returns-5 : tie.Need-returns-5
+returns-5 c = rw (c .before .enum-told5 .given .1) (c .compare-vector .ensures, refl)
 
 pub run-vector-spec : {M : Type 1} → statement M
 run-vector-spec =
@@ -52,7 +61,10 @@ run-vector-spec =
     start-vector-requires
     enum-told-4
     walk-vector-requires
+    enum-told-5
+    compare-vector-requires
     returns
     returns-2
     returns-3
-    returns-4)
+    returns-4
+    returns-5)
