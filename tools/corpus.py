@@ -15,9 +15,10 @@ files NAME0, NAME1, .., at most ten; start has one, start. Numbers are little-en
 
 An answer:
 
-    1 byte    what it says: 0 no, 1 yes (check), 2 refused, 3 matched (judge), 4 model, 5 spent, 6 ended (walk)
+    1 byte    what it says: 0 no, 1 yes (check), 2 refused, 3 matched (judge), 4 model, 5 spent, 6 ended (walk),
+              7 not compared, 8 models (formulas)
     1 byte    the refusal's number, else 0
-    2 bytes   the refusal's place, else 0
+    2 bytes   the refusal's place, or the number of models (formulas), else 0
     1 byte    n, the number of variables, if matched, else 0
     1 byte    m, the number of clauses, if matched, else 0
 
@@ -32,7 +33,7 @@ Own fields of judge, 98 bytes. The lent buffer is the first bytes of an array of
 A checkpoint, 50 bytes: its mode, its length and 48 bytes of its trail.
 
 Formulas have no own fields: each input of VECTORS once, with the number of the first vector that has it. The answer says 7, not
-compared, if the input is refused or has more than 12 variables, else 8, with the number of models as the place.
+compared, if the input is refused (also as unmatched) or has more than 12 variables, else 8, with the number of models as place.
 
 Own field of start, 50 bytes: the expected checkpoint. Its input is empty.
 
