@@ -5,12 +5,12 @@ VECTORS has one JSON object a line: "act", its input and the expected answer. Ve
 left out.
 
 Format. A file holds vectors of one act, one after the other, and nothing else; it has at most 65,536 bytes, so an act has
-files NAME0, NAME1, .., at most ten; start has one, start. Numbers are little-endian. A vector is
+files NAMEa, NAMEb, .., at most 26; start has one, start. Numbers are little-endian. A vector is
 
     2 bytes   its number: the line of VECTORS, from 1, or from 60,000 for a vector of this script
     2 bytes   the length of its input
     ..        its input
-    6 bytes   the expected answer; start has none
+    6 bytes   the expected answer; start and printed have none
     ..        its own fields, by act
 
 An answer:
@@ -35,6 +35,12 @@ A checkpoint, 50 bytes: its mode, its length and 48 bytes of its trail.
 Formulas have no own fields: each input of VECTORS once, with the number of the first vector that has it. The answer says 7, not
 compared, if the input is refused (also as unmatched) or has more than 12 variables, else 8, with the number of models as place.
 
+Printed has no own fields. Its input holds
+
+    2 bytes   the length of what is printed from
+    ..        what is printed from: at most 16,384 bytes, since the program list_models reads no more
+    ..        the expected text
+
 Own field of start, 50 bytes: the expected checkpoint. Its input is empty.
 
 Own fields of walk, 121 bytes:
@@ -55,13 +61,16 @@ A further act is a coder in ACTS, and in the program a case of `Act`, its file n
 """
 import json
 import pathlib
+import string
 import sys
 
 LIMIT = 65536  # bytes of a file: what the program reads at once
+LETTERS = string.ascii_lowercase  # the ends of the names of an act's files
 CASES = pathlib.Path(__file__).resolve().parent.parent / 'crates' / 'cases'
 
 NO, YES, REFUSED, MATCHED, MODEL, SPENT, ENDED, NOT_COMPARED, LISTED = range(9)
 SAYS = {'no': NO, 'yes': YES, 'refused': REFUSED, 'set-up': MODEL, 'spent': SPENT, 'ended': ENDED}
+READ = 16384  # bytes of standard input that the printing program reads
 WRITTEN = 96  # bytes of the array that judge may write
 START, LAST = 1, 2  # the checkpoint that a walk call gets, if it is not given
 
@@ -124,7 +133,13 @@ def chain_vector(number, v):
     return calls
 
 
-ACTS = {'check': check_vector, 'judge': judge_vector, 'start': start_vector, 'walk': walk_vector, 'chain': chain_vector}
+def printed_vector(number, v):
+    given = bytes.fromhex(v['stdin'])[:READ]
+    return [coded(number, little(len(given), 2) + given + v['stdout'].encode('ascii'), b'', b'')]
+
+
+ACTS = {'check': check_vector, 'judge': judge_vector, 'start': start_vector, 'walk': walk_vector, 'chain': chain_vector,
+        'printed': printed_vector}
 
 
 def read(given):
@@ -174,9 +189,9 @@ def models(n, clauses):
 
 def formula_vector(number, given):
     formula = read(given)
-    if formula is None or formula[0] > 12 or not matchable(formula[1]):
-        return [coded(number, given, answer_of(NOT_COMPARED), b'')]
-    return [coded(number, given, answer_of(LISTED, place=models(*formula)), b'')]
+    compared = formula is not None and formula[0] <= 12 and matchable(formula[1])
+    answer = answer_of(LISTED, place=models(*formula)) if compared else answer_of(NOT_COMPARED)
+    return [coded(number, given, answer, b'')]
 
 
 # Edge cases. The expected answers are written here by hand, from document 01.
@@ -543,9 +558,9 @@ def main():
     report = []
     for act, found in groups.items():
         files = files_of(found)
-        assert len(files) <= 10
-        for i, f in enumerate(files):
-            (data / (act if act == 'start' else f'{act}{i}')).write_bytes(f)
+        assert len(files) <= len(LETTERS)
+        for letter, f in zip(LETTERS, files):
+            (data / (act if act == 'start' else act + letter)).write_bytes(f)
         report.append((act, sum(map(len, found)), 'calls' if act == 'chain' else 'vectors'))
         if act in EDGES:
             edges = list(EDGES[act]())

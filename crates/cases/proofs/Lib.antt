@@ -2,6 +2,7 @@ pub mod CheckingLaws
 pub mod ComparingLaws
 pub mod FrameLaws
 pub mod JudgingLaws
+pub mod PrintsLaws
 pub mod RunLaws
 pub mod TotalsLaws
 pub mod TryingLaws

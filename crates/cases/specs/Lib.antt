@@ -3,6 +3,7 @@ pub mod Checking
 pub mod Comparing
 pub mod Corpus
 pub mod Judging
+pub mod Prints
 pub mod Runs
 pub mod Totals
 pub mod Trying

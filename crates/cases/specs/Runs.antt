@@ -9,12 +9,13 @@ use Rattle.walk.specs.Checkpoints.{Checkpoint, start}
 use Rattle.cases.specs.declared.corpus.Vector.{Vector}
 use Rattle.cases.specs.declared.corpus.Framed.the-variants.{Whole, Broken}
 use Rattle.cases.specs.declared.runs.Act.{Act}
-use Rattle.cases.specs.declared.runs.Act.the-variants.{Check, Judge, Start, Walk, Compare}
+use Rattle.cases.specs.declared.runs.Act.the-variants.{Check, Judge, Start, Walk, Compare, Print}
 use Rattle.cases.specs.declared.runs.Run.{Run}
 use Rattle.cases.specs.declared.totals.Totals.{Totals}
 use Rattle.cases.specs.Checking.{check-agrees}
 use Rattle.cases.specs.Corpus.{framed}
 use Rattle.cases.specs.Judging.{judge-agrees}
+use Rattle.cases.specs.Prints.{print-agrees}
 use Rattle.cases.specs.Totals.{counted, Grown}
 use Rattle.cases.specs.Trying.{compare-agrees}
 use Rattle.cases.specs.Walking.{start-agrees, walk-agrees, walk-leaves}
@@ -26,6 +27,7 @@ size-of Judge = 104
 size-of Start = 50
 size-of Walk = 127
 size-of Compare = 6
+size-of Print = 0
 
 -- the act gives what the vector expects
 abbrev pub agrees : Act → List ℕ → Vector → Checkpoint → Bool
@@ -34,6 +36,7 @@ agrees Judge s v last = judge-agrees s v
 agrees Start s v last = start-agrees s v
 agrees Walk s v last = walk-agrees s v last
 agrees Compare s v last = compare-agrees s v
+agrees Print s v last = print-agrees s v
 
 -- the checkpoint that the last walk call returned, after the vector
 abbrev pub leaves : Act → List ℕ → Vector → Checkpoint → Checkpoint
@@ -42,6 +45,7 @@ leaves Judge s v last = last
 leaves Start s v last = last
 leaves Walk s v last = walk-leaves s v last
 leaves Compare s v last = last
+leaves Print s v last = last
 
 -- the vectors from an offset on, up to the end or to one that runs past it. The first number is at least the count of the
 -- bytes that are left.

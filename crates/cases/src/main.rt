@@ -12,6 +12,8 @@
 // - walk: the expected model (8 bytes), steps, expansions (4 bytes each) and checkpoint; which checkpoint the call gets (1 byte: 0
 //   the one that follows, 1 the start checkpoint, 2 the one that the call of the vector before it returned), a checkpoint, and the
 //   budget (4 bytes). A chain is a vector for each of its calls.
+// - printed: none, and no expected answer. The input holds the length of what is printed from (2 bytes), these bytes, and the
+//   expected text.
 // - formulas: none. The answer says that the walk was not compared with a trial of all assignments (7), or that both have the same
 //   models (8), with their number as the place.
 // tools/corpus.py writes the files.
@@ -20,6 +22,7 @@ mod checking;
 mod comparing;
 mod corpus;
 mod judging;
+mod prints;
 mod report;
 mod runs;
 mod totals;
@@ -54,16 +57,16 @@ fn run_file(t: Totals, name: &[u8], act: Act) -> Totals
     run.totals
 }
 
-// The files of an act, whose names end in 0, 1 and so on, and then the line that sums them up.
+// The files of an act, whose names end in a, b and so on, and then the line that sums them up.
 fn run_files(name: &[u8], count: u8, act: Act, unit: &[u8])
-    requires { ⌜ (length (now name) < 16) × (count ≤ 10) ⌝ }
+    requires { ⌜ (length (now name) < 16) × (count ≤ 26) ⌝ }
 {
     let mut path = [0u8; 16];
     let end = bytes::copy(name, &mut path);
     let mut t = totals::none();
     let mut i: u8 = 0;
     while i < count {
-        path[end] = 48 + i;
+        path[end] = 97 + i;
         t = run_file(t, &path[..end + 1], act);
         i += 1;
     }
@@ -84,5 +87,6 @@ fn main() {
     run_files(b"walk", 6, Act::Walk, b"vectors");
     run_alone(b"walk_edges", Act::Walk);
     run_files(b"chain", 7, Act::Walk, b"calls");
+    run_files(b"printed", 23, Act::Print, b"vectors");
     run_files(b"formulas", 6, Act::Compare, b"vectors");
 }

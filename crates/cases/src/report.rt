@@ -58,6 +58,25 @@ pub fn other_checkpoint(vector: u64) {
     text(b": another checkpoint\n");
 }
 
+// A vector whose printed text is another from a byte on, counted from 0.
+pub fn other_text(vector: u64, at: usize, wanted: &[u8], got: &[u8]) {
+    text(b"vector ");
+    number(vector);
+    text(b": another text from byte ");
+    number(at as u64);
+    text(b" on, expected:\n");
+    text(wanted);
+    text(b"got:\n");
+    text(got);
+}
+
+// A vector of the printed walk that breaks off within its input.
+pub fn no_input(vector: u64) {
+    text(b"vector ");
+    number(vector);
+    text(b": no whole input\n");
+}
+
 // One of the vector's numbers.
 pub fn numbers(name: &[u8], wanted: u64, got: u64) {
     text(b"  ");

@@ -10,6 +10,7 @@ use crate::corpus::Framed;
 use crate::corpus::Vector;
 use crate::corpus::frame;
 use crate::judging::judge_vector;
+use crate::prints::print_vector;
 use crate::totals;
 use crate::totals::Totals;
 use crate::trying::compare_vector;
@@ -24,6 +25,7 @@ pub enum Act {
     Start,
     Walk,
     Compare,
+    Print,
 }
 
 // Where a run over a file stopped: at the file's end, or at a vector that runs past it.
@@ -42,6 +44,7 @@ fn fields_of(act: Act) -> usize
         Act::Start => 50,
         Act::Walk => 127,
         Act::Compare => 6,
+        Act::Print => 0,
     }
 }
 
@@ -67,6 +70,10 @@ fn run_vector(bytes: &[u8], v: Vector, act: Act, last: Checkpoint) -> Compared
         Act::Walk => walk_vector(bytes, v, last),
         Act::Compare => Compared {
             agrees: compare_vector(bytes, v),
+            last,
+        },
+        Act::Print => Compared {
+            agrees: print_vector(bytes, v),
             last,
         },
     }

@@ -46,7 +46,7 @@ add-path-2 c = search needs
 -- the path keeps its length
 stored :
     (c : tie.In-loop Inv-loop μ-loop) →
-    length (set (c .before .loop .path) (c .before .before .before .before .copy .result) (48 + c .before .loop .i)) ≡ 16
+    length (set (c .before .loop .path) (c .before .before .before .before .copy .result) (97 + c .before .loop .i)) ≡ 16
 stored c = simp length-set (c .before .loop .inv .2)
 
 array-share-prefix-path : tie.Need-array-share-prefix-path Inv-loop μ-loop

@@ -1,5 +1,6 @@
 -- `run_vector`: by the act.
 use mathlib.Core.Path.{refl}
+use native.Mathlib.Omega.{arith}
 use borrow.Author.Needs.{needs}
 use Rattle.cases.proofs.runs.run_vector.Statement.{statement}
 use Rattle.cases.proofs.runs.run_vector.Tie as tie
@@ -34,6 +35,13 @@ enum-told-5 c = search needs
 compare-vector-requires : tie.Need-compare-vector-requires
 compare-vector-requires c κs = rw (c .enum-told5 .given .1) at (c .before .before .before .pre)
 
+enum-told-6 : tie.Need-enum-told-6
+enum-told-6 c = search needs
+
+print-vector-requires : tie.Need-print-vector-requires
+print-vector-requires c κs =
+    let p = rw (c .enum-told6 .given .1) at (c .before .before .before .pre) in (p .0, omega arith)
+
 returns : tie.Need-returns
 returns c = rw (c .before .enum-told .given .1) (c .check-vector .ensures, refl)
 
@@ -49,6 +57,9 @@ returns-4 c = rw (c .before .enum-told4 .given .1) (c .walk-vector .ensures)
 returns-5 : tie.Need-returns-5
 returns-5 c = rw (c .before .enum-told5 .given .1) (c .compare-vector .ensures, refl)
 
+returns-6 : tie.Need-returns-6
+returns-6 c = rw (c .before .enum-told6 .given .1) (c .print-vector .ensures, refl)
+
 pub run-vector-spec : {M : Type 1} → statement M
 run-vector-spec =
     tie.close
@@ -63,8 +74,11 @@ run-vector-spec =
     walk-vector-requires
     enum-told-5
     compare-vector-requires
+    enum-told-6
+    print-vector-requires
     returns
     returns-2
     returns-3
     returns-4
-    returns-5)
+    returns-5
+    returns-6)

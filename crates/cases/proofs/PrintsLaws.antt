@@ -1,0 +1,64 @@
+-- Laws of `prints` and `print-agrees`.
+use Prim.Native.Nat.{ℕ, _+_, _-_, _<_, _≤_}
+use mathlib.Core.Bool.{Bool, true, false, cond}
+use mathlib.Core.List.{List, []}
+use mathlib.Core.Path.{_≡_, refl, sym, ap, _∙_}
+use native.Mathlib.Omega.{arith}
+use borrow.Author.Tests.{lt-ltb, le-ltb}
+use lib.Dec.{ltb}
+use lib.ListN.{length, take, drop}
+use lib.Seq.{length-take-le, take-append-seam}
+use Rattle.lists.specs.Over.{over}
+use Rattle.printing.specs.Printed.{printed}
+use Rattle.printing.specs.Printing.{Printing, unwritten, printing}
+use Rattle.printing.proofs.PrintLaws.{count-within}
+use Rattle.cases.specs.declared.corpus.Vector.{Vector}
+use Rattle.cases.specs.Comparing.{first-wrong}
+use Rattle.cases.specs.Corpus.{two-bytes}
+use Rattle.cases.specs.Prints.{text-of, all-stand, prints, print-agrees}
+
+-- what print counts of the buffer is the text
+text-written :
+    (s b c : List ℕ) (r : ℕ) → 60026 ≤ length b → printing s b ≡ record { count = r; buffer = c } → take r c ≡ text-of s
+unfolding printing
+text-written s b c r long e =
+    rw (← ap (λ (p : Printing). p .count) e, ← ap (λ (p : Printing). p .buffer) e, le-ltb (length b) 60026 long)
+    (go (ltb 16384 (length s)))
+  where
+    go : (x : Bool)
+        → (let p = cond x (unwritten b) (record { count = length (printed s); buffer = over (printed s) b }) in take (p .count) (p .buffer))
+        ≡ cond x [] (printed s)
+    go true = refl
+    go false = take-append-seam (printed s) (drop (length (printed s)) b)
+
+-- the comparison is that of `prints`, since the bytes compared are those of the text
+pub text-compared :
+    (s : List ℕ) (start middle end : ℕ) (b c : List ℕ) (r wanted wrong : ℕ) →
+    65536 ≡ length b →
+    printing (take (middle - start) (drop start s)) b ≡ record { count = r; buffer = c } →
+    wanted ≡ end - middle →
+    wrong ≡ first-wrong s middle wanted 0 (take r c) →
+    all-stand wanted r wrong ≡ prints s start middle end
+unfolding prints
+text-compared s start middle end b c r wanted wrong long e w f =
+    let t = text-written _ b c r (omega arith) e in
+    let n : length (text-of (take (middle - start) (drop start s))) ≡ r =
+    ap length (sym t) ∙ length-take-le r c (count-within _ b c r e) in
+    rw (n, ← t, f, w)
+
+-- a vector that has no whole input differs
+module _ (s : List ℕ) (v : Vector) where
+  pub no-length : v .end - v .start < 2 → print-agrees s v ≡ false
+  unfolding print-agrees
+  no-length h = rw (lt-ltb _ _ h)
+
+  pub no-input : 2 ≤ v .end - v .start → v .end - v .start < 2 + two-bytes s (v .start) → print-agrees s v ≡ false
+  unfolding print-agrees
+  no-input l h = rw (le-ltb _ _ l, lt-ltb _ _ h)
+
+  pub whole-input :
+      2 ≤ v .end - v .start →
+      2 + two-bytes s (v .start) ≤ v .end - v .start →
+      print-agrees s v ≡ prints s (v .start + 2) (v .start + 2 + two-bytes s (v .start)) (v .end)
+  unfolding print-agrees
+  whole-input l h = rw (le-ltb _ _ l, le-ltb _ _ h)

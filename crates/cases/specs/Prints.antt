@@ -1,0 +1,33 @@
+-- The vectors of the printed walk: the text that the document fixes, compared with the one that the corpus has.
+use Prim.Native.Nat.{ℕ, _+_, _-_}
+use mathlib.Core.Bool.{Bool, false, cond, _&&_}
+use mathlib.Core.List.{List, []}
+use lib.Dec.{eqb, ltb}
+use lib.ListN.{length, take, drop}
+use Rattle.printing.specs.Printed.{printed}
+use Rattle.cases.specs.declared.corpus.Vector.{Vector}
+use Rattle.cases.specs.Comparing.{first-wrong}
+use Rattle.cases.specs.Corpus.{two-bytes}
+
+-- what print writes: nothing for an input that it does not read
+abbrev pub text-of : List ℕ → List ℕ
+text-of s = cond (ltb 16384 (length s)) [] (printed s)
+
+-- there are as many bytes as must be, and the first wrong one would stand behind them
+abbrev pub all-stand : ℕ → ℕ → ℕ → Bool
+all-stand wanted count wrong = eqb count wanted && eqb wrong count
+
+-- the text of the input from `start` to `middle` is the one from there to `end`
+unfoldable pub prints : List ℕ → ℕ → ℕ → ℕ → Bool
+prints s start middle end =
+    let t = text-of (take (middle - start) (drop start s)) in
+    all-stand (end - middle) (length t) (first-wrong s middle (end - middle) 0 t)
+
+-- a vector's bytes are the length of the input (2 bytes), the input, and the expected text
+unfoldable pub print-agrees : List ℕ → Vector → Bool
+print-agrees s v =
+    cond (ltb (v .end - v .start) 2)
+    false
+    (cond (ltb (v .end - v .start) (2 + two-bytes s (v .start)))
+    false
+    (prints s (v .start + 2) (v .start + 2 + two-bytes s (v .start)) (v .end)))
