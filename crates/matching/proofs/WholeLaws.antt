@@ -10,6 +10,7 @@ use lib.ListN.{length, set, take, replicate, length-set, length-append, length-r
 use lib.Seq.{getD-take, take-suc, take-length, length-take-le, set-getD, set-comm}
 use lib.Dec.{eqb}
 use borrow.Author.Tests.{eqb-true, eqb-false, eq-eqb, ne-eqb}
+use Rattle.lists.proofs.TestLaws.{look}
 use Rattle.lists.specs.Padded.{padded}
 use Rattle.lists.proofs.PaddedLaws.{padded-none, take-padded}
 use Rattle.lists.proofs.StoreLaws.{padded-store, held-length}
@@ -21,7 +22,7 @@ use Rattle.lists.proofs.TabulatedLaws.{tabulated-of}
 use Rattle.matching.specs.Inner.{at, owners-of, Tables, search-of, Sound, Owned, Augments, augmented, Augmented}
 use Rattle.matching.specs.Result.{Clauses, packed}
 use Rattle.matching.specs.declared.Front.{Front}
-use Rattle.matching.proofs.Counting.{look, lt-or-le, zero-or-pos}
+use Rattle.matching.proofs.Counting.{lt-or-le, zero-or-pos}
 use Rattle.matching.proofs.OwnerLaws.{zero-or-suc, owner-le, free-owner}
 use Rattle.matching.proofs.Augmenting.{snoc-cases, rematch-partial}
 use Rattle.matching.proofs.SearchLaws.{see-free, see-matched, scan-none, scan-old, scan-new, scan-stop, search-on, search-found, search-empty, Stuck, Reached, Ended, search-next, word-all}

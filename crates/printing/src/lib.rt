@@ -86,7 +86,7 @@ fn put_numbers(x: u64, y: u64, buffer: &mut [u8], at: usize) -> usize
 }
 
 // The first line: the numbers of variables and clauses.
-pub fn put_header(n: usize, m: usize, buffer: &mut [u8], at: usize) -> usize
+fn put_header(n: usize, m: usize, buffer: &mut [u8], at: usize) -> usize
     requires { ⌜ Room at (header n m) (now buffer) ⌝ }
     ensures { λ r. ⌜ Wrote (header n m) at (now (buffer .entry)) (now (buffer .exit)) r ⌝ }
 {
@@ -98,7 +98,7 @@ pub fn put_header(n: usize, m: usize, buffer: &mut [u8], at: usize) -> usize
 }
 
 // The line of a model of n variables.
-pub fn put_model_line(
+fn put_model_line(
     n: usize,
     a: u64,
     steps: u64,
@@ -115,7 +115,7 @@ pub fn put_model_line(
 }
 
 // The line at the end of a walk.
-pub fn put_end_line(steps: u64, expansions: u64, buffer: &mut [u8], at: usize) -> usize
+fn put_end_line(steps: u64, expansions: u64, buffer: &mut [u8], at: usize) -> usize
     requires { ⌜ Room at (end-line steps expansions) (now buffer) ⌝ }
     ensures { λ r. ⌜ Wrote (end-line steps expansions) at (now (buffer .entry)) (now (buffer .exit)) r ⌝ }
 {
@@ -124,7 +124,7 @@ pub fn put_end_line(steps: u64, expansions: u64, buffer: &mut [u8], at: usize) -
 }
 
 // The line after the last model that is listed.
-pub fn put_more_line(buffer: &mut [u8], at: usize) -> usize
+fn put_more_line(buffer: &mut [u8], at: usize) -> usize
     requires { ⌜ Room at more-line (now buffer) ⌝ }
     ensures { λ r. ⌜ Wrote more-line at (now (buffer .entry)) (now (buffer .exit)) r ⌝ }
 {
@@ -132,7 +132,7 @@ pub fn put_more_line(buffer: &mut [u8], at: usize) -> usize
 }
 
 // The line of a refusal.
-pub fn put_refusal_line(refusal: Refusal, buffer: &mut [u8], at: usize) -> usize
+fn put_refusal_line(refusal: Refusal, buffer: &mut [u8], at: usize) -> usize
     requires { ⌜ Room at (refusal-line refusal) (now buffer) ⌝ }
     ensures { λ r. ⌜ Wrote (refusal-line refusal) at (now (buffer .entry)) (now (buffer .exit)) r ⌝ }
 {

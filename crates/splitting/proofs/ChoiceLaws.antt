@@ -7,9 +7,9 @@ use native.Mathlib.Nat.{mul-le-mul-right}
 use native.Mathlib.Omega.{arith}
 use lib.ListN.{length}
 use borrow.Author.Tests.{not-true, not-false}
+use Rattle.lists.proofs.TestLaws.{clash}
 use Rattle.lists.proofs.SublistLaws.{sub-within, sub-length}
 use Rattle.matching.specs.Matched.{Matched}
-use Rattle.matching.proofs.Counting.{clash}
 use Rattle.formula.specs.Format.{Literal}
 use Rattle.formula.specs.Masked.{variables}
 use Rattle.splitting.specs.Nodes.{assign, named, lowest-with}

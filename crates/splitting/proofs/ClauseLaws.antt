@@ -6,9 +6,8 @@ use mathlib.Core.List.{List, [], _∷_, _++_, map, List·Memᴰ, List·Memᴰ·h
 use mathlib.Core.Logic.{⊎-elim}
 use lib.Dec.{eqb}
 use borrow.Author.Tests.{eqb-true, eq-eqb, ne-eqb}
-use Rattle.lists.proofs.TestLaws.{and-left, and-right, and-both, or-cases}
+use Rattle.lists.proofs.TestLaws.{and-left, and-right, and-both, or-cases, look, clash, or-left, or-right}
 use Rattle.lists.proofs.SublistLaws.{Within}
-use Rattle.matching.proofs.Counting.{look, clash, or-l, or-r}
 use Rattle.formula.specs.Format.{Literal, names, names-as}
 use Rattle.formula.proofs.ClauseLaws.{named-as}
 use Rattle.splitting.specs.Nodes.{less, occurs, named}
@@ -23,9 +22,9 @@ literal-names [] l m = absurd (List·Memᴰ·not-nil m)
 literal-names (k ∷ c) l m =
     ⊎-elim
     (λ (e : l ≡ k).
-    or-l (eqb (k .variable) (l .variable) && Bool·beq (k .positive) (l .positive)) (names-as c (l .variable) (l .positive))
+    or-left (eqb (k .variable) (l .variable) && Bool·beq (k .positive) (l .positive)) (names-as c (l .variable) (l .positive))
     (rw e (and-both (eqb (k .variable) (k .variable)) (Bool·beq (k .positive) (k .positive)) (eq-eqb (k .variable) (k .variable) refl) (same (k .positive)))))
-    (λ more. or-r (eqb (k .variable) (l .variable) && Bool·beq (k .positive) (l .positive)) (names-as c (l .variable) (l .positive)) (literal-names c l more))
+    (λ more. or-right (eqb (k .variable) (l .variable) && Bool·beq (k .positive) (l .positive)) (names-as c (l .variable) (l .positive)) (literal-names c l more))
     (List·Memᴰ·cases-cons m)
   where
     same : (b : Bool) → Bool·beq b b ≡ true
@@ -117,8 +116,8 @@ unfolding occurs
 occurs-in [] c v s m t = absurd (List·Memᴰ·not-nil m)
 occurs-in (d ∷ cs) c v s m t =
     ⊎-elim
-    (λ (e : c ≡ d). or-l (names-as d v s) (occurs cs v s) (rw e at t))
-    (λ more. or-r (names-as d v s) (occurs cs v s) (occurs-in cs c v s more t))
+    (λ (e : c ≡ d). or-left (names-as d v s) (occurs cs v s) (rw e at t))
+    (λ more. or-right (names-as d v s) (occurs cs v s) (occurs-in cs c v s more t))
     (List·Memᴰ·cases-cons m)
 
 -- among the clauses of a list nothing else occurs
@@ -149,8 +148,8 @@ named-some cs v t = ⊎-elim (λ h. (true, h)) (λ h. (false, h)) (or-cases (occ
 -- what occurs is named
 pub named-in : (cs : List (List Literal)) (v : ℕ) (s : Bool) → occurs cs v s ≡ true → named cs v ≡ true
 unfolding named
-named-in cs v true t = or-l (occurs cs v true) (occurs cs v false) t
-named-in cs v false t = or-r (occurs cs v true) (occurs cs v false) t
+named-in cs v true t = or-left (occurs cs v true) (occurs cs v false) t
+named-in cs v false t = or-right (occurs cs v true) (occurs cs v false) t
 
 -- a clause of the list that names v makes it named
 pub named-by : (cs : List (List Literal)) (c : List Literal) (v : ℕ) → List·Memᴰ c cs → names c v ≡ true → named cs v ≡ true

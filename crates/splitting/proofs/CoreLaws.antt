@@ -6,8 +6,8 @@ use mathlib.Core.Logic.{⊎-elim}
 use native.Mathlib.Omega.{arith}
 use lib.Dec.{eqb, ltb}
 use borrow.Author.Tests.{eqb-true, eqb-false, eq-eqb, ltb-true, ltb-false, lt-ltb, not-true}
-use Rattle.lists.proofs.TestLaws.{and-left, and-right, and-both}
-use Rattle.matching.proofs.Counting.{look, clash, count, count-except, except, except-i}
+use Rattle.lists.proofs.TestLaws.{and-left, and-right, and-both, look, clash}
+use Rattle.matching.proofs.Counting.{count, count-except, except, except-i}
 use Rattle.splitting.specs.Nodes.{lowest-with}
 use Rattle.splitting.proofs.SearchLaws.{lowest-some, lowest-none, lowest-found}
 use Rattle.splitting.proofs.CountLaws.{count-le, except-of}

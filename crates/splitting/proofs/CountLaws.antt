@@ -5,8 +5,8 @@ use mathlib.Core.Bool.{Bool, true, false, not}
 use mathlib.Core.Logic.{⊎-elim}
 use native.Mathlib.Omega.{arith}
 use lib.Dec.{eqb}
-use Rattle.lists.proofs.TestLaws.{and-left}
-use Rattle.matching.proofs.Counting.{look, clash, below-cases, count, count-all, count-except, except, except-i, pigeon}
+use Rattle.lists.proofs.TestLaws.{and-left, look, clash}
+use Rattle.matching.proofs.Counting.{below-cases, count, count-all, count-except, except, except-i, pigeon}
 
 -- what is in a set without a is in the set
 pub except-of : (f : ℕ → Bool) (a i : ℕ) → except f a i ≡ true → f i ≡ true

@@ -8,12 +8,11 @@ use native.Mathlib.Omega.{arith}
 use lib.Bits.{bitOr, bitXor}
 use lib.Dec.{eqb}
 use borrow.Author.Tests.{eqb-true, eqb-false}
-use Rattle.lists.proofs.TestLaws.{and-left, or-none, both-signs, eqb-comm}
+use Rattle.lists.proofs.TestLaws.{and-left, or-none, both-signs, eqb-comm, look, clash}
 use Rattle.masks.specs.Mask.{bit, with, minus, lowest, members}
 use Rattle.masks.proofs.MembersLaws.{some-member, member-some, members-none}
 use Rattle.masks.proofs.BitLaws.{bit-or, bit-xor, bit-with, bit-minus, bit-none}
 use Rattle.matching.specs.Search.{Outcome, outcome, succeeds, expansions}
-use Rattle.matching.proofs.Counting.{look, clash}
 use Rattle.formula.specs.declared.Clause.{Clause}
 use Rattle.formula.specs.declared.Formula.{Formula}
 use Rattle.formula.specs.Format.{Literal, names, names-as}

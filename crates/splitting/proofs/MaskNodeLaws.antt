@@ -11,12 +11,11 @@ use lib.ListN.{length, getD, length-map}
 use borrow.Author.Tests.{eqb-true, eqb-false, eq-eqb, ne-eqb}
 use Rattle.lists.specs.Padded.{padded}
 use Rattle.lists.proofs.PaddedLaws.{getD-padded}
-use Rattle.lists.proofs.TestLaws.{or-swap, eqb-comm}
+use Rattle.lists.proofs.TestLaws.{or-swap, eqb-comm, look, clash}
 use Rattle.masks.specs.Mask.{bit, with, without, meets}
 use Rattle.masks.proofs.BitLaws.{bit-and, bit-or, bit-with, bit-minus, bit-without, bit-none}
 use Rattle.masks.proofs.MeetLaws.{meets-with}
 use Rattle.masks.proofs.MembersLaws.{mask-same}
-use Rattle.matching.proofs.Counting.{look, clash}
 use Rattle.formula.specs.declared.Clause.{Clause}
 use Rattle.formula.specs.Format.{Literal, names, names-as, distinct}
 use Rattle.formula.specs.Masked.{no-clause, side, clause-of, formula-of}

@@ -7,10 +7,11 @@ use mathlib.Core.Logic.{⊎-elim}
 use native.Mathlib.Nat.{eq-or-lt-of-le}
 use native.Mathlib.Omega.{arith}
 use lib.Pow.{pow-mono}
+use Rattle.lists.proofs.TestLaws.{clash}
 use Rattle.masks.specs.Mask.{bit, lowest, members, only-if}
 use Rattle.masks.proofs.BitLaws.{bit-none}
 use Rattle.masks.proofs.MembersLaws.{lowest-is, mask-lt, members-wide}
-use Rattle.matching.proofs.Counting.{clash, lt-or-le}
+use Rattle.matching.proofs.Counting.{lt-or-le}
 use Rattle.splitting.specs.Nodes.{first-from, lowest-with, upward-from, upward}
 use Rattle.splitting.proofs.SearchLaws.{lowest-some, lowest-found}
 

@@ -9,12 +9,11 @@ use lib.ListN.{length, getD, length-map, List·getD-map}
 use lib.Dec.{ltb}
 use borrow.Author.Tests.{ltb-true, lt-ltb}
 use Rattle.lists.specs.Tabulated.{tabulated}
-use Rattle.lists.proofs.TestLaws.{both-signs}
+use Rattle.lists.proofs.TestLaws.{both-signs, look, clash}
 use Rattle.lists.proofs.SublistLaws.{getD-element, element-place, sub-map}
 use Rattle.lists.proofs.TabulatedLaws.{length-tabulated, getD-tabulated}
 use Rattle.masks.specs.Mask.{bit}
 use Rattle.matching.specs.Matched.{Matches, Matched, chosen}
-use Rattle.matching.proofs.Counting.{look, clash}
 use Rattle.matching.proofs.Theorems.{sub-list-matched}
 use Rattle.formula.specs.Format.{Literal, names, names-as, distinct}
 use Rattle.formula.specs.Masked.{variables}

@@ -8,13 +8,13 @@ use native.Mathlib.Omega.{arith}
 use lib.ListN.{length, getD, length-map}
 use lib.Dec.{eqb}
 use borrow.Author.Tests.{eq-eqb, ne-eqb}
-use Rattle.lists.proofs.TestLaws.{both-signs}
+use Rattle.lists.proofs.TestLaws.{both-signs, look, clash, or-left, or-right}
 use Rattle.lists.proofs.SublistLaws.{element-place}
 use Rattle.masks.specs.Mask.{bit, with}
 use Rattle.masks.proofs.BitLaws.{bit-none, bit-with-same, bit-with-other}
 use Rattle.matching.specs.Matched.{Matched}
 use Rattle.matching.specs.Search.{owner}
-use Rattle.matching.proofs.Counting.{look, clash, below-cases, or-l, or-r}
+use Rattle.matching.proofs.Counting.{below-cases}
 use Rattle.matching.proofs.OwnerLaws.{owner-is}
 use Rattle.formula.specs.Format.{Literal, names, names-as, distinct}
 use Rattle.formula.specs.Models.{Model}
@@ -83,9 +83,9 @@ unfolding under names
 under-other [] a v f = refl
 under-other (l ∷ t) a v f =
     ⊎-elim
-    (λ (h : eqb (l .variable) v ≡ true). clash (or-l (eqb (l .variable) v) (names t v) h) f)
+    (λ (h : eqb (l .variable) v ≡ true). clash (or-left (eqb (l .variable) v) (names t v) h) f)
     (λ (h : eqb (l .variable) v ≡ false).
-    rw h (under-other t a v (⊎-elim (λ k. clash (or-r (eqb (l .variable) v) (names t v) k) f) (λ k. k) (look (names t v)))))
+    rw h (under-other t a v (⊎-elim (λ k. clash (or-right (eqb (l .variable) v) (names t v) k) f) (λ k. k) (look (names t v)))))
     (look (eqb (l .variable) v))
 
 -- it agrees with the trail

@@ -7,10 +7,9 @@ use mathlib.Core.Logic.{⊎-elim}
 use lib.ListN.{length}
 use borrow.Author.Tests.{lt-ltb, not-true}
 use Rattle.lists.proofs.EveryLaws.{every-element}
-use Rattle.lists.proofs.TestLaws.{and-both, and-right}
+use Rattle.lists.proofs.TestLaws.{and-both, and-right, look}
 use Rattle.masks.specs.Mask.{bit, full}
 use Rattle.masks.proofs.BitLaws.{bit-full}
-use Rattle.matching.proofs.Counting.{look}
 use Rattle.formula.specs.Format.{Literal, names}
 use Rattle.formula.specs.Models.{Model}
 use Rattle.splitting.specs.Nodes.{assign, remaining, named}

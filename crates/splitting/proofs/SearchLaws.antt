@@ -9,8 +9,7 @@ use native.Mathlib.Omega.{arith}
 use lib.ListN.{length}
 use lib.Dec.{eqb, ltb}
 use borrow.Author.Tests.{eqb-true, eq-eqb, ltb-true, ltb-false}
-use Rattle.lists.proofs.TestLaws.{or-cases}
-use Rattle.matching.proofs.Counting.{look, clash, or-l, or-r}
+use Rattle.lists.proofs.TestLaws.{or-cases, look, clash, or-left, or-right}
 use Rattle.splitting.specs.Nodes.{first-from, lowest-with, upward-from, upward}
 use Rattle.splitting.specs.Choosing.{among, last}
 
@@ -57,12 +56,12 @@ lowest-found f n i l t =
 -- the first is on the list
 pub among-here : (x : ℕ) (l : List ℕ) → among (x ∷ l) x ≡ true
 unfolding among
-among-here x l = or-l (eqb x x) (among l x) (eq-eqb x x refl)
+among-here x l = or-left (eqb x x) (among l x) (eq-eqb x x refl)
 
 -- what is on the rest is on the list
 pub among-more : (x y : ℕ) (l : List ℕ) → among l x ≡ true → among (y ∷ l) x ≡ true
 unfolding among
-among-more x y l t = or-r (eqb y x) (among l x) t
+among-more x y l t = or-right (eqb y x) (among l x) t
 
 -- what is on the list is the first or on the rest
 pub among-cases : (x y : ℕ) (l : List ℕ) → among (y ∷ l) x ≡ true → (x ≡ y) ⊎ (among l x ≡ true)

@@ -8,10 +8,9 @@ use native.Mathlib.Omega.{arith}
 use lib.Dec.{eqb}
 use borrow.Author.Tests.{eqb-true, eqb-false, not-true}
 use Rattle.lists.proofs.SublistLaws.{Within, sub-within, no-elements}
-use Rattle.lists.proofs.TestLaws.{and-left, and-right, and-both}
+use Rattle.lists.proofs.TestLaws.{and-left, and-right, and-both, look, clash, or-left, or-right}
 use Rattle.masks.specs.Mask.{full}
 use Rattle.matching.specs.Matched.{Matched}
-use Rattle.matching.proofs.Counting.{look, clash, or-l, or-r}
 use Rattle.formula.specs.Format.{Literal, names, names-as, distinct}
 use Rattle.formula.specs.Masked.{variables}
 use Rattle.formula.proofs.ClauseLaws.{named-as}
@@ -64,7 +63,7 @@ left-origin n x b cs low at = rw (O .left) (assign-sub x b (left-keeps n ds cs (
         (λ (t : eqb v x ≡ true).
         let w = named-some kept x at in
         let both : (s : Bool) → occurs (kept ++ ds) x s ≡ true =
-        λ s. occurs-append kept ds x s ∙ or-l (occurs kept x s) (occurs ds x s) (other-way kept x (kept-none x) (w .0) s (w .1)) in
+        λ s. occurs-append kept ds x s ∙ or-left (occurs kept x s) (occurs ds x s) (other-way kept x (kept-none x) (w .0) s (w .1)) in
         rw (eqb-true v x t) (pure-not (kept ++ ds) x (both true ∙ sym (both false))))
         (λ (f : eqb v x ≡ false).
         let r = left-none-pure n (assign x b cs) (below-assign n x b cs low) v in
@@ -82,7 +81,7 @@ left-origin n x b cs low at = rw (O .left) (assign-sub x b (left-keeps n ds cs (
     clear : (y : ℕ) → among (stripped n cs .noted) y ≡ true → (s : Bool) → occurs ds y s ≡ false
     clear y t s =
         ⊎-elim
-        (λ h. clash (occurs-append kept ds y s ∙ or-r (occurs kept y s) (occurs ds y s) h) (none-noted n (kept ++ ds) none cs within y t s))
+        (λ h. clash (occurs-append kept ds y s ∙ or-right (occurs kept y s) (occurs ds y s) h) (none-noted n (kept ++ ds) none cs within y t s))
         (λ f. f)
         (look (occurs ds y s))
 

@@ -7,8 +7,9 @@ use mathlib.Core.Logic.{_⊎_, inl, inr, ⊎-elim}
 use native.Mathlib.Omega.{arith}
 use lib.Dec.{eqb, ltb}
 use borrow.Author.Tests.{eqb-true, eqb-false, ltb-true, ltb-false}
+use Rattle.lists.proofs.TestLaws.{look, clash, or-left, or-right}
 use Rattle.lists.proofs.SublistLaws.{Within, sub-within}
-use Rattle.matching.proofs.Counting.{look, clash, or-l, or-r, count, count-except}
+use Rattle.matching.proofs.Counting.{count, count-except}
 use Rattle.formula.specs.Format.{Literal, names, names-as}
 use Rattle.splitting.specs.Nodes.{less, occurs, named, lowest-with}
 use Rattle.splitting.specs.Stripping.{pure, not-naming, Stripped, note, strip, stripped}
@@ -49,10 +50,10 @@ not-naming-greatest x (Sublistᴰ·cons {a = c} {l₁ = ds} {l₂ = cs} s) off =
     go true s = s
     go false s = Sublistᴰ·cons s
 not-naming-greatest x (Sublistᴰ·cons-cons {a = d} {b = c} {l₁ = ds} {l₂ = cs} e s) off =
-    go (names c x) refl (not-naming-greatest x s (λ u. ⊎-elim (λ t. clash (or-r (names-as d x u) (occurs ds x u) t) (off u)) (λ f. f) (look (occurs ds x u))))
+    go (names c x) refl (not-naming-greatest x s (λ u. ⊎-elim (λ t. clash (or-right (names-as d x u) (occurs ds x u) t) (off u)) (λ f. f) (look (occurs ds x u))))
   where
     go : (b : Bool) → names c x ≡ b → Sublistᴰ ds (not-naming x cs) → Sublistᴰ (d ∷ ds) (cond b (not-naming x cs) (c ∷ not-naming x cs))
-    go true t s = let w = names-some c x t in clash (or-l (names-as d x (w .0)) (occurs ds x (w .0)) (rw e (w .1))) (off (w .0))
+    go true t s = let w = names-some c x t in clash (or-left (names-as d x (w .0)) (occurs ds x (w .0)) (rw e (w .1))) (off (w .0))
     go false f s = Sublistᴰ·cons-cons e s
 
 -- a clause that does not name x is among them

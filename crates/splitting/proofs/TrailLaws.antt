@@ -9,8 +9,8 @@ use lib.ListN.{length}
 use lib.Dec.{eqb}
 use borrow.Author.Tests.{eqb-true, eq-eqb}
 use Rattle.lists.proofs.SublistLaws.{no-elements}
-use Rattle.lists.proofs.TestLaws.{or-cases}
-use Rattle.matching.proofs.Counting.{clash, or-l, or-r, count, count-except, except, except-i, except-ne}
+use Rattle.lists.proofs.TestLaws.{or-cases, clash, or-left, or-right}
+use Rattle.matching.proofs.Counting.{count, count-except, except, except-i, except-ne}
 use Rattle.formula.specs.Format.{Literal, names}
 use Rattle.formula.proofs.ClauseLaws.{named-as}
 use Rattle.formula.proofs.FormatLaws.{distinct-rest}
@@ -28,7 +28,7 @@ trail-count n [] T = count-none (names []) n (λ i. refl)
 trail-count n (l ∷ t) T =
     let x = l .variable in
     let r = distinct-rest l t (T .once) in
-    let here = or-l (eqb x x) (names t x) (eq-eqb x x refl) in
+    let here = or-left (eqb x x) (names t x) (eq-eqb x x refl) in
     let rest = trail-count n t (record { below = T .below .1; once = r .1 }) in
     let less = count-sub (except (names (l ∷ t)) x) (names t) n (λ i h.
     ⊎-elim
@@ -36,7 +36,7 @@ trail-count n (l ∷ t) T =
     (λ k. k)
     (or-cases (eqb x i) (names t i) (except-of (names (l ∷ t)) x i h))) in
     let more = count-sub (names t) (except (names (l ∷ t)) x) n (λ i h.
-    except-i (names (l ∷ t)) x i (or-r (eqb x i) (names t i) h) (λ e. clash h (rw e (r .0)))) in
+    except-i (names (l ∷ t)) x i (or-right (eqb x i) (names t i) h) (λ e. clash h (rw e (r .0)))) in
     omega (arith, rest, less, more, count-except (names (l ∷ t)) x n (T .below .0) here)
 
 -- a trail of fewer than n variables lacks one

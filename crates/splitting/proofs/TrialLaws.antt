@@ -7,11 +7,11 @@ use mathlib.Core.Logic.{⊎-elim}
 use native.Mathlib.Nat.{suc-mul, mul-le-mul}
 use native.Mathlib.Omega.{arith}
 use lib.ListN.{length, getD, length-map}
+use Rattle.lists.proofs.TestLaws.{clash}
 use Rattle.lists.proofs.SublistLaws.{getD-element}
 use Rattle.lists.proofs.EveryLaws.{every-of}
 use Rattle.matching.specs.Matched.{Matched, Words}
 use Rattle.matching.specs.Search.{succeeds, expansions}
-use Rattle.matching.proofs.Counting.{clash}
 use Rattle.formula.specs.Format.{Literal}
 use Rattle.formula.specs.Masked.{variables}
 use Rattle.formula.proofs.ClauseLaws.{variables-lt, named-as}

@@ -7,7 +7,8 @@ use mathlib.Core.Logic.{⊎-elim}
 use native.Mathlib.Omega.{arith}
 use lib.Dec.{ltb}
 use borrow.Author.Tests.{ltb-true, ltb-false, lt-ltb, le-ltb}
-use Rattle.matching.proofs.Counting.{look, count}
+use Rattle.lists.proofs.TestLaws.{look}
+use Rattle.matching.proofs.Counting.{count}
 use Rattle.formula.specs.Format.{Literal}
 use Rattle.splitting.specs.Nodes.{named, lowest-with}
 use Rattle.splitting.specs.Stripping.{pure, not-naming, Stripped, note, strip, stripped}
