@@ -70,6 +70,16 @@ module _ (s checkpoint results : List ℕ) (budget : ℕ) where
   unfolding walk-called
   walk-unwritten-2 h k = rw (eq-eqb _ _ h, ne-eqb _ _ k)
 
+  -- both lengths are right
+  pub walk-called-is :
+      length checkpoint ≡ 50 →
+      length results ≡ 6 →
+      (let r = walk-call s (checkpoint-in checkpoint) budget in
+      walk-called s checkpoint budget results ≡
+      record { code = 0; checkpoint = checkpoint-bytes (r .checkpoint); results = walk-row r })
+  unfolding walk-called
+  walk-called-is h k = rw (eq-eqb _ _ h, eq-eqb _ _ k)
+
   pub walk-written :
       (from : Checkpoint) (w : Walked) (left after : List ℕ) →
       length checkpoint ≡ 50 →
@@ -79,9 +89,8 @@ module _ (s checkpoint results : List ℕ) (budget : ℕ) where
       left ≡ checkpoint-bytes (checkpoint-values (w .checkpoint)) →
       after ≡ walk-row (values w) →
       walk-called s checkpoint budget results ≡ record { code = 0; checkpoint = left; results = after }
-  unfolding walk-called
   walk-written from w left after h k f e l g =
-      rw (eq-eqb _ _ h, eq-eqb _ _ k, ← f, ← e, l, g, beside (w .answer) (w .steps) (w .expansions) (checkpoint-values (w .checkpoint)))
+      rw (walk-called-is h k, ← f, ← e, l, g, beside (w .answer) (w .steps) (w .expansions) (checkpoint-values (w .checkpoint)))
 
 module _ (s checkpoint models results : List ℕ) where
   pub list-unwritten :

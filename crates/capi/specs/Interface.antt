@@ -11,7 +11,7 @@ use Rattle.matched.specs.Judge as judging
 use Rattle.matched.specs.Judge.{judge}
 use Rattle.walk.specs.Checkpoints.{Checkpoint, start}
 use Rattle.walk.specs.WalkCall.{Kind, says-model, says-spent, says-ended, says-refused, Result, walk-call}
-use Rattle.enumeration.specs.Lists.{Brought, next-models}
+use Rattle.enumeration.specs.Lists.{next-models}
 
 -- ---- results: six numbers, of which the first says the answer, and the third and fourth are the refusal's number and place
 
@@ -106,6 +106,14 @@ walk-called s checkpoint budget results =
     cond (fifty checkpoint && six results)
     (record { code = 0; checkpoint = checkpoint-bytes (r .checkpoint); results = walk-row r })
     (record { code = 1; checkpoint = checkpoint; results = results })
+
+-- What a list of such calls writes into the results, budget by budget. All get the same input, and nobody else writes the checkpoint
+-- or the results between them.
+unfoldable pub walk-rows : List ℕ → List ℕ → List ℕ → List ℕ → List (List ℕ)
+walk-rows s checkpoint results [] = []
+walk-rows s checkpoint results (b ∷ bs) =
+    let r = walk-called s checkpoint b results in
+    r .results ∷ walk-rows s (r .checkpoint) (r .results) bs
 
 -- norwythai_list
 pub record ListCalled : Type 0 where

@@ -45,7 +45,9 @@ returns-3 c =
     let m = p .before .before .before .before .before in
     let e = m .before .before .before .before in
     let a = e .before .before .before .before .before .before .args in
-    list-written (a .input .now) (a .checkpoint .now) (a .models .now) (a .results .now) _ _ _ _ _ (e .before .if1 .left) (e .if2 .left)
+    list-written (a .input .now) (a .checkpoint .now) (a .models .now) (a .results .now) _ _ _ _ _
+    (e .before .if1 .left)
+    (e .if2 .left)
     (m .before .before .checkpoint-in .ensures)
     (m .list .ensures)
     (p .put-checkpoint .ensures)

@@ -19,7 +19,9 @@ same-length c = search needs
 returns-2 : tie.Need-returns-2
 returns-2 c =
     let m = c .before .before .before .before in
-    start-written (m .before .before .before .args .checkpoint .now) _ _ (m .before .if1 .left) (m .start-checkpoint .ensures) (c .before .before .put-checkpoint .ensures)
+    start-written (m .before .before .before .args .checkpoint .now) _ _ (m .before .if1 .left)
+    (m .start-checkpoint .ensures)
+    (c .before .before .put-checkpoint .ensures)
 
 pub norwythai-start-spec : {M : Type 1} → statement M
 norwythai-start-spec =

@@ -42,7 +42,9 @@ returns-3 c =
     let w = p .before .before .before in
     let e = w .before .before .before in
     let a = e .before .before .before .before .before .args in
-    walk-written (a .input .now) (a .checkpoint .now) (a .results .now) (a .budget) _ (w .walk .result) _ _ (e .before .if1 .left) (e .if2 .left)
+    walk-written (a .input .now) (a .checkpoint .now) (a .results .now) (a .budget) _ (w .walk .result) _ _
+    (e .before .if1 .left)
+    (e .if2 .left)
     (w .before .checkpoint-in .ensures)
     (w .walk .ensures)
     (p .put-checkpoint .ensures)
