@@ -21,9 +21,9 @@ pub fn encode(variables: usize, clauses: &Clauses) -> Vec<u8> {
 /// Small, middle and large numbers of variables.
 fn some_variables(random: &mut Random) -> usize {
     match random.below(10) {
-        0..=4 => random.between(1, 8),
-        5..=7 => random.between(9, 24),
-        8 => random.between(25, 48),
+        0..=3 => random.between(1, 8),
+        4..=6 => random.between(9, 24),
+        7 | 8 => random.between(25, 48),
         _ => 48,
     }
 }
@@ -58,12 +58,32 @@ fn some_clauses(
         .collect()
 }
 
-/// A ring of clauses (i, not i + 1, i + 3), over all variables.
-fn ring(variables: usize) -> Clauses {
+/// A ring of clauses, over all variables: i, not i + 1, i + 3, not i + 7, as many of these as the length. Each variable has both
+/// signs.
+fn ring(variables: usize, length: usize) -> Clauses {
     let at = |i: usize| (i % variables) as i8 + 1;
     (0..variables)
-        .map(|i| vec![at(i), -at(i + 1), at(i + 3)])
+        .map(|i| [at(i), -at(i + 1), at(i + 3), -at(i + 7)][..length].to_vec())
         .collect()
+}
+
+/// Clauses in which each variable stands as often as all others, with both signs and in random places. A clause that would name
+/// one twice is shorter.
+fn balanced(random: &mut Random, variables: usize, length: usize) -> Clauses {
+    let mut literals: Vec<i8> = Vec::new();
+    for i in 0..length as i8 {
+        let sign = if i % 2 == 0 { 1 } else { -1 };
+        literals.extend((1..=variables as i8).map(|v| sign * v));
+    }
+    let mut clauses = vec![Vec::new(); variables];
+    for at in 0..literals.len() {
+        let literal = literals.swap_remove(random.below(literals.len()));
+        let clause: &mut Vec<i8> = &mut clauses[at / length];
+        if !clause.contains(&literal) && !clause.contains(&-literal) {
+            clause.push(literal);
+        }
+    }
+    clauses
 }
 
 /// Stairs: pairs of variables at the top, with all steps or with none of them, and clauses (1, .., i - 1, not i) for the steps
@@ -85,20 +105,24 @@ fn stairs(variables: usize, pairs: usize) -> Clauses {
 /// A readable formula, matched or not.
 pub fn some_formula(random: &mut Random) -> Vec<u8> {
     let n = some_variables(random);
-    let clauses = match random.below(9) {
-        0 | 1 => some_clauses(random, n, n, (3, 3), 50),
-        2 => {
+    let clauses = match random.below(12) {
+        0 => some_clauses(random, n, n, (3, 3), 50),
+        1 => {
             let count = random.between(0, n);
             some_clauses(random, n, count, (1, 8), 50)
         }
-        3 => some_clauses(random, n, n, (2, 2), 0),
-        4 if n >= 4 => ring(n),
+        2 => some_clauses(random, n, n, (2, 2), 0),
+        3 | 4 if n >= 8 => ring(n, random.between(2, 4)),
         5 => some_clauses(random, n, n / 4, (3, 3), 50),
-        6 if n >= 5 => {
+        6 | 7 if n >= 5 => {
             let pairs = random.between(1, (n - 1) / 2);
             stairs(n, pairs)
         }
-        7 => some_clauses(random, n, n, (n / 2, n), 40),
+        8 => some_clauses(random, n, n, (n / 2, n), 40),
+        9 | 10 => {
+            let length = random.between(2, 4);
+            balanced(random, n, length)
+        }
         _ => {
             let count = random.between(0, 96);
             some_clauses(random, n, count, (0, 4), 50)
@@ -171,9 +195,9 @@ fn noise(random: &mut Random) -> Vec<u8> {
 /// Any input.
 pub fn some_input(random: &mut Random) -> Vec<u8> {
     match random.below(20) {
-        0..=9 => some_matched_formula(random),
-        10..=12 => some_formula(random),
-        13..=16 => damaged(random),
+        0..=11 => some_matched_formula(random),
+        12 | 13 => some_formula(random),
+        14..=16 => damaged(random),
         17 | 18 => formula_at_a_limit(random),
         _ => noise(random),
     }
@@ -194,7 +218,9 @@ pub fn some_budget(random: &mut Random) -> u32 {
 
 /// The checkpoint cut to a length, with a mode, and with the last value turned or not. The walk often has it.
 fn cut(random: &mut Random, mut checkpoint: Checkpoint) -> Checkpoint {
-    let length = random.below(usize::from(checkpoint[1]).min(48) + 1);
+    // Short ones are more likely: most trials are made near the root.
+    let longest = random.below(usize::from(checkpoint[1]).min(48) + 1);
+    let length = random.below(longest + 1);
     checkpoint[0] = random.pick(&[1, 2, 3]);
     checkpoint[1] = length as u8;
     checkpoint[2 + length..].fill(0);

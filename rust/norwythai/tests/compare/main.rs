@@ -474,7 +474,7 @@ fn every_act_answers_as_the_reference() {
     assert!(tally.models >= wanted / 20);
     assert!(tally.spent >= wanted / 20);
     assert!(tally.ended >= wanted / 100);
-    assert!(tally.with_trials >= wanted / 100);
+    assert!(tally.with_trials >= wanted / 50);
     assert!(tally.listed >= wanted / 20);
     for number in 1..=12 {
         assert!(tally.refusals[number] >= wanted / 2000, "refusal {number}");
