@@ -13,15 +13,11 @@
 
 enum {
     INPUT_MOST = 16384, /* a readable input has at most 9315 bytes */
-    BUFFER_LENGTH = 96,
-    CHECKPOINT_LENGTH = 50,
-    RESULTS_LENGTH = 6,
     PAGE_MOST = 1000
 };
 
-/* What stands where in the results, and the answers. */
+/* What stands where in the results. */
 enum { ANSWER = 0, NUMBER = 2, PLACE = 3, VARIABLES = 4, WRITTEN = 4 };
-enum { ENDED = 2, REFUSED = 3 };
 
 static int fail(const char *why) {
     fprintf(stderr, "pages: %s\n", why);
@@ -58,8 +54,8 @@ static int print_assignment(uint64_t assignment, uint64_t variables) {
 int main(int argc, char **argv) {
     static uint8_t input[INPUT_MOST];
     static uint64_t models[PAGE_MOST];
-    uint8_t buffer[BUFFER_LENGTH], checkpoint[CHECKPOINT_LENGTH];
-    uint64_t results[RESULTS_LENGTH];
+    uint8_t buffer[NORWYTHAI_BUFFER], checkpoint[NORWYTHAI_CHECKPOINT];
+    uint64_t results[NORWYTHAI_RESULTS];
     size_t length;
 
     long size = argc == 3 ? strtol(argv[2], NULL, 10) : 0;
@@ -71,23 +67,24 @@ int main(int argc, char **argv) {
     }
 
     /* Whether the formula is matched, and how many variables it has. */
-    if (norwythai_judge(input, length, buffer, BUFFER_LENGTH, results, RESULTS_LENGTH) != 0) {
+    if (norwythai_judge(input, length, buffer, NORWYTHAI_BUFFER, results, NORWYTHAI_RESULTS) != 0) {
         return fail("an array has the wrong length");
     }
-    if (results[ANSWER] == REFUSED) {
+    if (results[ANSWER] == NORWYTHAI_REFUSED) {
         return refused(results);
     }
     uint64_t variables = results[VARIABLES];
 
-    if (norwythai_start(checkpoint, CHECKPOINT_LENGTH) != 0) {
+    if (norwythai_start(checkpoint, NORWYTHAI_CHECKPOINT) != 0) {
         return fail("an array has the wrong length");
     }
     for (unsigned long page = 1;; page++) {
         /* The checkpoint is all that goes from one page to the next: it may be kept, sent and brought back in between. */
-        if (norwythai_list(input, length, checkpoint, CHECKPOINT_LENGTH, models, (size_t)size, results, RESULTS_LENGTH) != 0) {
+        if (norwythai_list(input, length, checkpoint, NORWYTHAI_CHECKPOINT, models, (size_t)size, results,
+                           NORWYTHAI_RESULTS) != 0) {
             return fail("an array has the wrong length");
         }
-        if (results[ANSWER] == REFUSED) {
+        if (results[ANSWER] == NORWYTHAI_REFUSED) {
             return refused(results);
         }
         if (results[WRITTEN] > 0 && printf("page %lu\n", page) < 0) {
@@ -98,7 +95,7 @@ int main(int argc, char **argv) {
                 return fail("the output can't be written");
             }
         }
-        if (results[ANSWER] == ENDED) {
+        if (results[ANSWER] == NORWYTHAI_ENDED) {
             break;
         }
     }
