@@ -10,16 +10,25 @@ const FOLDER: &str = "NORWYTHAI_LIB_DIR";
 fn main() {
     println!("cargo:rerun-if-env-changed={FOLDER}");
     let folder = match env::var_os(FOLDER) {
-        Some(folder) => PathBuf::from(folder),
+        Some(folder) => given(PathBuf::from(folder)),
         None => prove(&repository()),
     };
     let library = folder.join("libcapi.a");
     if !library.is_file() {
         fail(&format!("there is no {}", library.display()));
     }
-    println!("cargo:rerun-if-changed={}", library.display());
     println!("cargo:rustc-link-search=native={}", folder.display());
     println!("cargo:rustc-link-lib=static=capi");
+}
+
+/// The folder that the caller names. A new library there is linked anew; one that this script builds is not watched, as its
+/// sources are.
+fn given(folder: PathBuf) -> PathBuf {
+    println!(
+        "cargo:rerun-if-changed={}",
+        folder.join("libcapi.a").display()
+    );
+    folder
 }
 
 /// The repository's root: two folders above this package.

@@ -145,7 +145,7 @@ pub fn some_matched_formula(random: &mut Random) -> Vec<u8> {
 fn formula_at_a_limit(random: &mut Random) -> Vec<u8> {
     let n = random.pick(&[1, 2, 48]);
     let count = random.pick(&[0, 1, 95, 96, 97, 98]);
-    let lengths = random.pick(&[(0, 0), (1, 1), (0, 48)]);
+    let lengths = random.pick(&[(0, 0), (1, 1), (0, 48), (48, 48)]);
     let mut input = encode(n, &some_clauses(random, n, count, lengths, 50));
     if random.percent(50) {
         input[1] = random.pick(&[0, 1, 48, 49, 255]);
