@@ -4,8 +4,8 @@ use crate::acts::{list, Answer};
 use crate::{Assignment, Checkpoint, Refusal};
 use std::iter::FusedIterator;
 
-/// The models of a page, at most.
-const PAGE: usize = 64;
+/// The most models that are listed at once. A list call tests its checkpoint, which takes as long as many models.
+const MOST_AT_ONCE: usize = 256;
 
 /// The models of an encoded formula, in the order of the walk. It may be stopped anywhere: its [`checkpoint`](Models::checkpoint)
 /// says where, and [`resume`](Models::resume) goes on from there. After a refusal, which comes first if it comes, and after the
@@ -33,9 +33,8 @@ pub struct Models<'a> {
     before: Checkpoint,
     /// Where the page ends: at its last model, or with the walk.
     after: Checkpoint,
-    page: [u64; PAGE],
-    /// How many models the page has.
-    written: usize,
+    /// The models listed last.
+    page: Vec<u64>,
     /// How many of them were given.
     given: usize,
     /// Whether no page comes after this one.
@@ -54,8 +53,7 @@ impl<'a> Models<'a> {
             input,
             before: checkpoint,
             after: checkpoint,
-            page: [0; PAGE],
-            written: 0,
+            page: Vec::new(),
             given: 0,
             last: false,
         }
@@ -63,26 +61,27 @@ impl<'a> Models<'a> {
 
     /// Where the walk stands after what was given so far: the end counts as given once `next` has said that nothing is left.
     pub fn checkpoint(&self) -> Checkpoint {
-        if self.given == self.written && !(self.last && self.written > 0) {
+        if self.given == self.page.len() && !(self.last && self.given > 0) {
             return self.after;
         }
-        // In the middle of the page: go there again.
+        // Within the page: go there again.
         let mut checkpoint = self.before;
-        let mut again = [0; PAGE];
-        list(self.input, &mut checkpoint, &mut again[..self.given])
+        list(self.input, &mut checkpoint, &mut vec![0; self.given])
             .expect("this page was listed before");
         checkpoint
     }
 
     /// Lists the next page: first one model, so that it comes soon, and then twice as many each time.
     fn turn(&mut self) -> Result<(), Refusal> {
-        let wanted = (2 * self.written).clamp(1, PAGE);
+        let wanted = (2 * self.page.len()).clamp(1, MOST_AT_ONCE);
         self.before = self.after;
         self.given = 0;
-        self.written = 0;
         self.last = true;
-        let listed = list(self.input, &mut self.after, &mut self.page[..wanted])?;
-        self.written = listed.written;
+        self.page.clear();
+        let mut page = vec![0; wanted];
+        let listed = list(self.input, &mut self.after, &mut page)?;
+        page.truncate(listed.written);
+        self.page = page;
         self.last = listed.answer == Answer::Ended;
         Ok(())
     }
@@ -92,19 +91,19 @@ impl Iterator for Models<'_> {
     type Item = Result<Assignment, Refusal>;
 
     fn next(&mut self) -> Option<Self::Item> {
-        if self.given == self.written && !self.last {
+        if self.given == self.page.len() && !self.last {
             if let Err(refusal) = self.turn() {
                 return Some(Err(refusal));
             }
         }
-        if self.given == self.written {
+        let Some(model) = self.page.get(self.given) else {
             // The end is given: the page is done with.
+            self.page.clear();
             self.given = 0;
-            self.written = 0;
             return None;
-        }
+        };
         self.given += 1;
-        Some(Ok(Assignment::from_bits(self.page[self.given - 1])))
+        Some(Ok(Assignment::from_bits(*model)))
     }
 }
 

@@ -155,7 +155,7 @@ fn the_iterator_has_the_checkpoint_of_each_model() {
         let mut walker = reference::Walker::start(&formula).unwrap();
         let mut models = Models::new(&input);
         assert_eq!(models.checkpoint().as_bytes(), &walker.checkpoint());
-        for _ in 0..150 {
+        for _ in 0..300 {
             let expected = walker.advance(96).answer;
             let found = models
                 .next()
@@ -169,7 +169,7 @@ fn the_iterator_has_the_checkpoint_of_each_model() {
             compared += 1;
         }
     }
-    assert!(compared == 60 * 150);
+    assert!(compared == 60 * 300);
 }
 
 #[test]
