@@ -1,7 +1,7 @@
 //! A plain implementation of document 01, which shares nothing with the proved one: the oracle that its answers are compared
 //! with, and the baseline of its speed.
 //!
-//! The acts are [`check`], [`judge`], [`start_checkpoint`], [`walk`] and [`list`]; [`print`] writes the printed walk. Variables
+//! The acts are [`check`], [`judge`], [`start_checkpoint`], [`walk`] and [`list`]; [`print()`] writes the printed walk. Variables
 //! count from 0 in the code, so that variable v is bit v of a mask; in bytes they count from 1 (switch s is variable s - 1).
 
 #![forbid(unsafe_code)]
