@@ -1,0 +1,103 @@
+/* pages FILE SIZE: prints the models of the encoded formula in FILE, a digit for each variable, in pages of SIZE models.
+ *
+ * In this folder, once `rt staticlib capi` has built the library:
+ *
+ *     cc -std=c99 -o pages pages.c ../../target/staticlib/libcapi.a
+ *     ./pages ../two_variables.bin 10
+ */
+#include <stdint.h>
+#include <stdio.h>
+#include <stdlib.h>
+
+#include "../../include/norwythai.h"
+
+enum {
+    INPUT_MOST = 16384, /* a readable input has at most 9315 bytes */
+    PAGE_MOST = 1000
+};
+
+/* What stands where in the results. */
+enum { ANSWER = 0, NUMBER = 2, PLACE = 3, VARIABLES = 4, WRITTEN = 4 };
+
+static int fail(const char *why) {
+    fprintf(stderr, "pages: %s\n", why);
+    return EXIT_FAILURE;
+}
+
+static int refused(const uint64_t *results) {
+    fprintf(stderr, "pages: refused %llu at %llu\n", (unsigned long long)results[NUMBER],
+            (unsigned long long)results[PLACE]);
+    return EXIT_FAILURE;
+}
+
+/* Reads a whole file of at most INPUT_MOST bytes. Returns 0 if that could be done. */
+static int read_input(const char *name, uint8_t *input, size_t *length) {
+    FILE *file = fopen(name, "rb");
+    if (file == NULL) {
+        return 1;
+    }
+    *length = fread(input, 1, INPUT_MOST, file);
+    int bad = ferror(file) || (*length == INPUT_MOST && getc(file) != EOF);
+    return fclose(file) != 0 || bad;
+}
+
+/* Prints the first variables of an assignment, variable 1 first. Returns 0 if that could be done. */
+static int print_assignment(uint64_t assignment, uint64_t variables) {
+    for (uint64_t v = 0; v < variables; v++) {
+        if (putchar((assignment >> v & 1) != 0 ? '1' : '0') == EOF) {
+            return 1;
+        }
+    }
+    return putchar('\n') == EOF;
+}
+
+int main(int argc, char **argv) {
+    static uint8_t input[INPUT_MOST];
+    static uint64_t models[PAGE_MOST];
+    uint8_t buffer[NORWYTHAI_BUFFER], checkpoint[NORWYTHAI_CHECKPOINT];
+    uint64_t results[NORWYTHAI_RESULTS];
+    size_t length;
+
+    long size = argc == 3 ? strtol(argv[2], NULL, 10) : 0;
+    if (size < 1 || size > PAGE_MOST) {
+        return fail("usage: pages FILE SIZE, with a size of 1 to 1000");
+    }
+    if (read_input(argv[1], input, &length) != 0) {
+        return fail("the file can't be read, or is too long");
+    }
+
+    /* Whether the formula is matched, and how many variables it has. */
+    if (norwythai_judge(input, length, buffer, NORWYTHAI_BUFFER, results, NORWYTHAI_RESULTS) != 0) {
+        return fail("an array has the wrong length");
+    }
+    if (results[ANSWER] == NORWYTHAI_REFUSED) {
+        return refused(results);
+    }
+    uint64_t variables = results[VARIABLES];
+
+    if (norwythai_start(checkpoint, NORWYTHAI_CHECKPOINT) != 0) {
+        return fail("an array has the wrong length");
+    }
+    for (unsigned long page = 1;; page++) {
+        /* The checkpoint is all that goes from one page to the next: it may be kept, sent and brought back in between. */
+        if (norwythai_list(input, length, checkpoint, NORWYTHAI_CHECKPOINT, models, (size_t)size, results,
+                           NORWYTHAI_RESULTS) != 0) {
+            return fail("an array has the wrong length");
+        }
+        if (results[ANSWER] == NORWYTHAI_REFUSED) {
+            return refused(results);
+        }
+        if (results[WRITTEN] > 0 && printf("page %lu\n", page) < 0) {
+            return fail("the output can't be written");
+        }
+        for (uint64_t i = 0; i < results[WRITTEN]; i++) {
+            if (print_assignment(models[i], variables) != 0) {
+                return fail("the output can't be written");
+            }
+        }
+        if (results[ANSWER] == NORWYTHAI_ENDED) {
+            break;
+        }
+    }
+    return fflush(stdout) == 0 ? EXIT_SUCCESS : fail("the output can't be written");
+}

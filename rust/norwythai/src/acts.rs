@@ -1,0 +1,277 @@
+//! The acts: the library's answers as types.
+
+use crate::ffi::{self, Results};
+use crate::formula::MAX_CLAUSES;
+use crate::{Assignment, Checkpoint, Refusal};
+use std::error::Error;
+use std::fmt;
+
+/// Whether the assignment is a model of the encoded formula, also of one that is unmatched.
+///
+/// ```
+/// use norwythai::{check, Assignment, Refusal};
+///
+/// let input = [1, 2, 2, 1, 2, 2, 4, 3, 1, 3, 2, 4, 5];
+/// assert_eq!(check(&input, Assignment::from_bits(0b01)), Ok(true));
+/// assert_eq!(check(&input, Assignment::from_bits(0b11)), Ok(false));
+/// assert_eq!(check(&input, Assignment::from_bits(0b100)), Err(Refusal::StrayVariable));
+/// ```
+pub fn check(input: &[u8], assignment: Assignment) -> Result<bool, Refusal> {
+    let results = accept(ffi::check(input, assignment.bits()))?;
+    match results[ANSWER] {
+        0 => Ok(true),
+        1 => Ok(false),
+        _ => broken(results),
+    }
+}
+
+/// The numbers of variables and clauses of a matched formula.
+#[derive(Clone, Copy, Debug, PartialEq, Eq)]
+pub struct Size {
+    /// The number of variables.
+    pub variables: u8,
+    /// The number of clauses.
+    pub clauses: usize,
+}
+
+/// Judge, with a lent buffer of at least 96 bytes. If the formula is matched, byte i is then the number, from 1, of the
+/// variable of clause i, counted from 0. If it is unmatched, byte i is 1 if clause i belongs to the violator, else 0. As many
+/// bytes are written as there are clauses, and none at any other refusal.
+///
+/// ```
+/// use norwythai::{judge_into, Refusal};
+///
+/// let mut buffer = [7; 96];
+/// let size = judge_into(&[1, 2, 2, 1, 2, 2, 4, 2, 1, 4, 5], &mut buffer)?;
+/// assert_eq!((size.variables, size.clauses), (2, 2));
+/// assert_eq!(buffer[..3], [2, 1, 7]);
+/// # Ok::<(), Refusal>(())
+/// ```
+pub fn judge_into(input: &[u8], buffer: &mut [u8]) -> Result<Size, Refusal> {
+    let results = accept(ffi::judge(input, buffer))?;
+    match (results[ANSWER], u8::try_from(results[FIRST_COUNT])) {
+        (0, Ok(variables)) => Ok(Size {
+            variables,
+            clauses: index(results, SECOND_COUNT),
+        }),
+        _ => broken(results),
+    }
+}
+
+/// A variable of its own for each clause.
+#[derive(Clone, Debug, PartialEq, Eq)]
+pub struct Matching {
+    variables: u8,
+    matched: Vec<u8>,
+}
+
+impl Matching {
+    /// The number of the formula's variables.
+    pub fn variables(&self) -> u8 {
+        self.variables
+    }
+
+    /// The number of the formula's clauses.
+    pub fn clauses(&self) -> usize {
+        self.matched.len()
+    }
+
+    /// By clause, in the formula's order: the number, from 1, of its variable.
+    pub fn matched(&self) -> &[u8] {
+        &self.matched
+    }
+}
+
+/// Why judge gives no matching.
+#[derive(Clone, Debug, PartialEq, Eq)]
+pub enum JudgeError {
+    /// The clauses can't be matched.
+    Unmatched {
+        /// The violator: clauses, counted from 0 and upward, that name one variable fewer than they are.
+        violator: Vec<usize>,
+    },
+    /// The input is not a formula.
+    Refused(Refusal),
+}
+
+impl JudgeError {
+    /// The refusal with its number and place.
+    pub fn refusal(&self) -> Refusal {
+        match self {
+            JudgeError::Unmatched { violator } => Refusal::Unmatched {
+                clauses: violator.len(),
+            },
+            JudgeError::Refused(refusal) => *refusal,
+        }
+    }
+}
+
+/// As the refusal, and with the rules' numbers, counted from 1, if they can't be paired.
+impl fmt::Display for JudgeError {
+    fn fmt(&self, f: &mut fmt::Formatter) -> fmt::Result {
+        write!(f, "{}", self.refusal())?;
+        if let JudgeError::Unmatched { violator } = self {
+            let numbers: Vec<String> = violator.iter().map(|i| (i + 1).to_string()).collect();
+            let word = if numbers.len() == 1 { "rule" } else { "rules" };
+            write!(f, " ({word} {})", numbers.join(", "))?;
+        }
+        Ok(())
+    }
+}
+
+impl Error for JudgeError {}
+
+/// Judge: matches each clause with a variable that it names, none used twice, or says which clauses stand in the way.
+///
+/// ```
+/// use norwythai::{judge, JudgeError};
+///
+/// let matching = judge(&[1, 2, 2, 1, 2, 2, 4, 2, 1, 4, 5])?;
+/// assert_eq!(matching.matched(), [2, 1]);
+///
+/// // The second and the third clause name only variable 2.
+/// let error = judge(&[1, 2, 2, 1, 4, 2, 2, 4, 3, 2, 4, 5]).unwrap_err();
+/// assert_eq!(error, JudgeError::Unmatched { violator: vec![1, 2] });
+/// assert_eq!((error.refusal().number(), error.refusal().place()), (10, 2));
+/// # Ok::<(), JudgeError>(())
+/// ```
+pub fn judge(input: &[u8]) -> Result<Matching, JudgeError> {
+    let mut buffer = [0; MAX_CLAUSES];
+    match judge_into(input, &mut buffer) {
+        Ok(Size { variables, clauses }) => Ok(Matching {
+            variables,
+            matched: buffer[..clauses].to_vec(),
+        }),
+        Err(Refusal::Unmatched { .. }) => Err(JudgeError::Unmatched {
+            violator: (0..buffer.len()).filter(|i| buffer[*i] == 1).collect(),
+        }),
+        Err(refusal) => Err(JudgeError::Refused(refusal)),
+    }
+}
+
+/// What stopped a walk.
+#[derive(Clone, Copy, Debug, PartialEq, Eq)]
+pub enum Answer {
+    /// A model.
+    Model(Assignment),
+    /// As many steps as the budget were made, and neither a model nor the end came.
+    Spent,
+    /// All models have come.
+    Ended,
+}
+
+/// What a walk call gives.
+#[derive(Clone, Copy, Debug, PartialEq, Eq)]
+pub struct Walked {
+    /// What stopped it.
+    pub answer: Answer,
+    /// The steps that it made: each assigns a variable or undoes the last assigned one.
+    pub steps: u32,
+    /// The clauses taken off the queues of all matchings that were tried in choosing variables.
+    pub expansions: u64,
+}
+
+/// Goes on from the checkpoint until a model or the end comes, or as many steps as the budget are made. The checkpoint becomes
+/// the one to go on from; at a refusal it stays. A budget of 96 always brings a model or the end.
+///
+/// ```
+/// use norwythai::{walk, Answer, Assignment, Checkpoint};
+///
+/// let input = [1, 2, 2, 1, 2, 2, 4, 3, 1, 3, 2, 4, 5];
+/// let mut checkpoint = Checkpoint::start();
+/// assert_eq!(walk(&input, &mut checkpoint, 1)?.answer, Answer::Spent);
+/// let walked = walk(&input, &mut checkpoint, 96)?;
+/// assert_eq!(walked.answer, Answer::Model(Assignment::from_bits(0b10)));
+/// assert_eq!((walked.steps, walked.expansions), (1, 0));
+/// # Ok::<(), norwythai::Refusal>(())
+/// ```
+pub fn walk(input: &[u8], checkpoint: &mut Checkpoint, budget: u32) -> Result<Walked, Refusal> {
+    let results = accept(ffi::walk(input, checkpoint.bytes_mut(), budget))?;
+    match (answer(results), u32::try_from(results[FIRST_COUNT])) {
+        (Some(answer), Ok(steps)) => Ok(Walked {
+            answer,
+            steps,
+            expansions: results[SECOND_COUNT],
+        }),
+        _ => broken(results),
+    }
+}
+
+/// What a list call gives.
+#[derive(Clone, Copy, Debug, PartialEq, Eq)]
+pub struct Listed {
+    /// How many models were written, from the front of the slice.
+    pub written: usize,
+    /// A model, the last one written, if the slice is full; the end, if it came before that; spent, if the slice is empty and
+    /// the walk hasn't ended.
+    pub answer: Answer,
+}
+
+/// Fills the slice with the next models, as [`walk`] calls with a budget of 96 would, and tests the checkpoint only once. The
+/// checkpoint becomes the one to go on from; at a refusal it stays.
+///
+/// ```
+/// use norwythai::{list, Answer, Checkpoint};
+///
+/// let input = [1, 2, 2, 1, 2, 2, 4, 3, 1, 3, 2, 4, 5];
+/// let mut models = [0; 3];
+/// let listed = list(&input, &mut Checkpoint::start(), &mut models)?;
+/// assert_eq!((listed.written, listed.answer), (2, Answer::Ended));
+/// assert_eq!(models[..2], [0b10, 0b01]);
+/// # Ok::<(), norwythai::Refusal>(())
+/// ```
+pub fn list(
+    input: &[u8],
+    checkpoint: &mut Checkpoint,
+    models: &mut [u64],
+) -> Result<Listed, Refusal> {
+    let results = accept(ffi::list(input, checkpoint.bytes_mut(), models))?;
+    match answer(results) {
+        Some(answer) => Ok(Listed {
+            written: index(results, FIRST_COUNT),
+            answer,
+        }),
+        None => broken(results),
+    }
+}
+
+/// Where things stand in the results.
+const ANSWER: usize = 0;
+const MODEL: usize = 1;
+const NUMBER: usize = 2;
+const PLACE: usize = 3;
+const FIRST_COUNT: usize = 4;
+const SECOND_COUNT: usize = 5;
+
+/// The answer that says refused.
+const REFUSED: u64 = 3;
+
+/// The results, if they are no refusal.
+fn accept(results: Results) -> Result<Results, Refusal> {
+    if results[ANSWER] != REFUSED {
+        return Ok(results);
+    }
+    match Refusal::from_parts(results[NUMBER], index(results, PLACE)) {
+        Some(refusal) => Err(refusal),
+        None => broken(results),
+    }
+}
+
+fn answer(results: Results) -> Option<Answer> {
+    match results[ANSWER] {
+        0 => Some(Answer::Model(Assignment::from_bits(results[MODEL]))),
+        1 => Some(Answer::Spent),
+        2 => Some(Answer::Ended),
+        _ => None,
+    }
+}
+
+/// A count or an offset that is at most a slice's length.
+fn index(results: Results, at: usize) -> usize {
+    usize::try_from(results[at]).unwrap_or_else(|_| broken(results))
+}
+
+/// The proved library never writes such results.
+fn broken(results: Results) -> ! {
+    panic!("the library doesn't keep its interface: {results:?}")
+}

@@ -1,0 +1,140 @@
+//! The C functions of the proved library, and the only unsafe code of this crate.
+//!
+//! Each function here lends the library only whole slices, with their own lengths, for the time of the call; the library reads
+//! and writes nothing else and keeps no pointer.
+
+use crate::checkpoint::Checkpoint;
+
+/// What every act but start writes, by its index: the answer, a model, a refusal's number and place, and two counts.
+pub(crate) type Results = [u64; 6];
+
+extern "C" {
+    fn norwythai_check(
+        input: *const u8,
+        input_length: usize,
+        assignment: u64,
+        results: *mut u64,
+        results_length: usize,
+    ) -> u32;
+    fn norwythai_judge(
+        input: *const u8,
+        input_length: usize,
+        buffer: *mut u8,
+        buffer_length: usize,
+        results: *mut u64,
+        results_length: usize,
+    ) -> u32;
+    fn norwythai_start(checkpoint: *mut u8, checkpoint_length: usize) -> u32;
+    fn norwythai_walk(
+        input: *const u8,
+        input_length: usize,
+        checkpoint: *mut u8,
+        checkpoint_length: usize,
+        budget: u32,
+        results: *mut u64,
+        results_length: usize,
+    ) -> u32;
+    fn norwythai_list(
+        input: *const u8,
+        input_length: usize,
+        checkpoint: *mut u8,
+        checkpoint_length: usize,
+        models: *mut u64,
+        models_length: usize,
+        results: *mut u64,
+        results_length: usize,
+    ) -> u32;
+}
+
+/// The library returns 1 only for arrays of other lengths than it asks for.
+fn require(returned: u32) {
+    assert_eq!(returned, 0, "the library refuses the lengths of its arrays");
+}
+
+pub(crate) fn check(input: &[u8], assignment: u64) -> Results {
+    let mut results = [0; 6];
+    // SAFETY: `input` may be read and `results` written for the lengths given, and they do not overlap.
+    let returned = unsafe {
+        norwythai_check(
+            input.as_ptr(),
+            input.len(),
+            assignment,
+            results.as_mut_ptr(),
+            results.len(),
+        )
+    };
+    require(returned);
+    results
+}
+
+pub(crate) fn judge(input: &[u8], buffer: &mut [u8]) -> Results {
+    let mut results = [0; 6];
+    // SAFETY: `input` may be read, `buffer` and `results` written for the lengths given, and no two of them overlap.
+    let returned = unsafe {
+        norwythai_judge(
+            input.as_ptr(),
+            input.len(),
+            buffer.as_mut_ptr(),
+            buffer.len(),
+            results.as_mut_ptr(),
+            results.len(),
+        )
+    };
+    require(returned);
+    results
+}
+
+pub(crate) fn start() -> [u8; Checkpoint::LENGTH] {
+    let mut checkpoint = [0; Checkpoint::LENGTH];
+    // SAFETY: `checkpoint` may be written for the length given.
+    let returned = unsafe { norwythai_start(checkpoint.as_mut_ptr(), checkpoint.len()) };
+    require(returned);
+    checkpoint
+}
+
+pub(crate) fn walk(
+    input: &[u8],
+    checkpoint: &mut [u8; Checkpoint::LENGTH],
+    budget: u32,
+) -> Results {
+    let mut results = [0; 6];
+    // SAFETY: `input` may be read, `checkpoint` and `results` read and written for the lengths given, and no two of them
+    // overlap.
+    let returned = unsafe {
+        norwythai_walk(
+            input.as_ptr(),
+            input.len(),
+            checkpoint.as_mut_ptr(),
+            checkpoint.len(),
+            budget,
+            results.as_mut_ptr(),
+            results.len(),
+        )
+    };
+    require(returned);
+    results
+}
+
+pub(crate) fn list(
+    input: &[u8],
+    checkpoint: &mut [u8; Checkpoint::LENGTH],
+    models: &mut [u64],
+) -> Results {
+    let mut results = [0; 6];
+    // SAFETY: `input` may be read, `checkpoint`, `models` and `results` read and written for the lengths given, and no two of
+    // them overlap.
+    let returned = unsafe {
+        norwythai_list(
+            input.as_ptr(),
+            input.len(),
+            checkpoint.as_mut_ptr(),
+            checkpoint.len(),
+            models.as_mut_ptr(),
+            models.len(),
+            results.as_mut_ptr(),
+            results.len(),
+        )
+    };
+    require(returned);
+    results
+}

@@ -1,0 +1,54 @@
+//! The models of matched formulas, one after the other, by a library that is proved.
+//!
+//! A formula has up to 48 variables and 96 clauses. It is *matched* if each clause can have a variable of its own among those
+//! that it names. The library reads an encoded formula, says whether an assignment is a model ([`check`]), matches the clauses
+//! ([`judge`]), and lists all models of a matched formula ([`walk`], [`list`], [`Models`]), each exactly once. The listing can be
+//! stopped after any number of steps and goes on from a [`Checkpoint`], which is a line of text if need be. Whatever the bytes
+//! are, an act answers: with a [`Refusal`], if it has to.
+//!
+//! Clubs call these things sheets (formulas), rules (clauses), switches (variables), set-ups (assignments) and markers
+//! (checkpoints); the sentences of refusals do, too.
+//!
+//! Variables are given by their numbers, which count from 1 as in the encoded formula.
+//!
+//! ```
+//! use norwythai::{FormulaBuilder, Literal};
+//!
+//! # fn main() -> Result<(), Box<dyn std::error::Error>> {
+//! // Some switch of three is on, and switch 2 is on only if switch 1 is.
+//! let formula = FormulaBuilder::new(3)?
+//!     .clause(&[Literal::positive(1), Literal::positive(2), Literal::positive(3)])?
+//!     .clause(&[Literal::positive(1), Literal::negative(2)])?
+//!     .build();
+//! assert_eq!(formula.judge()?.matched(), [1, 2]);
+//!
+//! let mut lines = Vec::new();
+//! for model in formula.models() {
+//!     lines.push(model?.digits(3).to_string());
+//! }
+//! lines.sort();
+//! assert_eq!(lines, ["001", "100", "101", "110", "111"]);
+//! # Ok(())
+//! # }
+//! ```
+
+#![deny(missing_docs)]
+#![deny(unsafe_code)]
+
+mod acts;
+mod assignment;
+mod checkpoint;
+#[allow(unsafe_code)]
+mod ffi;
+mod formula;
+mod models;
+mod refusal;
+
+pub use acts::{
+    check, judge, judge_into, list, walk, Answer, JudgeError, Listed, Matching, Size, Walked,
+};
+pub use assignment::{Assignment, Digits};
+pub use checkpoint::{Checkpoint, ParseCheckpointError};
+pub use formula::{BuildError, Formula, FormulaBuilder, Literal, MAX_CLAUSES, MAX_VARIABLES};
+pub use models::Models;
+pub use refusal::Refusal;

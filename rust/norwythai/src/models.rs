@@ -1,0 +1,110 @@
+//! All models, one after the other.
+
+use crate::acts::{list, Answer};
+use crate::{Assignment, Checkpoint, Refusal};
+use std::iter::FusedIterator;
+
+/// The most models that are listed at once. A list call tests its checkpoint, which takes as long as many models.
+const MOST_AT_ONCE: usize = 256;
+
+/// The models of an encoded formula, in the order of the walk. It may be stopped anywhere: its [`checkpoint`](Models::checkpoint)
+/// says where, and [`resume`](Models::resume) goes on from there. After a refusal, which comes first if it comes, and after the
+/// end it gives nothing more.
+///
+/// ```
+/// use norwythai::{Checkpoint, Models};
+///
+/// let input = [1, 2, 5]; // two variables, no clauses
+/// let mut models = Models::new(&input);
+/// assert_eq!(models.next().unwrap()?.digits(2).to_string(), "00");
+/// let text = models.checkpoint().to_string();
+///
+/// // Later, perhaps somewhere else:
+/// let checkpoint: Checkpoint = text.parse()?;
+/// let rest: Result<Vec<_>, _> = Models::resume(&input, checkpoint).collect();
+/// let rest: Vec<u64> = rest?.iter().map(|model| model.bits()).collect();
+/// assert_eq!(rest, [0b10, 0b01, 0b11]);
+/// # Ok::<(), Box<dyn std::error::Error>>(())
+/// ```
+#[derive(Clone, Debug)]
+pub struct Models<'a> {
+    input: &'a [u8],
+    /// Where the page begins.
+    before: Checkpoint,
+    /// Where the page ends: at its last model, or with the walk.
+    after: Checkpoint,
+    /// The models listed last.
+    page: Vec<u64>,
+    /// How many of them were given.
+    given: usize,
+    /// Whether no page comes after this one.
+    last: bool,
+}
+
+impl<'a> Models<'a> {
+    /// All models.
+    pub fn new(input: &'a [u8]) -> Self {
+        Models::resume(input, Checkpoint::start())
+    }
+
+    /// The models that come after the checkpoint.
+    pub fn resume(input: &'a [u8], checkpoint: Checkpoint) -> Self {
+        Models {
+            input,
+            before: checkpoint,
+            after: checkpoint,
+            page: Vec::new(),
+            given: 0,
+            last: false,
+        }
+    }
+
+    /// Where the walk stands after what was given so far: the end counts as given once `next` has said that nothing is left.
+    pub fn checkpoint(&self) -> Checkpoint {
+        if self.given == self.page.len() && !(self.last && self.given > 0) {
+            return self.after;
+        }
+        // Within the page: go there again.
+        let mut checkpoint = self.before;
+        list(self.input, &mut checkpoint, &mut vec![0; self.given])
+            .expect("this page was listed before");
+        checkpoint
+    }
+
+    /// Lists the next page: first one model, so that it comes soon, and then twice as many each time.
+    fn turn(&mut self) -> Result<(), Refusal> {
+        let wanted = (2 * self.page.len()).clamp(1, MOST_AT_ONCE);
+        self.before = self.after;
+        self.given = 0;
+        self.last = true;
+        self.page.clear();
+        let mut page = vec![0; wanted];
+        let listed = list(self.input, &mut self.after, &mut page)?;
+        page.truncate(listed.written);
+        self.page = page;
+        self.last = listed.answer == Answer::Ended;
+        Ok(())
+    }
+}
+
+impl Iterator for Models<'_> {
+    type Item = Result<Assignment, Refusal>;
+
+    fn next(&mut self) -> Option<Self::Item> {
+        if self.given == self.page.len() && !self.last {
+            if let Err(refusal) = self.turn() {
+                return Some(Err(refusal));
+            }
+        }
+        let Some(model) = self.page.get(self.given) else {
+            // The end is given: the page is done with.
+            self.page.clear();
+            self.given = 0;
+            return None;
+        };
+        self.given += 1;
+        Some(Ok(Assignment::from_bits(*model)))
+    }
+}
+
+impl FusedIterator for Models<'_> {}

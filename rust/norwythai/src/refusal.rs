@@ -1,0 +1,181 @@
+//! Refusals.
+
+use std::error::Error;
+use std::fmt;
+
+/// Why an act is refused. Each case has a number, 1 to 12, and a place.
+///
+/// A place is an offset in the encoded formula, counted from 0, where the case says nothing else. The sentences that a
+/// refusal displays speak of sheets, rules, switches, set-ups and markers, as clubs do.
+///
+/// ```
+/// use norwythai::{check, Assignment, Refusal};
+///
+/// let refusal = check(&[1, 49, 5], Assignment::from_bits(0)).unwrap_err();
+/// assert_eq!(refusal, Refusal::BadVariableCount);
+/// assert_eq!((refusal.number(), refusal.place()), (5, 0));
+/// assert_eq!(refusal.to_string(), "the sheet's kit must have 1 to 48 switches");
+/// ```
+#[derive(Clone, Copy, Debug, PartialEq, Eq, Hash)]
+pub enum Refusal {
+    /// 1: the buffer lent to judge has fewer than 96 bytes.
+    ShortBuffer,
+    /// 2: the bytes run out before a record is whole or before the formula's end.
+    Truncated {
+        /// The length of the input.
+        place: usize,
+    },
+    /// 3: a record's kind byte is not 1 to 5.
+    UnknownKind {
+        /// That byte.
+        place: usize,
+    },
+    /// 4: a record of this kind may not stand here.
+    Misplaced {
+        /// Its kind byte.
+        place: usize,
+    },
+    /// 5: the number of variables is 0 or above 48.
+    BadVariableCount,
+    /// 6: a literal's variable is 0 or above the number of variables.
+    NoSuchVariable {
+        /// The record's kind byte.
+        place: usize,
+    },
+    /// 7: the clause has named the variable before.
+    RepeatedVariable {
+        /// The record's kind byte.
+        place: usize,
+    },
+    /// 8: the end of a 97th clause.
+    TooManyClauses {
+        /// That byte.
+        place: usize,
+    },
+    /// 9: a byte follows the formula's end.
+    TrailingByte {
+        /// That byte.
+        place: usize,
+    },
+    /// 10: the clauses can't be matched with variables.
+    Unmatched {
+        /// The number of the violator's clauses, which is the refusal's place. They name one variable fewer.
+        clauses: usize,
+    },
+    /// 11: the walk of this formula never has this checkpoint.
+    ForeignCheckpoint,
+    /// 12: the assignment has a variable true that the formula doesn't have.
+    StrayVariable,
+}
+
+impl Refusal {
+    /// The refusal with a number and a place; none if there is no such refusal.
+    pub fn from_parts(number: u64, place: usize) -> Option<Self> {
+        Some(match (number, place) {
+            (1, 0) => Refusal::ShortBuffer,
+            (2, place) => Refusal::Truncated { place },
+            (3, place) => Refusal::UnknownKind { place },
+            (4, place) => Refusal::Misplaced { place },
+            (5, 0) => Refusal::BadVariableCount,
+            (6, place) => Refusal::NoSuchVariable { place },
+            (7, place) => Refusal::RepeatedVariable { place },
+            (8, place) => Refusal::TooManyClauses { place },
+            (9, place) => Refusal::TrailingByte { place },
+            (10, clauses) => Refusal::Unmatched { clauses },
+            (11, 0) => Refusal::ForeignCheckpoint,
+            (12, 0) => Refusal::StrayVariable,
+            _ => return None,
+        })
+    }
+
+    /// Its number, 1 to 12.
+    pub fn number(&self) -> u8 {
+        match self {
+            Refusal::ShortBuffer => 1,
+            Refusal::Truncated { .. } => 2,
+            Refusal::UnknownKind { .. } => 3,
+            Refusal::Misplaced { .. } => 4,
+            Refusal::BadVariableCount => 5,
+            Refusal::NoSuchVariable { .. } => 6,
+            Refusal::RepeatedVariable { .. } => 7,
+            Refusal::TooManyClauses { .. } => 8,
+            Refusal::TrailingByte { .. } => 9,
+            Refusal::Unmatched { .. } => 10,
+            Refusal::ForeignCheckpoint => 11,
+            Refusal::StrayVariable => 12,
+        }
+    }
+
+    /// Its place: an offset, or the number of the violator's clauses if the formula is unmatched.
+    pub fn place(&self) -> usize {
+        match *self {
+            Refusal::Truncated { place }
+            | Refusal::UnknownKind { place }
+            | Refusal::Misplaced { place }
+            | Refusal::NoSuchVariable { place }
+            | Refusal::RepeatedVariable { place }
+            | Refusal::TooManyClauses { place }
+            | Refusal::TrailingByte { place } => place,
+            Refusal::Unmatched { clauses } => clauses,
+            Refusal::ShortBuffer
+            | Refusal::BadVariableCount
+            | Refusal::ForeignCheckpoint
+            | Refusal::StrayVariable => 0,
+        }
+    }
+}
+
+impl fmt::Display for Refusal {
+    fn fmt(&self, f: &mut fmt::Formatter) -> fmt::Result {
+        match *self {
+            Refusal::ShortBuffer => write!(f, "the slate has fewer than 96 bytes"),
+            Refusal::Truncated { place } => write!(
+                f,
+                "the sheet is cut short: its {place} bytes stop before the end of the sheet"
+            ),
+            Refusal::UnknownKind { place } => write!(
+                f,
+                "the sheet has a record of an unknown kind at byte {place} (counted from 0)"
+            ),
+            Refusal::Misplaced { place } => write!(
+                f,
+                "the sheet has a record that may not stand where it does, at byte {place} (counted from 0)"
+            ),
+            Refusal::BadVariableCount => write!(f, "the sheet's kit must have 1 to 48 switches"),
+            Refusal::NoSuchVariable { place } => write!(
+                f,
+                "a rule names a switch that the kit doesn't have, at byte {place} (counted from 0)"
+            ),
+            Refusal::RepeatedVariable { place } => write!(
+                f,
+                "a rule names a switch for the second time, at byte {place} (counted from 0)"
+            ),
+            Refusal::TooManyClauses { place } => write!(
+                f,
+                "the sheet has more than 96 rules: one too many ends at byte {place} (counted from 0)"
+            ),
+            Refusal::TrailingByte { place } => write!(
+                f,
+                "something follows the end of the sheet, at byte {place} (counted from 0)"
+            ),
+            Refusal::Unmatched { clauses: 1 } => write!(
+                f,
+                "the rules can't be paired with switches: a rule names no switch"
+            ),
+            Refusal::Unmatched { clauses } => write!(
+                f,
+                "the rules can't be paired with switches: {clauses} of them name only {} altogether",
+                clauses.saturating_sub(1)
+            ),
+            Refusal::ForeignCheckpoint => write!(
+                f,
+                "the marker belongs to another sheet, or was changed: the walk of this sheet never has it"
+            ),
+            Refusal::StrayVariable => {
+                write!(f, "the set-up has a switch on that the kit doesn't have")
+            }
+        }
+    }
+}
+
+impl Error for Refusal {}

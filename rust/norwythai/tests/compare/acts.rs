@@ -1,0 +1,335 @@
+//! Each act, through the crate and through its C function, compared with the reference.
+
+use crate::inputs::some_budget;
+use crate::random::Random;
+use crate::raw;
+use crate::tally::Tally;
+use norwythai::{Answer, Checkpoint, JudgeError, Refusal};
+use norwythai_reference as reference;
+
+/// What results have before a call; no act writes it.
+const UNWRITTEN: u64 = 0xa5a5_a5a5_a5a5_a5a5;
+
+/// The reference's refusal as the crate has it.
+fn refusal_of(refusal: reference::Refusal) -> Refusal {
+    let expected = Refusal::from_parts(refusal.number.into(), refusal.place).unwrap();
+    assert_eq!(expected.number(), refusal.number);
+    assert_eq!(expected.place(), refusal.place);
+    expected
+}
+
+pub fn answer_of(answer: reference::Answer) -> Answer {
+    match answer {
+        reference::Answer::Model(model) => Answer::Model(model.into()),
+        reference::Answer::Spent => Answer::Spent,
+        reference::Answer::Ended => Answer::Ended,
+    }
+}
+
+/// The results that the C functions write for a refusal, and for an answer of a walk.
+fn refused_results(refusal: reference::Refusal) -> [u64; 6] {
+    [3, 0, refusal.number.into(), refusal.place as u64, 0, 0]
+}
+
+fn answer_results(answer: reference::Answer, first: u64, second: u64) -> [u64; 6] {
+    match answer {
+        reference::Answer::Model(model) => [0, model, 0, 0, first, second],
+        reference::Answer::Spent => [1, 0, 0, 0, first, second],
+        reference::Answer::Ended => [2, 0, 0, 0, first, second],
+    }
+}
+
+pub fn compare_check(tally: &mut Tally, input: &[u8], assignment: u64) {
+    let expected = reference::check(input, assignment);
+    let found = norwythai::check(input, assignment.into());
+    assert_eq!(
+        found,
+        expected.map_err(refusal_of),
+        "{input:02x?} {assignment:x}"
+    );
+    let mut results = [UNWRITTEN; 6];
+    assert_eq!(raw::check(input, assignment, &mut results), 0);
+    let expected_results = match expected {
+        Ok(yes) => [u64::from(!yes), 0, 0, 0, 0, 0],
+        Err(refusal) => refused_results(refusal),
+    };
+    assert_eq!(results, expected_results, "{input:02x?} {assignment:x}");
+    tally.checks += 1;
+    match expected {
+        Ok(true) => tally.yes += 1,
+        Ok(false) => tally.no += 1,
+        Err(refusal) => tally.refused(refusal),
+    }
+}
+
+pub fn compare_judge(tally: &mut Tally, input: &[u8], length: usize, fill: u8) {
+    let mut expected_buffer = vec![fill; length];
+    let expected = reference::judge(input, &mut expected_buffer);
+    let mut buffer = vec![fill; length];
+    let found = norwythai::judge_into(input, &mut buffer);
+    assert_eq!(
+        found.map(|size| (usize::from(size.variables), size.clauses)),
+        expected
+            .map(|size| (size.variables, size.clauses))
+            .map_err(refusal_of),
+        "{input:02x?}"
+    );
+    assert_eq!(buffer, expected_buffer, "{input:02x?}");
+
+    let mut buffer = vec![fill; length];
+    let mut results = [UNWRITTEN; 6];
+    assert_eq!(raw::judge(input, &mut buffer, &mut results), 0);
+    assert_eq!(buffer, expected_buffer, "{input:02x?}");
+    let expected_results = match expected {
+        Ok(size) => [0, 0, 0, 0, size.variables as u64, size.clauses as u64],
+        Err(refusal) => refused_results(refusal),
+    };
+    assert_eq!(results, expected_results, "{input:02x?}");
+
+    if length >= 96 {
+        compare_owned_judge(input, expected, &expected_buffer);
+    }
+    tally.judges += 1;
+    match expected {
+        Ok(_) => tally.matched += 1,
+        Err(refusal) => tally.refused(refusal),
+    }
+}
+
+/// The form of judge that lends its own buffer.
+fn compare_owned_judge(
+    input: &[u8],
+    expected: Result<reference::Size, reference::Refusal>,
+    buffer: &[u8],
+) {
+    match (norwythai::judge(input), expected) {
+        (Ok(matching), Ok(size)) => {
+            assert_eq!(usize::from(matching.variables()), size.variables);
+            assert_eq!(matching.matched(), &buffer[..size.clauses], "{input:02x?}");
+        }
+        (Err(error), Err(refusal)) => {
+            assert_eq!(error.refusal(), refusal_of(refusal), "{input:02x?}");
+            if let JudgeError::Unmatched { violator } = error {
+                assert_eq!(violator.len(), refusal.place);
+                assert!(violator.iter().all(|clause| buffer[*clause] == 1));
+            }
+        }
+        (found, _) => panic!("{input:02x?}: {found:?}, but {expected:?}"),
+    }
+}
+
+/// Compares a walk call, and gives the checkpoint that it returns if it is not refused.
+pub fn compare_walk(
+    tally: &mut Tally,
+    input: &[u8],
+    given: &reference::Checkpoint,
+    budget: u32,
+) -> Option<reference::Checkpoint> {
+    let expected = reference::walk(input, given, budget);
+    let returned = expected.map_or(*given, |walked| walked.checkpoint);
+
+    let mut checkpoint = Checkpoint::from_bytes(*given);
+    let found = norwythai::walk(input, &mut checkpoint, budget);
+    assert_eq!(
+        found.map(|walked| (walked.answer, walked.steps, walked.expansions)),
+        expected
+            .map(|walked| walked.progress)
+            .map(|progress| (
+                answer_of(progress.answer),
+                progress.steps,
+                progress.expansions
+            ))
+            .map_err(refusal_of),
+        "{input:02x?} {given:02x?} {budget}"
+    );
+    assert_eq!(
+        checkpoint.as_bytes(),
+        &returned,
+        "{input:02x?} {given:02x?} {budget}"
+    );
+
+    let mut bytes = *given;
+    let mut results = [UNWRITTEN; 6];
+    assert_eq!(raw::walk(input, &mut bytes, budget, &mut results), 0);
+    assert_eq!(bytes, returned, "{input:02x?} {given:02x?} {budget}");
+    let expected_results = match expected {
+        Ok(reference::Walked { progress, .. }) => {
+            answer_results(progress.answer, progress.steps.into(), progress.expansions)
+        }
+        Err(refusal) => refused_results(refusal),
+    };
+    assert_eq!(
+        results, expected_results,
+        "{input:02x?} {given:02x?} {budget}"
+    );
+
+    tally.walks += 1;
+    match expected {
+        Ok(reference::Walked { progress, .. }) => {
+            tally.answered(progress.answer);
+            tally.with_trials += usize::from(progress.expansions > 0);
+            Some(returned)
+        }
+        Err(refusal) => {
+            tally.refused(refusal);
+            None
+        }
+    }
+}
+
+/// Calls one after the other from the start, compared with one walk of the reference that is never taken up again from a
+/// checkpoint. Gives the checkpoints.
+pub fn compare_chain(
+    tally: &mut Tally,
+    random: &mut Random,
+    input: &[u8],
+) -> Vec<reference::Checkpoint> {
+    let formula = reference::decode(input).unwrap();
+    let mut walker = reference::Walker::start(&formula).unwrap();
+    let mut checkpoint = Checkpoint::start();
+    let mut pool = vec![*checkpoint.as_bytes()];
+    for _ in 0..random.between(1, 16) {
+        let budget = some_budget(random);
+        let expected = walker.advance(budget);
+        let found = norwythai::walk(input, &mut checkpoint, budget).unwrap();
+        assert_eq!(
+            (found.answer, found.steps, found.expansions),
+            (
+                answer_of(expected.answer),
+                expected.steps,
+                expected.expansions
+            ),
+            "{input:02x?} {:02x?} {budget}",
+            pool.last()
+        );
+        assert_eq!(
+            checkpoint.as_bytes(),
+            &walker.checkpoint(),
+            "{input:02x?} {budget}"
+        );
+        pool.push(*checkpoint.as_bytes());
+        tally.chain_calls += 1;
+        tally.answered(expected.answer);
+        tally.with_trials += usize::from(expected.expansions > 0);
+    }
+    pool
+}
+
+pub fn compare_list(
+    tally: &mut Tally,
+    input: &[u8],
+    given: &reference::Checkpoint,
+    length: usize,
+) -> Option<reference::Checkpoint> {
+    let mut expected_models = vec![UNWRITTEN; length];
+    let expected = reference::list(input, given, &mut expected_models);
+    let returned = expected.map_or(*given, |listed| listed.checkpoint);
+
+    let mut checkpoint = Checkpoint::from_bytes(*given);
+    let mut models = vec![UNWRITTEN; length];
+    let found = norwythai::list(input, &mut checkpoint, &mut models);
+    assert_eq!(
+        found.map(|listed| (listed.answer, listed.written)),
+        expected
+            .map(|listed| (answer_of(listed.answer), listed.written))
+            .map_err(refusal_of),
+        "{input:02x?} {given:02x?} {length}"
+    );
+    assert_eq!(
+        models, expected_models,
+        "{input:02x?} {given:02x?} {length}"
+    );
+    assert_eq!(
+        checkpoint.as_bytes(),
+        &returned,
+        "{input:02x?} {given:02x?} {length}"
+    );
+
+    let mut bytes = *given;
+    let mut models = vec![UNWRITTEN; length];
+    let mut results = [UNWRITTEN; 6];
+    assert_eq!(raw::list(input, &mut bytes, &mut models, &mut results), 0);
+    assert_eq!(
+        models, expected_models,
+        "{input:02x?} {given:02x?} {length}"
+    );
+    assert_eq!(bytes, returned, "{input:02x?} {given:02x?} {length}");
+    let expected_results = match expected {
+        Ok(listed) => answer_results(listed.answer, listed.written as u64, 0),
+        Err(refusal) => refused_results(refusal),
+    };
+    assert_eq!(
+        results, expected_results,
+        "{input:02x?} {given:02x?} {length}"
+    );
+
+    tally.lists += 1;
+    match expected {
+        Ok(listed) => {
+            tally.answered(listed.answer);
+            tally.listed += listed.written;
+            Some(returned)
+        }
+        Err(refusal) => {
+            tally.refused(refusal);
+            None
+        }
+    }
+}
+
+pub fn compare_start(tally: &mut Tally, random: &mut Random) {
+    let expected = reference::start_checkpoint();
+    assert_eq!(Checkpoint::start().as_bytes(), &expected);
+    let mut checkpoint = [random.byte(); 50];
+    assert_eq!(raw::start(&mut checkpoint), 0);
+    assert_eq!(checkpoint, expected);
+    tally.starts += 1;
+}
+
+/// The C functions with arrays of wrong lengths: they return 1 and write nothing.
+pub fn compare_wrong_lengths(tally: &mut Tally, random: &mut Random, input: &[u8]) {
+    let fill = random.byte();
+    let good = reference::start_checkpoint();
+    for results_length in [0, 1, 5, 7, 12, random.below(6)] {
+        let unwritten = vec![UNWRITTEN; results_length];
+        let mut results = unwritten.clone();
+        assert_eq!(raw::check(input, 0, &mut results), 1);
+        assert_eq!(results, unwritten);
+
+        let mut buffer = [fill; 100];
+        assert_eq!(raw::judge(input, &mut buffer, &mut results), 1);
+        assert_eq!((&results, buffer), (&unwritten, [fill; 100]));
+
+        let mut checkpoint = good;
+        assert_eq!(raw::walk(input, &mut checkpoint, 96, &mut results), 1);
+        assert_eq!((&results, checkpoint), (&unwritten, good));
+
+        let mut models = [UNWRITTEN; 3];
+        assert_eq!(
+            raw::list(input, &mut checkpoint, &mut models, &mut results),
+            1
+        );
+        assert_eq!((&results, checkpoint), (&unwritten, good));
+        assert_eq!(models, [UNWRITTEN; 3]);
+        tally.wrong_lengths += 4;
+    }
+    for checkpoint_length in [0, 1, 49, 51, 100, random.below(50)] {
+        let given = vec![fill & 3; checkpoint_length];
+        let mut checkpoint = given.clone();
+        assert_eq!(raw::start(&mut checkpoint), 1);
+        assert_eq!(checkpoint, given);
+
+        let mut results = [UNWRITTEN; 6];
+        assert_eq!(raw::walk(input, &mut checkpoint, 96, &mut results), 1);
+        assert_eq!((results, &checkpoint), ([UNWRITTEN; 6], &given));
+
+        let mut models = [UNWRITTEN; 3];
+        assert_eq!(
+            raw::list(input, &mut checkpoint, &mut models, &mut results),
+            1
+        );
+        assert_eq!((results, &checkpoint), ([UNWRITTEN; 6], &given));
+        assert_eq!(models, [UNWRITTEN; 3]);
+        tally.wrong_lengths += 3;
+    }
+}

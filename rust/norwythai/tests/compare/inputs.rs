@@ -1,0 +1,265 @@
+//! Inputs: encoded formulas of many kinds, damaged ones, and checkpoints that a walk may or may not have.
+
+use crate::random::Random;
+use norwythai_reference::{judge, start_checkpoint, Checkpoint};
+
+/// Clauses of signed variable numbers, negative for a negative literal.
+type Clauses = Vec<Vec<i8>>;
+
+pub fn encode(variables: usize, clauses: &Clauses) -> Vec<u8> {
+    let mut bytes = vec![1, variables as u8];
+    for clause in clauses {
+        for literal in clause {
+            bytes.extend([if *literal > 0 { 2 } else { 3 }, literal.unsigned_abs()]);
+        }
+        bytes.push(4);
+    }
+    bytes.push(5);
+    bytes
+}
+
+/// Small, middle and large numbers of variables.
+fn some_variables(random: &mut Random) -> usize {
+    match random.below(10) {
+        0..=3 => random.between(1, 8),
+        4..=6 => random.between(9, 24),
+        7 | 8 => random.between(25, 48),
+        _ => 48,
+    }
+}
+
+/// A clause of different variables in random order; negative literals in so many of a hundred cases.
+fn some_clause(random: &mut Random, variables: usize, length: usize, negative: usize) -> Vec<i8> {
+    let mut left: Vec<i8> = (1..=variables as i8).collect();
+    let mut clause = Vec::new();
+    for _ in 0..length.min(variables) {
+        let variable = left.swap_remove(random.below(left.len()));
+        clause.push(if random.percent(negative) {
+            -variable
+        } else {
+            variable
+        });
+    }
+    clause
+}
+
+fn some_clauses(
+    random: &mut Random,
+    variables: usize,
+    count: usize,
+    lengths: (usize, usize),
+    negative: usize,
+) -> Clauses {
+    (0..count)
+        .map(|_| {
+            let length = random.between(lengths.0, lengths.1);
+            some_clause(random, variables, length, negative)
+        })
+        .collect()
+}
+
+/// A ring of clauses, over all variables: i, not i + 1, i + 3, not i + 7, as many of these as the length. Each variable has both
+/// signs.
+fn ring(variables: usize, length: usize) -> Clauses {
+    let at = |i: usize| (i % variables) as i8 + 1;
+    (0..variables)
+        .map(|i| [at(i), -at(i + 1), at(i + 3), -at(i + 7)][..length].to_vec())
+        .collect()
+}
+
+/// Clauses in which each variable stands as often as all others, with both signs and in random places. A clause that would name
+/// one twice is shorter.
+fn balanced(random: &mut Random, variables: usize, length: usize) -> Clauses {
+    let mut literals: Vec<i8> = Vec::new();
+    for i in 0..length as i8 {
+        let sign = if i % 2 == 0 { 1 } else { -1 };
+        literals.extend((1..=variables as i8).map(|v| sign * v));
+    }
+    let mut clauses = vec![Vec::new(); variables];
+    for at in 0..literals.len() {
+        let literal = literals.swap_remove(random.below(literals.len()));
+        let clause: &mut Vec<i8> = &mut clauses[at / length];
+        if !clause.contains(&literal) && !clause.contains(&-literal) {
+            clause.push(literal);
+        }
+    }
+    clauses
+}
+
+/// Stairs: pairs of variables at the top, with all steps or with none of them, and clauses (1, .., i - 1, not i) for the steps
+/// below. Most trials fail.
+fn stairs(variables: usize, pairs: usize) -> Clauses {
+    let steps = (variables - 2 * pairs) as i8;
+    let mut clauses = Vec::new();
+    for pair in 0..pairs as i8 {
+        let top = [steps + 2 * pair + 1, steps + 2 * pair + 2];
+        clauses.push((1..=steps).chain(top).collect());
+        clauses.push((1..=steps).chain(top).map(|v| -v).collect());
+    }
+    for step in 1..=steps {
+        clauses.push((1..step).chain([-step]).collect());
+    }
+    clauses
+}
+
+/// A readable formula, matched or not.
+pub fn some_formula(random: &mut Random) -> Vec<u8> {
+    let n = some_variables(random);
+    let clauses = match random.below(12) {
+        0 => some_clauses(random, n, n, (3, 3), 50),
+        1 => {
+            let count = random.between(0, n);
+            some_clauses(random, n, count, (1, 8), 50)
+        }
+        2 => some_clauses(random, n, n, (2, 2), 0),
+        3 | 4 if n >= 8 => ring(n, random.between(2, 4)),
+        5 => some_clauses(random, n, n / 4, (3, 3), 50),
+        6 | 7 if n >= 5 => {
+            let pairs = random.between(1, (n - 1) / 2);
+            stairs(n, pairs)
+        }
+        8 => some_clauses(random, n, n, (n / 2, n), 40),
+        9 | 10 => {
+            let length = random.between(2, 4);
+            balanced(random, n, length)
+        }
+        _ => {
+            let count = random.between(0, 96);
+            some_clauses(random, n, count, (0, 4), 50)
+        }
+    };
+    encode(n, &clauses)
+}
+
+/// A matched formula.
+pub fn some_matched_formula(random: &mut Random) -> Vec<u8> {
+    loop {
+        let input = some_formula(random);
+        if judge(&input, &mut [0; 96]).is_ok() {
+            return input;
+        }
+    }
+}
+
+/// A formula of 96 or 97 clauses, or with a number of variables at a limit.
+fn formula_at_a_limit(random: &mut Random) -> Vec<u8> {
+    let n = random.pick(&[1, 2, 48]);
+    let count = random.pick(&[0, 1, 95, 96, 97, 98]);
+    let lengths = random.pick(&[(0, 0), (1, 1), (0, 48), (48, 48)]);
+    let mut input = encode(n, &some_clauses(random, n, count, lengths, 50));
+    if random.percent(50) {
+        input[1] = random.pick(&[0, 1, 48, 49, 255]);
+    }
+    input
+}
+
+/// A formula with some damage; it may still be a formula.
+fn damaged(random: &mut Random) -> Vec<u8> {
+    let mut input = some_formula(random);
+    for _ in 0..random.between(1, 2) {
+        let at = random.below(input.len() + 1);
+        match random.below(7) {
+            0 => input.truncate(at),
+            1 => input.insert(at, random.byte()),
+            2 => input.insert(at, random.pick(&[1, 2, 3, 4, 5])),
+            3 => input.push(random.byte()),
+            4 => {
+                // A repeated record.
+                let end = (at + 2).min(input.len());
+                let copy = input[at..end].to_vec();
+                input.splice(at..at, copy);
+            }
+            5 if at < input.len() => input[at] ^= 1 << random.below(8),
+            _ if at < input.len() => input[at] = random.pick(&[0, 1, 2, 3, 4, 5, 6, 48, 49]),
+            _ => {}
+        }
+    }
+    input
+}
+
+/// Bytes that are hardly ever a formula.
+fn noise(random: &mut Random) -> Vec<u8> {
+    let length = random.below(40);
+    let small = random.percent(70);
+    (0..length)
+        .map(|_| {
+            if small {
+                random.below(7) as u8
+            } else {
+                random.byte()
+            }
+        })
+        .collect()
+}
+
+/// Any input.
+pub fn some_input(random: &mut Random) -> Vec<u8> {
+    match random.below(20) {
+        0..=11 => some_matched_formula(random),
+        12 | 13 => some_formula(random),
+        14..=16 => damaged(random),
+        17 | 18 => formula_at_a_limit(random),
+        _ => noise(random),
+    }
+}
+
+pub fn some_budget(random: &mut Random) -> u32 {
+    match random.below(10) {
+        0 => 0,
+        1 => 1,
+        2 | 3 => random.between(2, 12) as u32,
+        4 => 95,
+        5 | 6 => 96,
+        7 => u32::MAX,
+        8 => random.below(200) as u32,
+        _ => random.bits() as u32,
+    }
+}
+
+/// The checkpoint cut to a length, with a mode, and with the last value turned or not. The walk often has it.
+fn cut(random: &mut Random, mut checkpoint: Checkpoint) -> Checkpoint {
+    // Short ones are more likely: most trials are made near the root.
+    let longest = random.below(usize::from(checkpoint[1]).min(48) + 1);
+    let length = random.below(longest + 1);
+    checkpoint[0] = random.pick(&[1, 2, 3]);
+    checkpoint[1] = length as u8;
+    checkpoint[2 + length..].fill(0);
+    if length > 0 && random.percent(60) {
+        checkpoint[1 + length] ^= 128;
+    }
+    checkpoint
+}
+
+/// The checkpoint with some other change.
+fn changed(random: &mut Random, mut checkpoint: Checkpoint) -> Checkpoint {
+    let at = random.below(50);
+    match random.below(7) {
+        0 => checkpoint[0] = random.pick(&[0, 1, 2, 3, 4, 5, 6, 128, 255]),
+        1 => checkpoint[1] = checkpoint[1].wrapping_add(random.pick(&[1, 2, 255, 128])),
+        2 => checkpoint[1] = random.byte(),
+        3 => checkpoint[at] ^= 1 << random.below(8),
+        4 => checkpoint[49] = random.byte(),
+        5 => checkpoint[2..].swap(random.below(48), random.below(48)),
+        _ => checkpoint[at] = random.byte(),
+    }
+    checkpoint
+}
+
+/// A checkpoint from those that walks have returned, as it is or changed, or one from nowhere.
+pub fn some_checkpoint(random: &mut Random, pool: &[Checkpoint]) -> Checkpoint {
+    if pool.is_empty() || random.percent(3) {
+        let mut checkpoint = start_checkpoint();
+        match random.below(3) {
+            0 => checkpoint.fill_with(|| random.byte()),
+            1 => checkpoint[..4].fill_with(|| random.below(6) as u8),
+            _ => {}
+        }
+        return checkpoint;
+    }
+    let checkpoint = random.pick(pool);
+    match random.below(10) {
+        0..=3 => checkpoint,
+        4..=7 => cut(random, checkpoint),
+        _ => changed(random, checkpoint),
+    }
+}

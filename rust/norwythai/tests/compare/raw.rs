@@ -1,0 +1,165 @@
+//! The C functions themselves, called with arrays of any length. Each array stands between guards, which no call may change.
+
+use std::fmt::Debug;
+
+extern "C" {
+    fn norwythai_check(
+        input: *const u8,
+        input_length: usize,
+        assignment: u64,
+        results: *mut u64,
+        results_length: usize,
+    ) -> u32;
+    fn norwythai_judge(
+        input: *const u8,
+        input_length: usize,
+        buffer: *mut u8,
+        buffer_length: usize,
+        results: *mut u64,
+        results_length: usize,
+    ) -> u32;
+    fn norwythai_start(checkpoint: *mut u8, checkpoint_length: usize) -> u32;
+    fn norwythai_walk(
+        input: *const u8,
+        input_length: usize,
+        checkpoint: *mut u8,
+        checkpoint_length: usize,
+        budget: u32,
+        results: *mut u64,
+        results_length: usize,
+    ) -> u32;
+    fn norwythai_list(
+        input: *const u8,
+        input_length: usize,
+        checkpoint: *mut u8,
+        checkpoint_length: usize,
+        models: *mut u64,
+        models_length: usize,
+        results: *mut u64,
+        results_length: usize,
+    ) -> u32;
+}
+
+/// Items of a guard.
+const GUARD: usize = 8;
+
+/// An array between guards.
+struct Guarded<T> {
+    memory: Vec<T>,
+    guard: T,
+}
+
+impl<T: Copy + PartialEq + Debug> Guarded<T> {
+    fn new(items: &[T], guard: T) -> Self {
+        let mut memory = vec![guard; GUARD];
+        memory.extend(items);
+        memory.extend([guard; GUARD]);
+        Guarded { memory, guard }
+    }
+
+    fn length(&self) -> usize {
+        self.memory.len() - 2 * GUARD
+    }
+
+    fn pointer(&mut self) -> *mut T {
+        self.memory[GUARD..].as_mut_ptr()
+    }
+
+    /// Writes the array back, once its guards are tested.
+    fn take(self, items: &mut [T]) {
+        let end = GUARD + self.length();
+        assert_eq!(self.memory[..GUARD], [self.guard; GUARD], "a guard");
+        assert_eq!(self.memory[end..], [self.guard; GUARD], "a guard");
+        items.copy_from_slice(&self.memory[GUARD..end]);
+    }
+}
+
+fn bytes(items: &[u8]) -> Guarded<u8> {
+    Guarded::new(items, 0x5a)
+}
+
+fn numbers(items: &[u64]) -> Guarded<u64> {
+    Guarded::new(items, 0x5a5a_5a5a_5a5a_5a5a)
+}
+
+pub fn check(input: &[u8], assignment: u64, results: &mut [u64]) -> u32 {
+    let mut written = numbers(results);
+    // SAFETY: the pointers are good for the lengths, and the arrays do not overlap.
+    let returned = unsafe {
+        norwythai_check(
+            input.as_ptr(),
+            input.len(),
+            assignment,
+            written.pointer(),
+            written.length(),
+        )
+    };
+    written.take(results);
+    returned
+}
+
+pub fn judge(input: &[u8], buffer: &mut [u8], results: &mut [u64]) -> u32 {
+    let (mut lent, mut written) = (bytes(buffer), numbers(results));
+    // SAFETY: the pointers are good for the lengths, and the arrays do not overlap.
+    let returned = unsafe {
+        norwythai_judge(
+            input.as_ptr(),
+            input.len(),
+            lent.pointer(),
+            lent.length(),
+            written.pointer(),
+            written.length(),
+        )
+    };
+    lent.take(buffer);
+    written.take(results);
+    returned
+}
+
+pub fn start(checkpoint: &mut [u8]) -> u32 {
+    let mut lent = bytes(checkpoint);
+    // SAFETY: the pointer is good for the length.
+    let returned = unsafe { norwythai_start(lent.pointer(), lent.length()) };
+    lent.take(checkpoint);
+    returned
+}
+
+pub fn walk(input: &[u8], checkpoint: &mut [u8], budget: u32, results: &mut [u64]) -> u32 {
+    let (mut lent, mut written) = (bytes(checkpoint), numbers(results));
+    // SAFETY: the pointers are good for the lengths, and the arrays do not overlap.
+    let returned = unsafe {
+        norwythai_walk(
+            input.as_ptr(),
+            input.len(),
+            lent.pointer(),
+            lent.length(),
+            budget,
+            written.pointer(),
+            written.length(),
+        )
+    };
+    lent.take(checkpoint);
+    written.take(results);
+    returned
+}
+
+pub fn list(input: &[u8], checkpoint: &mut [u8], models: &mut [u64], results: &mut [u64]) -> u32 {
+    let (mut lent, mut page, mut written) = (bytes(checkpoint), numbers(models), numbers(results));
+    // SAFETY: the pointers are good for the lengths, and the arrays do not overlap.
+    let returned = unsafe {
+        norwythai_list(
+            input.as_ptr(),
+            input.len(),
+            lent.pointer(),
+            lent.length(),
+            page.pointer(),
+            page.length(),
+            written.pointer(),
+            written.length(),
+        )
+    };
+    lent.take(checkpoint);
+    page.take(models);
+    written.take(results);
+    returned
+}

@@ -1,0 +1,113 @@
+//! What a run has seen.
+
+use norwythai_reference::{Answer, Refusal};
+use std::fmt;
+
+/// How often what was seen, so that a run that tests little fails.
+#[derive(Default)]
+pub struct Tally {
+    pub checks: usize,
+    pub judges: usize,
+    pub starts: usize,
+    pub walks: usize,
+    pub chain_calls: usize,
+    pub lists: usize,
+    pub wrong_lengths: usize,
+    /// Answers of check.
+    pub yes: usize,
+    pub no: usize,
+    /// Answers of judge.
+    pub matched: usize,
+    /// Answers of walk calls, alone and in chains, and of list.
+    models: usize,
+    spent: usize,
+    ended: usize,
+    /// Walk calls whose steps needed trials.
+    pub with_trials: usize,
+    /// Models handed out by list.
+    pub listed: usize,
+    /// Refusals by number.
+    refusals: [usize; 13],
+}
+
+impl Tally {
+    pub fn calls(&self) -> usize {
+        self.checks
+            + self.judges
+            + self.starts
+            + self.walks
+            + self.chain_calls
+            + self.lists
+            + self.wrong_lengths
+    }
+
+    pub fn refused(&mut self, refusal: Refusal) {
+        self.refusals[usize::from(refusal.number)] += 1;
+    }
+
+    pub fn answered(&mut self, answer: Answer) {
+        match answer {
+            Answer::Model(_) => self.models += 1,
+            Answer::Spent => self.spent += 1,
+            Answer::Ended => self.ended += 1,
+        }
+    }
+
+    /// Fails if something was seen too seldom.
+    pub fn require_enough(&self) {
+        let calls = self.calls();
+        let least = [
+            ("check", self.checks, calls / 10),
+            ("judge", self.judges, calls / 20),
+            ("start", self.starts, calls / 100),
+            ("walk", self.walks, calls / 5),
+            ("chains", self.chain_calls, calls / 20),
+            ("list", self.lists, calls / 20),
+            ("wrong lengths", self.wrong_lengths, calls / 100),
+            ("yes", self.yes, calls / 100),
+            ("no", self.no, calls / 100),
+            ("matched", self.matched, calls / 100),
+            ("model", self.models, calls / 20),
+            ("spent", self.spent, calls / 20),
+            ("ended", self.ended, calls / 100),
+            ("with trials", self.with_trials, calls / 50),
+            ("models listed", self.listed, calls / 20),
+        ];
+        for (what, seen, wanted) in least {
+            assert!(seen >= wanted, "{what}: only {seen}");
+        }
+        for (number, seen) in self.refusals.iter().enumerate().skip(1) {
+            assert!(*seen >= calls / 2000, "refusal {number}: only {seen}");
+        }
+    }
+}
+
+impl fmt::Display for Tally {
+    fn fmt(&self, f: &mut fmt::Formatter) -> fmt::Result {
+        writeln!(f, "{} calls, 0 differences", self.calls())?;
+        writeln!(
+            f,
+            "check: {} (yes {}, no {})",
+            self.checks, self.yes, self.no
+        )?;
+        writeln!(f, "judge: {} (matched {})", self.judges, self.matched)?;
+        writeln!(f, "start: {}", self.starts)?;
+        writeln!(
+            f,
+            "walk: {}, and {} in chains",
+            self.walks, self.chain_calls
+        )?;
+        writeln!(f, "list: {} (models listed {})", self.lists, self.listed)?;
+        writeln!(f, "wrong lengths: {}", self.wrong_lengths)?;
+        writeln!(
+            f,
+            "answers of walk and list: model {}, spent {}, ended {}; walks with trials: {}",
+            self.models, self.spent, self.ended, self.with_trials
+        )?;
+        write!(f, "refusals:")?;
+        for (number, seen) in self.refusals.iter().enumerate().skip(1) {
+            write!(f, " {number}: {seen}")?;
+        }
+        Ok(())
+    }
+}

@@ -1,0 +1,142 @@
+//! The crate's own types: texts, errors and the builder.
+
+use norwythai::{
+    check, judge, Assignment, BuildError, Checkpoint, Formula, FormulaBuilder, JudgeError, Literal,
+    ParseCheckpointError, Refusal,
+};
+
+#[test]
+fn checkpoints_are_read_from_text() {
+    let mut bytes = [0; 50];
+    for (i, byte) in bytes.iter_mut().enumerate() {
+        *byte = 5 * i as u8 + 3;
+    }
+    let checkpoint = Checkpoint::from_bytes(bytes);
+    let text = checkpoint.to_string();
+    assert!(text.starts_with("03080d12"));
+    assert_eq!(text.parse(), Ok(checkpoint));
+    assert_eq!(text.to_uppercase().parse(), Ok(checkpoint));
+    assert_eq!(format!("  {text}\r\n").parse(), Ok(checkpoint));
+}
+
+#[test]
+fn other_texts_are_no_checkpoints() {
+    let text = Checkpoint::start().to_string();
+    let wrong_length = |digits| Err(ParseCheckpointError::WrongLength { digits });
+    assert_eq!("".parse::<Checkpoint>(), wrong_length(0));
+    assert_eq!(text[1..].parse::<Checkpoint>(), wrong_length(99));
+    assert_eq!(text[2..].parse::<Checkpoint>(), wrong_length(98));
+    assert_eq!(format!("{text}0").parse::<Checkpoint>(), wrong_length(101));
+    assert_eq!(text.repeat(50).parse::<Checkpoint>(), wrong_length(5000));
+
+    let not_a_digit = |at, found| Err(ParseCheckpointError::NotADigit { at, found });
+    let inside = text.replacen("00", "0 ", 1);
+    assert_eq!(inside.parse::<Checkpoint>(), not_a_digit(1, ' '));
+    assert_eq!(
+        format!("{text}g").parse::<Checkpoint>(),
+        not_a_digit(100, 'g')
+    );
+    assert_eq!(
+        format!("é{text}").parse::<Checkpoint>(),
+        not_a_digit(0, 'é')
+    );
+    assert_eq!("+1".parse::<Checkpoint>(), not_a_digit(0, '+'));
+    let error = format!("{text}g").parse::<Checkpoint>().unwrap_err();
+    assert_eq!(
+        error.to_string(),
+        "a marker has hexadecimal digits only, but after 100 of them comes 'g'"
+    );
+}
+
+#[test]
+fn refusals_have_numbers_places_and_sentences() {
+    let mut sentences = Vec::new();
+    for number in 1..=12 {
+        let place = if matches!(number, 1 | 5 | 11 | 12) {
+            0
+        } else {
+            31
+        };
+        let refusal = Refusal::from_parts(number, place).unwrap();
+        assert_eq!(
+            (u64::from(refusal.number()), refusal.place()),
+            (number, place)
+        );
+        let sentence = refusal.to_string();
+        assert_eq!(sentence.contains("31"), place == 31, "{sentence}");
+        assert!(!sentences.contains(&sentence));
+        sentences.push(sentence);
+    }
+    assert_eq!(Refusal::from_parts(0, 0), None);
+    assert_eq!(Refusal::from_parts(13, 0), None);
+    assert_eq!(Refusal::from_parts(11, 1), None);
+}
+
+#[test]
+fn sentences_name_the_rules_that_cannot_be_paired() {
+    let error = judge(&[1, 2, 2, 1, 4, 2, 2, 4, 3, 2, 4, 5]).unwrap_err();
+    assert_eq!(
+        error.to_string(),
+        "the rules can't be paired with switches: 2 of them name only 1 altogether (rules 2, 3)"
+    );
+    let error = judge(&[1, 1, 4, 5]).unwrap_err();
+    assert_eq!(
+        error.to_string(),
+        "the rules can't be paired with switches: a rule names no switch (rule 1)"
+    );
+    let error = judge(&[]).unwrap_err();
+    assert_eq!(error, JudgeError::Refused(Refusal::Truncated { place: 0 }));
+}
+
+#[test]
+fn the_builder_writes_what_can_be_read() {
+    let mut builder = FormulaBuilder::new(48).unwrap();
+    let literals: Vec<Literal> = (1..=48)
+        .map(|v| {
+            if v % 2 == 0 {
+                Literal::positive(v)
+            } else {
+                Literal::negative(v)
+            }
+        })
+        .collect();
+    for _ in 0..96 {
+        builder.clause(&literals).unwrap();
+    }
+    let longest = builder.build();
+    assert_eq!(longest.as_bytes().len(), 9315);
+    assert_eq!(longest.check(Assignment::from_bits(1 << 1)), Ok(true));
+    let odd = 0x5555_5555_5555;
+    assert_eq!(longest.check(Assignment::from_bits(odd)), Ok(false));
+    assert_eq!(builder.clause(&[]).unwrap_err(), BuildError::TooManyClauses);
+    assert_eq!(builder.build(), longest);
+}
+
+#[test]
+fn the_builder_refuses_what_cannot_be_read() {
+    for variables in [0, 49, 255] {
+        let error = FormulaBuilder::new(variables).unwrap_err();
+        assert_eq!(error, BuildError::BadVariableCount { variables });
+        let refused = check(&[1, variables, 5], Assignment::default());
+        assert_eq!(refused, Err(Refusal::BadVariableCount));
+    }
+    let mut builder = FormulaBuilder::new(2).unwrap();
+    for variable in [0, 3, 255] {
+        let error = builder.clause(&[Literal::positive(1), Literal::negative(variable)]);
+        assert_eq!(error.unwrap_err(), BuildError::NoSuchVariable { variable });
+    }
+    let error = builder.clause(&[Literal::positive(2), Literal::negative(2)]);
+    assert_eq!(
+        error.unwrap_err(),
+        BuildError::RepeatedVariable { variable: 2 }
+    );
+    assert_eq!(builder.build(), Formula::from(vec![1, 2, 5]));
+}
+
+#[test]
+fn assignments_have_no_other_variables() {
+    let all = Assignment::from_bits(u64::MAX);
+    assert!(all.is_true(1) && all.is_true(64));
+    assert!(!all.is_true(0) && !all.is_true(65));
+    assert_eq!(all.digits(66).to_string(), "1".repeat(64) + "00");
+}

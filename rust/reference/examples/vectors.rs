@@ -1,0 +1,268 @@
+//! vectors FILE: compares the reference with test vectors, one JSON object a line, and prints how many of each act there are
+//! and how many differ. It fails if some vector differs, or if there are none.
+
+use norwythai_reference::{
+    check, judge, list, print, start_checkpoint, walk, Answer, Checkpoint, Refusal, Walked,
+    CHECKPOINT_LENGTH,
+};
+use std::collections::BTreeMap;
+use std::process::ExitCode;
+
+/// What of a vector differs, in words.
+type Compared = Result<(), String>;
+
+/// The text of a field's value: a string without its quotes, an array with its brackets, or a number or null.
+fn field<'a>(line: &'a str, name: &str) -> Result<&'a str, String> {
+    let key = format!("\"{name}\":");
+    let at = line.find(&key).ok_or(format!("no field {name}"))? + key.len();
+    let value = line[at..].trim_start();
+    let end = match value.as_bytes().first() {
+        Some(b'"') => return Ok(value[1..].split('"').next().unwrap_or("")),
+        Some(b'[') => closing_bracket(value),
+        _ => value.find([',', '}']),
+    };
+    end.map(|end| value[..end].trim())
+        .ok_or(format!("field {name} has no end"))
+}
+
+/// The offset after the bracket that closes the first one.
+fn closing_bracket(value: &str) -> Option<usize> {
+    let mut depth = 0;
+    for (at, byte) in value.bytes().enumerate() {
+        match byte {
+            b'[' => depth += 1,
+            b']' => depth -= 1,
+            _ => {}
+        }
+        if depth == 0 {
+            return Some(at + 1);
+        }
+    }
+    None
+}
+
+fn number<T: std::str::FromStr>(text: &str) -> Result<T, String> {
+    text.trim()
+        .parse()
+        .map_err(|_| format!("not a number: {text}"))
+}
+
+fn from_hex(text: &str) -> Result<Vec<u8>, String> {
+    let digits = text
+        .chars()
+        .map(|c| c.to_digit(16).ok_or(format!("not hexadecimal: {text}")))
+        .collect::<Result<Vec<_>, _>>()?;
+    Ok(digits
+        .chunks(2)
+        .map(|pair| (pair[0] * 16 + pair[1]) as u8)
+        .collect())
+}
+
+fn hex_field(line: &str, name: &str) -> Result<Vec<u8>, String> {
+    from_hex(field(line, name)?)
+}
+
+fn checkpoint_of(text: &str) -> Result<Checkpoint, String> {
+    from_hex(text)?
+        .try_into()
+        .map_err(|_| format!("a checkpoint has {CHECKPOINT_LENGTH} bytes"))
+}
+
+fn mask(text: &str) -> Result<u64, String> {
+    u64::from_str_radix(text, 16).map_err(|_| format!("not hexadecimal: {text}"))
+}
+
+/// The expected refusal, if any: null or [number, place].
+fn refusal_of(line: &str) -> Result<Option<Refusal>, String> {
+    let text = field(line, "refusal")?;
+    if text == "null" {
+        return Ok(None);
+    }
+    let (first, second) = text
+        .trim_matches(['[', ']'])
+        .split_once(',')
+        .ok_or(format!("not a refusal: {text}"))?;
+    Ok(Some(Refusal {
+        number: number(first)?,
+        place: number(second)?,
+    }))
+}
+
+fn compare<T: PartialEq + std::fmt::Debug>(what: &str, found: T, expected: T) -> Compared {
+    if found == expected {
+        Ok(())
+    } else {
+        Err(format!("{what}: found {found:?}, expected {expected:?}"))
+    }
+}
+
+fn compare_start(line: &str) -> Compared {
+    let expected = checkpoint_of(field(line, "marker")?)?;
+    compare("checkpoint", start_checkpoint(), expected)
+}
+
+fn compare_check(line: &str) -> Compared {
+    let input = hex_field(line, "sheet")?;
+    let found = check(&input, mask(field(line, "setup")?)?);
+    let expected = match refusal_of(line)? {
+        Some(refusal) => Err(refusal),
+        None => Ok(field(line, "answer")? == "yes"),
+    };
+    compare("answer", found, expected)
+}
+
+fn compare_judge(line: &str) -> Compared {
+    let input = hex_field(line, "sheet")?;
+    let length: usize = number(field(line, "slate_len")?)?;
+    let fill: u8 = number(field(line, "slate_fill")?)?;
+    let mut buffer = vec![fill; length];
+    let found = judge(&input, &mut buffer).map(|size| (size.variables, size.clauses));
+    let expected = match refusal_of(line)? {
+        Some(refusal) => Err(refusal),
+        None => Ok((number(field(line, "n")?)?, number(field(line, "m")?)?)),
+    };
+    compare("answer", found, expected)?;
+    compare("buffer", buffer, hex_field(line, "slate")?)
+}
+
+/// An expected walk answer.
+fn answer_of(word: &str, model: &str) -> Result<Answer, String> {
+    match word {
+        "set-up" => Ok(Answer::Model(mask(model)?)),
+        "spent" => Ok(Answer::Spent),
+        "ended" => Ok(Answer::Ended),
+        _ => Err(format!("unknown answer: {word}")),
+    }
+}
+
+/// What is compared of a walk call: answer, steps, expansions, checkpoint.
+type Parts = (Answer, u32, u64, Checkpoint);
+
+fn parts(walked: Walked) -> Parts {
+    let progress = walked.progress;
+    (
+        progress.answer,
+        progress.steps,
+        progress.expansions,
+        walked.checkpoint,
+    )
+}
+
+fn compare_walk(line: &str) -> Compared {
+    let input = hex_field(line, "sheet")?;
+    let given = checkpoint_of(field(line, "marker")?)?;
+    let found = walk(&input, &given, number(field(line, "budget")?)?).map(parts);
+    let returned = checkpoint_of(field(line, "marker_out")?)?;
+    let expected = match refusal_of(line)? {
+        Some(refusal) => {
+            compare("the vector's own checkpoint", returned, given)?;
+            Err(refusal)
+        }
+        None => Ok((
+            answer_of(field(line, "answer")?, field(line, "setup")?)?,
+            number(field(line, "moves")?)?,
+            number(field(line, "reaches")?)?,
+            returned,
+        )),
+    };
+    compare("answer", found, expected)
+}
+
+fn compare_chain(line: &str) -> Compared {
+    let input = hex_field(line, "sheet")?;
+    let mut checkpoint = start_checkpoint();
+    let calls = field(line, "calls")?;
+    for call in calls[1..].split('[').skip(1) {
+        let call = call.split(']').next().unwrap_or("");
+        let items: Vec<&str> = call
+            .split(',')
+            .map(|i| i.trim().trim_matches('"'))
+            .collect();
+        let [budget, word, model, returned, steps, expansions] = items[..] else {
+            return Err(format!("not a call: {call}"));
+        };
+        let expected: Parts = (
+            answer_of(word, model)?,
+            number(steps)?,
+            number(expansions)?,
+            checkpoint_of(returned)?,
+        );
+        let found = walk(&input, &checkpoint, number(budget)?).map(parts);
+        compare("call", found, Ok(expected))?;
+        checkpoint = expected.3;
+    }
+    compare_list(&input)
+}
+
+/// list, with no vectors of its own, against walk calls of the same budget.
+fn compare_list(input: &[u8]) -> Compared {
+    let mut models = [0; 20];
+    let found = list(input, &start_checkpoint(), &mut models).map_err(|r| format!("{r:?}"))?;
+    let mut checkpoint = start_checkpoint();
+    for i in 0..=found.written {
+        let expected = if i < found.written {
+            Answer::Model(models[i])
+        } else if found.written < models.len() {
+            Answer::Ended
+        } else {
+            break;
+        };
+        let walked = walk(input, &checkpoint, 96).map_err(|r| format!("{r:?}"))?;
+        compare("list", walked.progress.answer, expected)?;
+        checkpoint = walked.checkpoint;
+    }
+    compare("list's checkpoint", found.checkpoint, checkpoint)
+}
+
+fn compare_printed(line: &str) -> Compared {
+    let input = hex_field(line, "stdin")?;
+    compare(
+        "text",
+        print(&input),
+        field(line, "stdout")?.replace("\\n", "\n"),
+    )
+}
+
+fn compare_line(act: &str, line: &str) -> Compared {
+    match act {
+        "start" => compare_start(line),
+        "check" => compare_check(line),
+        "judge" => compare_judge(line),
+        "walk" => compare_walk(line),
+        "chain" => compare_chain(line),
+        "printed" => compare_printed(line),
+        _ => Err("unknown act".to_string()),
+    }
+}
+
+fn main() -> ExitCode {
+    let Some(path) = std::env::args().nth(1) else {
+        eprintln!("usage: vectors FILE");
+        return ExitCode::from(2);
+    };
+    let text = match std::fs::read_to_string(&path) {
+        Ok(text) => text,
+        Err(error) => {
+            eprintln!("{path}: {error}");
+            return ExitCode::from(2);
+        }
+    };
+    // By act: vectors and differences.
+    let mut counts: BTreeMap<&str, (usize, usize)> = BTreeMap::new();
+    for (index, line) in text.lines().enumerate() {
+        let act = field(line, "act").unwrap_or("unknown");
+        let count = counts.entry(act).or_default();
+        count.0 += 1;
+        if let Err(difference) = compare_line(act, line) {
+            count.1 += 1;
+            println!("line {}: {act}: {difference}", index + 1);
+        }
+    }
+    for (act, (vectors, differences)) in &counts {
+        println!("{act}: {vectors} vectors, {differences} differences");
+    }
+    if counts.is_empty() || counts.values().any(|(_, differences)| *differences > 0) {
+        return ExitCode::FAILURE;
+    }
+    ExitCode::SUCCESS
+}

@@ -1,0 +1,221 @@
+//! Nodes of the walk (01: places), and which variable is assigned next there.
+
+use crate::bits::{bit, highest, lowest, numbers};
+use crate::formula::{Formula, MAX_VARIABLES};
+use crate::matching::Matching;
+
+/// A matched formula, with what the walk asks of it at hand. It has no more clauses than variables, so that a set of clauses
+/// is a mask, too.
+#[derive(Clone)]
+pub(crate) struct Occurrences {
+    pub variables: usize,
+    /// By clause: the variables that it names.
+    named: [u64; MAX_VARIABLES],
+    /// By variable: the clauses in which it is a positive literal.
+    positive_in: [u64; MAX_VARIABLES],
+    /// By variable: the clauses in which it is a negative literal.
+    negative_in: [u64; MAX_VARIABLES],
+}
+
+impl Occurrences {
+    pub fn new(formula: &Formula) -> Self {
+        let mut found = Occurrences {
+            variables: formula.variables(),
+            named: [0; MAX_VARIABLES],
+            positive_in: [0; MAX_VARIABLES],
+            negative_in: [0; MAX_VARIABLES],
+        };
+        for (index, clause) in formula.clauses().iter().enumerate() {
+            found.named[index] = clause.named();
+            for variable in numbers(clause.positive) {
+                found.positive_in[variable] |= bit(index);
+            }
+            for variable in numbers(clause.negative) {
+                found.negative_in[variable] |= bit(index);
+            }
+        }
+        found
+    }
+
+    /// The clauses in which the variable, with this value, is a true literal.
+    #[inline]
+    fn satisfied_by(&self, variable: usize, value: bool) -> u64 {
+        if value {
+            self.positive_in[variable]
+        } else {
+            self.negative_in[variable]
+        }
+    }
+}
+
+/// What is left of the formula when some variables are assigned.
+#[derive(Clone, Copy, Default)]
+pub(crate) struct Node {
+    /// The variables without a value.
+    unassigned: u64,
+    /// The clauses without a true literal. False literals are gone from them.
+    clauses: u64,
+    /// The unassigned variables that are positive literals of these clauses.
+    positive: u64,
+    /// The unassigned variables that are negative literals of these clauses.
+    negative: u64,
+}
+
+/// Which variable is assigned next at a node, and its open values: those that some model has there.
+#[derive(Clone, Copy, Default)]
+pub(crate) struct Choice {
+    pub variable: usize,
+    pub false_open: bool,
+    pub true_open: bool,
+}
+
+impl Choice {
+    #[inline]
+    fn both_open(variable: usize) -> Self {
+        Choice {
+            variable,
+            false_open: true,
+            true_open: true,
+        }
+    }
+
+    #[inline]
+    pub fn open(&self, value: bool) -> bool {
+        if value {
+            self.true_open
+        } else {
+            self.false_open
+        }
+    }
+}
+
+impl Node {
+    /// The node with nothing assigned.
+    pub fn root(formula: &Formula) -> Self {
+        let mut node = Node {
+            unassigned: bit(formula.variables()) - 1,
+            clauses: bit(formula.clauses().len()) - 1,
+            positive: 0,
+            negative: 0,
+        };
+        for clause in formula.clauses() {
+            node.positive |= clause.positive;
+            node.negative |= clause.negative;
+        }
+        node
+    }
+
+    /// The node after assigning a variable.
+    #[inline]
+    pub fn assign(mut self, formula: &Occurrences, variable: usize, value: bool) -> Self {
+        self.unassigned &= !bit(variable);
+        self.positive &= self.unassigned;
+        self.negative &= self.unassigned;
+        self.drop_clauses(formula, formula.satisfied_by(variable, value));
+        self
+    }
+
+    /// Takes clauses away, and the literals that stood only in them.
+    #[inline]
+    fn drop_clauses(&mut self, formula: &Occurrences, dropped: u64) {
+        let mut touched = 0;
+        for clause in numbers(dropped & self.clauses) {
+            touched |= formula.named[clause];
+        }
+        self.clauses &= !dropped;
+        for variable in numbers(touched & self.unassigned) {
+            if formula.positive_in[variable] & self.clauses == 0 {
+                self.positive &= !bit(variable);
+            }
+            if formula.negative_in[variable] & self.clauses == 0 {
+                self.negative &= !bit(variable);
+            }
+        }
+    }
+
+    /// The next variable to assign; the expansions of all trials add to those of `matching`, which they use.
+    #[inline]
+    pub fn choose(&self, formula: &Occurrences, matching: &mut Matching) -> Choice {
+        if self.clauses == 0 {
+            return Choice::both_open(lowest(self.unassigned));
+        }
+        let stripped = self.strip(formula);
+        if stripped.left.clauses != 0 {
+            return stripped.left.try_upward(formula, matching);
+        }
+        // The noted variables in order, then the others that are named here, upward: the last one.
+        let others = (self.positive | self.negative) & !stripped.noted;
+        let variable = if others == 0 {
+            stripped.last_noted
+        } else {
+            highest(others)
+        };
+        Choice {
+            variable,
+            false_open: !self.has_unit(formula, variable, true),
+            true_open: !self.has_unit(formula, variable, false),
+        }
+    }
+
+    /// Eliminates pure literals (01: stripping): always the lowest variable that is named in only one way.
+    #[inline]
+    fn strip(&self, formula: &Occurrences) -> Stripped {
+        let mut left = *self;
+        let mut noted = 0;
+        let mut last_noted = 0;
+        loop {
+            let pure = left.positive ^ left.negative;
+            if pure == 0 {
+                return Stripped {
+                    left,
+                    noted,
+                    last_noted,
+                };
+            }
+            last_noted = lowest(pure);
+            noted |= bit(last_noted);
+            let naming = formula.positive_in[last_noted] | formula.negative_in[last_noted];
+            left.drop_clauses(formula, naming);
+        }
+    }
+
+    /// The first variable, upward, for which the clauses can be matched with it false and with it true.
+    fn try_upward(&self, formula: &Occurrences, matching: &mut Matching) -> Choice {
+        for variable in numbers(self.positive | self.negative) {
+            if self.try_value(formula, matching, variable, false)
+                && self.try_value(formula, matching, variable, true)
+            {
+                return Choice::both_open(variable);
+            }
+        }
+        unreachable!("the source's theorem 5.9: some variable passes its trial")
+    }
+
+    /// One half of a trial: whether the clauses can be matched once the variable has the value.
+    fn try_value(
+        &self,
+        formula: &Occurrences,
+        matching: &mut Matching,
+        variable: usize,
+        value: bool,
+    ) -> bool {
+        let live = self.unassigned & !bit(variable);
+        matching.clear();
+        numbers(self.clauses & !formula.satisfied_by(variable, value))
+            .all(|clause| matching.add(&formula.named, live, clause))
+    }
+
+    /// Whether some clause has only this literal left, so that the other value would empty it.
+    fn has_unit(&self, formula: &Occurrences, variable: usize, value: bool) -> bool {
+        numbers(self.clauses & formula.satisfied_by(variable, value))
+            .any(|clause| formula.named[clause] & self.unassigned == bit(variable))
+    }
+}
+
+/// What pure literal elimination leaves, and the noted variables.
+struct Stripped {
+    left: Node,
+    noted: u64,
+    /// Means something if some variable is noted.
+    last_noted: usize,
+}

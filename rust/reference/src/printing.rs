@@ -1,0 +1,47 @@
+//! The printed walk.
+
+use crate::formula::{decode, Refusal};
+use crate::walking::{Answer, Progress, Walker, LIST_BUDGET};
+use std::fmt::Write;
+
+/// After this many models the printed walk says `more`.
+const MOST_MODELS: usize = 1000;
+
+/// What the program that prints a walk writes for an input.
+pub fn print(input: &[u8]) -> String {
+    match print_models(input) {
+        Ok(text) => text,
+        Err(refusal) => format!("refused {} {}\n", refusal.number, refusal.place),
+    }
+}
+
+fn print_models(input: &[u8]) -> Result<String, Refusal> {
+    let formula = decode(input)?;
+    let mut walker = Walker::start(&formula)?;
+    let variables = formula.variables();
+    let mut text = format!("switches {} rules {}\n", variables, formula.clauses().len());
+    for _ in 0..MOST_MODELS {
+        let Progress {
+            answer,
+            steps,
+            expansions,
+        } = walker.advance(LIST_BUDGET);
+        let first_word = match answer {
+            Answer::Model(model) => digits(model, variables),
+            _ => "end".to_string(),
+        };
+        writeln!(text, "{first_word} {steps} {expansions}").expect("writing to a string");
+        if answer == Answer::Ended {
+            return Ok(text);
+        }
+    }
+    text.push_str("more\n");
+    Ok(text)
+}
+
+/// A digit for each variable, the first one first.
+fn digits(model: u64, variables: usize) -> String {
+    (0..variables)
+        .map(|v| if model >> v & 1 == 1 { '1' } else { '0' })
+        .collect()
+}
