@@ -1,0 +1,126 @@
+-- What each exported function gives, from what its parts ensure: nothing is written, or the results are.
+use Prim.Native.Nat.{ℕ}
+use mathlib.Core.List.{List}
+use mathlib.Core.Path.{_≡_, sym, ap, _∙_}
+use lib.ListN.{length}
+use borrow.Author.Tests.{eq-eqb, ne-eqb}
+use Rattle.formula.specs.Check as check
+use Rattle.formula.specs.Check.{checked}
+use Rattle.matched.specs.Judge as judging
+use Rattle.matched.specs.Judge.{judge}
+use Rattle.walk.specs.Checkpoints.{Checkpoint, start}
+use Rattle.walk.specs.WalkCall.{Result, walk-call}
+use Rattle.enumeration.specs.declared.Listed.{Listed}
+use Rattle.enumeration.specs.declared.Walked.{Walked}
+use Rattle.enumeration.specs.Values.{checkpoint-values, values, listed-values}
+use Rattle.enumeration.specs.Lists.{Listing, next-models}
+use Rattle.capi.specs.Interface.{check-row, judge-row, walk-row, list-row, checkpoint-bytes, checkpoint-in, check-called, judge-called, start-called, walk-called, list-called}
+use Rattle.capi.proofs.RowLaws.{beside}
+
+module _ (s results : List ℕ) (a : ℕ) where
+  pub check-unwritten : (length results ≡ 6 → ⊥) → check-called s a results ≡ record { code = 1; results = results }
+  unfolding check-called
+  check-unwritten h = rw (ne-eqb _ _ h)
+
+  pub check-written :
+      (r : check.Answer) (after : List ℕ) →
+      length results ≡ 6 →
+      r ≡ checked s a → after ≡ check-row r → check-called s a results ≡ record { code = 0; results = after }
+  unfolding check-called
+  check-written r after h e f = rw (eq-eqb _ _ h, f, e)
+
+module _ (s buffer results : List ℕ) where
+  pub judge-unwritten :
+      (length results ≡ 6 → ⊥) → judge-called s buffer results ≡ record { code = 1; buffer = buffer; results = results }
+  unfolding judge-called
+  judge-unwritten h = rw (ne-eqb _ _ h)
+
+  pub judge-written :
+      (r : judging.Answer) (left after : List ℕ) →
+      length results ≡ 6 →
+      r ≡ judge s buffer .answer →
+      left ≡ judge s buffer .buffer →
+      after ≡ judge-row r → judge-called s buffer results ≡ record { code = 0; buffer = left; results = after }
+  unfolding judge-called
+  judge-written r left after h e l f = rw (eq-eqb _ _ h, f, e, l)
+
+module _ (checkpoint : List ℕ) where
+  pub start-unwritten : (length checkpoint ≡ 50 → ⊥) → start-called checkpoint ≡ record { code = 1; checkpoint = checkpoint }
+  unfolding start-called
+  start-unwritten h = rw (ne-eqb _ _ h)
+
+  pub start-written :
+      (c : Checkpoint) (after : List ℕ) →
+      length checkpoint ≡ 50 →
+      c ≡ start → after ≡ checkpoint-bytes c → start-called checkpoint ≡ record { code = 0; checkpoint = after }
+  unfolding start-called
+  start-written c after h e f = rw (eq-eqb _ _ h, f, e)
+
+module _ (s checkpoint results : List ℕ) (budget : ℕ) where
+  pub walk-unwritten :
+      (length checkpoint ≡ 50 → ⊥) →
+      walk-called s checkpoint budget results ≡ record { code = 1; checkpoint = checkpoint; results = results }
+  unfolding walk-called
+  walk-unwritten h = rw (ne-eqb _ _ h)
+
+  pub walk-unwritten-2 :
+      length checkpoint ≡ 50 →
+      (length results ≡ 6 → ⊥) →
+      walk-called s checkpoint budget results ≡ record { code = 1; checkpoint = checkpoint; results = results }
+  unfolding walk-called
+  walk-unwritten-2 h k = rw (eq-eqb _ _ h, ne-eqb _ _ k)
+
+  -- both lengths are right
+  pub walk-called-is :
+      length checkpoint ≡ 50 →
+      length results ≡ 6 →
+      (let r = walk-call s (checkpoint-in checkpoint) budget in
+      walk-called s checkpoint budget results ≡
+      record { code = 0; checkpoint = checkpoint-bytes (r .checkpoint); results = walk-row r })
+  unfolding walk-called
+  walk-called-is h k = rw (eq-eqb _ _ h, eq-eqb _ _ k)
+
+  pub walk-written :
+      (from : Checkpoint) (w : Walked) (left after : List ℕ) →
+      length checkpoint ≡ 50 →
+      length results ≡ 6 →
+      from ≡ checkpoint-in checkpoint →
+      values w ≡ walk-call s from budget →
+      left ≡ checkpoint-bytes (checkpoint-values (w .checkpoint)) →
+      after ≡ walk-row (values w) →
+      walk-called s checkpoint budget results ≡ record { code = 0; checkpoint = left; results = after }
+  walk-written from w left after h k f e l g =
+      rw (walk-called-is h k, ← f, ← e, l, g, beside (w .answer) (w .steps) (w .expansions) (checkpoint-values (w .checkpoint)))
+
+module _ (s checkpoint models results : List ℕ) where
+  pub list-unwritten :
+      (length checkpoint ≡ 50 → ⊥) →
+      list-called s checkpoint models results ≡ record { code = 1; checkpoint = checkpoint; models = models; results = results }
+  unfolding list-called
+  list-unwritten h = rw (ne-eqb _ _ h)
+
+  pub list-unwritten-2 :
+      length checkpoint ≡ 50 →
+      (length results ≡ 6 → ⊥) →
+      list-called s checkpoint models results ≡ record { code = 1; checkpoint = checkpoint; models = models; results = results }
+  unfolding list-called
+  list-unwritten-2 h k = rw (eq-eqb _ _ h, ne-eqb _ _ k)
+
+  pub list-written :
+      (from : Checkpoint) (r : Listed) (left brought after : List ℕ) →
+      length checkpoint ≡ 50 →
+      length results ≡ 6 →
+      from ≡ checkpoint-in checkpoint →
+      Listing (next-models s from (length models)) models brought r →
+      left ≡ checkpoint-bytes (checkpoint-values (r .checkpoint)) →
+      after ≡ list-row (r .count) (listed-values r) →
+      list-called s checkpoint models results ≡ record { code = 0; checkpoint = left; models = brought; results = after }
+  unfolding list-called
+  list-written from r left brought after h k f e l g =
+      let x = next-models s from (length models) in
+      let c : x .last .checkpoint ≡ checkpoint-values (r .checkpoint) =
+      ap (λ (q : Result). q .checkpoint) (sym (e .last)) ∙ beside (r .answer) 0 0 (checkpoint-values (r .checkpoint)) in
+      let p : left ≡ checkpoint-bytes (x .last .checkpoint) = l ∙ ap checkpoint-bytes (sym c) in
+      let q : after ≡ list-row (length (x .models)) (x .last) =
+      g ∙ ap (list-row (r .count)) (e .last) ∙ ap (λ (n : ℕ). list-row n (x .last)) (e .count) in
+      rw (eq-eqb _ _ h, eq-eqb _ _ k, ← f, p, q, e .written)

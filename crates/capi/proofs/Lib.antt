@@ -1,0 +1,4 @@
+pub mod CallLaws
+pub mod RowLaws
+pub mod SliceLaws
+pub mod Theorems

@@ -1,0 +1,70 @@
+-- `norwythai_list`: nothing is written, or the models, the row of the last result and its checkpoint.
+use mathlib.Core.Path.{_∙_}
+use borrow.Author.Needs.{needs}
+use Rattle.capi.proofs.CallLaws.{list-unwritten, list-unwritten-2, list-written}
+use Rattle.capi.proofs.norwythai_list.Statement.{statement}
+use Rattle.capi.proofs.norwythai_list.Tie as tie
+
+returns : tie.Need-returns
+returns c =
+    let a = c .before .before .before .before .before .args in
+    list-unwritten (a .input .now) (a .checkpoint .now) (a .models .now) (a .results .now) (c .if1 .taken)
+
+returns-2 : tie.Need-returns-2
+returns-2 c =
+    let a = c .before .before .before .before .before .before .args in
+    list-unwritten-2 (a .input .now) (a .checkpoint .now) (a .models .now) (a .results .now) (c .before .if1 .left) (c .if2 .taken)
+
+checkpoint-in-requires : tie.Need-checkpoint-in-requires
+checkpoint-in-requires c κs = search needs
+
+list-requires : tie.Need-list-requires
+list-requires c κs = search needs
+
+put-checkpoint-requires : tie.Need-put-checkpoint-requires
+put-checkpoint-requires c κs = search needs
+
+list-row-requires : tie.Need-list-row-requires
+list-row-requires c κs = search needs
+
+put-row-requires : tie.Need-put-row-requires
+put-row-requires c κs = search needs
+
+same-length : tie.Need-same-length
+same-length c = search needs
+
+same-length-2 : tie.Need-same-length-2
+same-length-2 c = search needs
+
+same-length-3 : tie.Need-same-length-3
+same-length-3 c = search needs
+
+returns-3 : tie.Need-returns-3
+returns-3 c =
+    let p = c .before .before .before .before .before .before .before in
+    let m = p .before .before .before .before .before in
+    let e = m .before .before .before .before in
+    let a = e .before .before .before .before .before .before .args in
+    list-written (a .input .now) (a .checkpoint .now) (a .models .now) (a .results .now) _ _ _ _ _
+    (e .before .if1 .left)
+    (e .if2 .left)
+    (m .before .before .checkpoint-in .ensures)
+    (m .list .ensures)
+    (p .put-checkpoint .ensures)
+    (c .before .before .put-row .ensures ∙ c .before .before .before .before .list-row .ensures)
+
+pub norwythai-list-spec : {M : Type 1} → statement M
+norwythai-list-spec =
+    tie.close
+    (tie.spec
+    returns
+    returns-2
+    checkpoint-in-requires
+    list-requires
+    put-checkpoint-requires
+    list-row-requires
+    put-row-requires
+    same-length
+    same-length-2
+    same-length-3
+    returns-3)

@@ -1,0 +1,66 @@
+-- `norwythai_walk`: nothing is written, or the row of the result and its checkpoint.
+use mathlib.Core.Path.{_∙_}
+use borrow.Author.Needs.{needs}
+use Rattle.capi.proofs.CallLaws.{walk-unwritten, walk-unwritten-2, walk-written}
+use Rattle.capi.proofs.norwythai_walk.Statement.{statement}
+use Rattle.capi.proofs.norwythai_walk.Tie as tie
+
+returns : tie.Need-returns
+returns c =
+    let a = c .before .before .before .before .args in
+    walk-unwritten (a .input .now) (a .checkpoint .now) (a .results .now) (a .budget) (c .if1 .taken)
+
+returns-2 : tie.Need-returns-2
+returns-2 c =
+    let a = c .before .before .before .before .before .args in
+    walk-unwritten-2 (a .input .now) (a .checkpoint .now) (a .results .now) (a .budget) (c .before .if1 .left) (c .if2 .taken)
+
+checkpoint-in-requires : tie.Need-checkpoint-in-requires
+checkpoint-in-requires c κs = search needs
+
+walk-requires : tie.Need-walk-requires
+walk-requires c κs = search needs
+
+put-checkpoint-requires : tie.Need-put-checkpoint-requires
+put-checkpoint-requires c κs = search needs
+
+walk-row-requires : tie.Need-walk-row-requires
+walk-row-requires c κs = search needs
+
+put-row-requires : tie.Need-put-row-requires
+put-row-requires c κs = search needs
+
+same-length : tie.Need-same-length
+same-length c = search needs
+
+same-length-2 : tie.Need-same-length-2
+same-length-2 c = search needs
+
+returns-3 : tie.Need-returns-3
+returns-3 c =
+    let p = c .before .before .before .before .before .before .before in
+    let w = p .before .before .before in
+    let e = w .before .before .before in
+    let a = e .before .before .before .before .before .args in
+    walk-written (a .input .now) (a .checkpoint .now) (a .results .now) (a .budget) _ (w .walk .result) _ _
+    (e .before .if1 .left)
+    (e .if2 .left)
+    (w .before .checkpoint-in .ensures)
+    (w .walk .ensures)
+    (p .put-checkpoint .ensures)
+    (c .before .before .put-row .ensures ∙ c .before .before .before .before .walk-row .ensures)
+
+pub norwythai-walk-spec : {M : Type 1} → statement M
+norwythai-walk-spec =
+    tie.close
+    (tie.spec
+    returns
+    returns-2
+    checkpoint-in-requires
+    walk-requires
+    put-checkpoint-requires
+    walk-row-requires
+    put-row-requires
+    same-length
+    same-length-2
+    returns-3)

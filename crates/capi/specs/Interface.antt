@@ -1,0 +1,136 @@
+-- The interface to C: for each exported function the number that it returns, and each lent buffer as it is left.
+use Prim.Native.Nat.{ℕ}
+use mathlib.Core.Bool.{Bool, cond, _&&_}
+use mathlib.Core.List.{List, [], _∷_}
+use lib.Dec.{eqb}
+use lib.ListN.{length, getD, drop}
+use Rattle.lists.specs.Over.{over}
+use Rattle.formula.specs.Check as check
+use Rattle.formula.specs.Check.{Said, said-yes, said-no, said-neither, checked}
+use Rattle.matched.specs.Judge as judging
+use Rattle.matched.specs.Judge.{judge}
+use Rattle.walk.specs.Checkpoints.{Checkpoint, start}
+use Rattle.walk.specs.WalkCall.{Kind, says-model, says-spent, says-ended, says-refused, Result, walk-call}
+use Rattle.enumeration.specs.Lists.{next-models}
+
+-- ---- results: six numbers, of which the first says the answer, and the third and fourth are the refusal's number and place
+
+abbrev pub said-code : Said → ℕ
+said-code said-yes = 0
+said-code said-no = 1
+said-code said-neither = 3
+
+abbrev pub kind-code : Kind → ℕ
+kind-code says-model = 0
+kind-code says-spent = 1
+kind-code says-ended = 2
+kind-code says-refused = 3
+
+abbrev pub check-row : check.Answer → List ℕ
+check-row a = said-code (a .said) ∷ 0 ∷ a .number ∷ a .place ∷ 0 ∷ 0 ∷ []
+
+-- accepted if there is no refusal's number; at the end the numbers of variables and of clauses
+abbrev pub judge-row : judging.Answer → List ℕ
+judge-row a = cond (eqb (a .number) 0) 0 3 ∷ 0 ∷ a .number ∷ a .place ∷ a .variables ∷ a .clauses ∷ []
+
+-- the model, or 0; at the end the steps and the expansions
+abbrev pub walk-row : Result → List ℕ
+walk-row r = kind-code (r .kind) ∷ r .model ∷ r .number ∷ r .place ∷ r .steps ∷ r .expansions ∷ []
+
+-- the last call's answer, and how many models were brought
+abbrev pub list-row : ℕ → Result → List ℕ
+list-row count r = kind-code (r .kind) ∷ r .model ∷ r .number ∷ r .place ∷ count ∷ 0 ∷ []
+
+-- ---- checkpoints: 50 bytes, the mode, the length and the trail
+
+abbrev pub checkpoint-bytes : Checkpoint → List ℕ
+checkpoint-bytes c = c .mode ∷ c .length ∷ c .bytes
+
+abbrev pub checkpoint-in : List ℕ → Checkpoint
+checkpoint-in b = record { mode = getD b 0 0; length = getD b 1 0; bytes = drop 2 b }
+
+-- ---- the functions. Each writes only into buffers of the fixed lengths: else it returns 1, and all stays as it was
+
+abbrev pub six : List ℕ → Bool
+six results = eqb (length results) 6
+
+abbrev pub fifty : List ℕ → Bool
+fifty checkpoint = eqb (length checkpoint) 50
+
+-- norwythai_check
+pub record CheckCalled : Type 0 where
+  pub code : ℕ
+  pub results : List ℕ
+
+-- the input, the assignment, and the results as they were
+unfoldable pub check-called : List ℕ → ℕ → List ℕ → CheckCalled
+check-called s a results =
+    cond (six results) (record { code = 0; results = check-row (checked s a) }) (record { code = 1; results = results })
+
+-- norwythai_judge
+pub record JudgeCalled : Type 0 where
+  pub code : ℕ
+  pub buffer : List ℕ
+  pub results : List ℕ
+
+-- the input, and the pairing buffer and the results as they were
+unfoldable pub judge-called : List ℕ → List ℕ → List ℕ → JudgeCalled
+judge-called s buffer results =
+    let j = judge s buffer in
+    cond (six results)
+    (record { code = 0; buffer = j .buffer; results = judge-row (j .answer) })
+    (record { code = 1; buffer = buffer; results = results })
+
+-- norwythai_start
+pub record StartCalled : Type 0 where
+  pub code : ℕ
+  pub checkpoint : List ℕ
+
+-- the checkpoint as it was
+unfoldable pub start-called : List ℕ → StartCalled
+start-called checkpoint =
+    cond (fifty checkpoint)
+    (record { code = 0; checkpoint = checkpoint-bytes start })
+    (record { code = 1; checkpoint = checkpoint })
+
+-- norwythai_walk
+pub record WalkCalled : Type 0 where
+  pub code : ℕ
+  pub checkpoint : List ℕ
+  pub results : List ℕ
+
+-- the input, the checkpoint as it was, the budget, and the results as they were
+unfoldable pub walk-called : List ℕ → List ℕ → ℕ → List ℕ → WalkCalled
+walk-called s checkpoint budget results =
+    let r = walk-call s (checkpoint-in checkpoint) budget in
+    cond (fifty checkpoint && six results)
+    (record { code = 0; checkpoint = checkpoint-bytes (r .checkpoint); results = walk-row r })
+    (record { code = 1; checkpoint = checkpoint; results = results })
+
+-- What a list of such calls writes into the results, budget by budget. All get the same input, and nobody else writes the checkpoint
+-- or the results between them.
+unfoldable pub walk-rows : List ℕ → List ℕ → List ℕ → List ℕ → List (List ℕ)
+walk-rows s checkpoint results [] = []
+walk-rows s checkpoint results (b ∷ bs) =
+    let r = walk-called s checkpoint b results in
+    r .results ∷ walk-rows s (r .checkpoint) (r .results) bs
+
+-- norwythai_list
+pub record ListCalled : Type 0 where
+  pub code : ℕ
+  pub checkpoint : List ℕ
+  pub models : List ℕ
+  pub results : List ℕ
+
+-- the input, and the checkpoint, the models and the results as they were: the models brought stand over the first ones
+unfoldable pub list-called : List ℕ → List ℕ → List ℕ → List ℕ → ListCalled
+list-called s checkpoint models results =
+    let x = next-models s (checkpoint-in checkpoint) (length models) in
+    cond (fifty checkpoint && six results)
+    (record {
+      code = 0;
+      checkpoint = checkpoint-bytes (x .last .checkpoint);
+      models = over (x .models) models;
+      results = list-row (length (x .models)) (x .last);
+    })
+    (record { code = 1; checkpoint = checkpoint; models = models; results = results })

@@ -1,0 +1,2 @@
+pub mod InnerRow
+pub mod Interface

@@ -1,0 +1,226 @@
+// The functions exported to C and Rust. Each is lent its buffers as slices: a pointer and a length. Results go out as six numbers,
+// a checkpoint as 50 bytes.
+ghost use mathlib.Core.Path.{_≡_};
+ghost use lib.ListN.{length, drop};
+ghost use Rattle.formula.specs.Check as check;
+ghost use Rattle.formula.specs.Refusals.{listing};
+ghost use Rattle.matched.specs.Judge as judging;
+ghost use Rattle.walk.specs.Checkpoints as walk;
+ghost use Rattle.enumeration.specs.Values.{checkpoint-values, answer-values, values, listed-values};
+ghost use Rattle.capi.specs.InnerRow.{numbers};
+ghost use Rattle.capi.specs.Interface.{check-row, judge-row, walk-row, list-row, checkpoint-bytes, checkpoint-in, check-called, judge-called, start-called, walk-called, list-called};
+use enumeration::Checkpoint;
+use enumeration::Listed;
+use enumeration::Walked;
+use formula::Refusal;
+use formula::Verdict;
+use matched::Judgement;
+
+// The results of a call, in the order in which they are written. judge has the numbers of variables and clauses in place of the
+// steps and expansions, list the number of models in place of the steps.
+struct Row {
+    answer: u64,
+    model: u64,
+    number: u64,
+    place: u64,
+    steps: u64,
+    expansions: u64,
+}
+
+// An answer that is no refusal.
+fn plain_row(answer: u64, model: u64, steps: u64, expansions: u64) -> Row
+    ensures { λ r. ⌜ r ≡ record { answer = answer; model = model; number = 0; place = 0; steps = steps; expansions = expansions } ⌝ }
+{
+    Row {
+        answer,
+        model,
+        number: 0,
+        place: 0,
+        steps,
+        expansions,
+    }
+}
+
+fn refusal_row(refusal: Refusal, steps: u64, expansions: u64) -> Row
+    ensures { λ r. ⌜ r ≡ record { answer = 3; model = 0; number = listing refusal .number; place = listing refusal .place; steps = steps; expansions = expansions } ⌝ }
+{
+    Row {
+        answer: 3,
+        model: 0,
+        number: formula::number_of(refusal),
+        place: formula::place_of(refusal) as u64,
+        steps,
+        expansions,
+    }
+}
+
+fn check_row(v: Verdict) -> Row
+    ensures { λ r. ⌜ numbers r ≡ check-row (check.values v) ⌝ }
+{
+    match v {
+        Verdict::Model => plain_row(0, 0, 0, 0),
+        Verdict::NotModel => plain_row(1, 0, 0, 0),
+        Verdict::Refused(refusal) => refusal_row(refusal, 0, 0),
+    }
+}
+
+fn judge_row(j: Judgement) -> Row
+    ensures { λ r. ⌜ numbers r ≡ judge-row (judging.values j) ⌝ }
+{
+    match j {
+        Judgement::Accepted(n, m) => plain_row(0, 0, n as u64, m as u64),
+        Judgement::Refused(refusal) => refusal_row(refusal, 0, 0),
+    }
+}
+
+fn answer_row(answer: enumeration::Answer, steps: u64, expansions: u64) -> Row
+    ensures { λ r. ⌜ ((c : walk.Checkpoint) → numbers r ≡ walk-row (answer-values answer steps expansions c)) ⌝ }
+{
+    match answer {
+        enumeration::Answer::Model(model) => plain_row(0, model, steps, expansions),
+        enumeration::Answer::Spent => plain_row(1, 0, steps, expansions),
+        enumeration::Answer::Ended => plain_row(2, 0, steps, expansions),
+        enumeration::Answer::Refused(refusal) => refusal_row(refusal, steps, expansions),
+    }
+}
+
+fn walk_row(w: Walked) -> Row
+    ensures { λ r. ⌜ numbers r ≡ walk-row (values w) ⌝ }
+{
+    let answer = w.answer;
+    answer_row(answer, w.steps, w.expansions)
+}
+
+fn list_row(l: Listed) -> Row
+    ensures { λ r. ⌜ numbers r ≡ list-row (l .count) (listed-values l) ⌝ }
+{
+    let answer = l.answer;
+    answer_row(answer, l.count as u64, 0)
+}
+
+// Writes the results.
+fn put_row(r: Row, results: &mut [u64])
+    requires { ⌜ length (now results) ≡ 6 ⌝ }
+    ensures { λ _. ⌜ now (results .exit) ≡ numbers r ⌝ }
+{
+    results[0] = r.answer;
+    results[1] = r.model;
+    results[2] = r.number;
+    results[3] = r.place;
+    results[4] = r.steps;
+    results[5] = r.expansions;
+}
+
+fn trail_in(checkpoint: &[u8]) -> [u8; 48]
+    requires { ⌜ length (now checkpoint) ≡ 50 ⌝ }
+    ensures { λ r. ⌜ r ≡ drop 2 (now (checkpoint .entry)) ⌝ }
+{
+    let mut trail = [0u8; 48];
+    bytes::copy(&checkpoint[2..], &mut trail);
+    trail
+}
+
+// The checkpoint that 50 bytes hold.
+fn checkpoint_in(checkpoint: &[u8]) -> Checkpoint
+    requires { ⌜ length (now checkpoint) ≡ 50 ⌝ }
+    ensures { λ r. ⌜ checkpoint-values r ≡ checkpoint-in (now (checkpoint .entry)) ⌝ }
+{
+    Checkpoint {
+        mode: checkpoint[0],
+        length: checkpoint[1],
+        bytes: trail_in(checkpoint),
+    }
+}
+
+// Writes a checkpoint's 50 bytes.
+fn put_checkpoint(c: Checkpoint, checkpoint: &mut [u8])
+    requires { ⌜ length (now checkpoint) ≡ 50 ⌝ }
+    ensures { λ _. ⌜ now (checkpoint .exit) ≡ checkpoint-bytes (checkpoint-values c) ⌝ }
+{
+    checkpoint[0] = c.mode;
+    checkpoint[1] = c.length;
+    let trail = c.bytes;
+    bytes::copy(&trail, &mut checkpoint[2..]);
+}
+
+// The act check (01).
+#[no_mangle]
+pub extern "C" fn norwythai_check(input: &[u8], assignment: u64, results: &mut [u64]) -> u32
+    ensures { λ r. ⌜ check-called (now (input .entry)) assignment (now (results .entry)) ≡ record { code = r; results = now (results .exit) } ⌝ }
+{
+    if results.len() != 6 {
+        return 1;
+    }
+    put_row(check_row(formula::check(input, assignment)), results);
+    0
+}
+
+// The act judge (01).
+#[no_mangle]
+pub extern "C" fn norwythai_judge(input: &[u8], buffer: &mut [u8], results: &mut [u64]) -> u32
+    ensures { λ r. ⌜ judge-called (now (input .entry)) (now (buffer .entry)) (now (results .entry)) ≡ record { code = r; buffer = now (buffer .exit); results = now (results .exit) } ⌝ }
+{
+    if results.len() != 6 {
+        return 1;
+    }
+    put_row(judge_row(matched::find_matching(input, buffer)), results);
+    0
+}
+
+// The start checkpoint (01: start marker).
+#[no_mangle]
+pub extern "C" fn norwythai_start(checkpoint: &mut [u8]) -> u32
+    ensures { λ r. ⌜ start-called (now (checkpoint .entry)) ≡ record { code = r; checkpoint = now (checkpoint .exit) } ⌝ }
+{
+    if checkpoint.len() != 50 {
+        return 1;
+    }
+    put_checkpoint(enumeration::start_checkpoint(), checkpoint);
+    0
+}
+
+// A walk call (01).
+#[no_mangle]
+pub extern "C" fn norwythai_walk(
+    input: &[u8],
+    checkpoint: &mut [u8],
+    budget: u32,
+    results: &mut [u64],
+) -> u32
+    ensures { λ r. ⌜ walk-called (now (input .entry)) (now (checkpoint .entry)) budget (now (results .entry)) ≡ record { code = r; checkpoint = now (checkpoint .exit); results = now (results .exit) } ⌝ }
+{
+    if checkpoint.len() != 50 {
+        return 1;
+    }
+    if results.len() != 6 {
+        return 1;
+    }
+    let w = enumeration::walk(input, checkpoint_in(checkpoint), budget);
+    let after = w.checkpoint;
+    put_checkpoint(after, checkpoint);
+    put_row(walk_row(w), results);
+    0
+}
+
+// The next models, as many as the slice has room for.
+#[no_mangle]
+pub extern "C" fn norwythai_list(
+    input: &[u8],
+    checkpoint: &mut [u8],
+    models: &mut [u64],
+    results: &mut [u64],
+) -> u32
+    ensures { λ r. ⌜ list-called (now (input .entry)) (now (checkpoint .entry)) (now (models .entry)) (now (results .entry)) ≡ record { code = r; checkpoint = now (checkpoint .exit); models = now (models .exit); results = now (results .exit) } ⌝ }
+{
+    if checkpoint.len() != 50 {
+        return 1;
+    }
+    if results.len() != 6 {
+        return 1;
+    }
+    let l = enumeration::list(input, checkpoint_in(checkpoint), models);
+    let after = l.checkpoint;
+    put_checkpoint(after, checkpoint);
+    put_row(list_row(l), results);
+    0
+}

@@ -1,0 +1,134 @@
+/*
+ * Norwythai: the models of a matched CNF formula, one after the other.
+ *
+ * The functions of libcapi.a. For each it is proved what it returns and how it leaves every buffer, on all inputs:
+ * crates/capi/specs/Interface.antt has the definitions, and the comments here say them in words. None keeps any state, allocates or
+ * calls the system: the archive needs memcpy and memset alone, and calls on different buffers may run at the same time.
+ *
+ * WHAT NO PROOF COVERS, and the caller must see to:
+ *   - Each pointer is valid for the length that goes with it: so many elements can be read and, behind a pointer that is not const,
+ *     written. During the call nobody else writes a buffer, nor reads one that is written.
+ *   - Each length is the true one, counted in elements: bytes for uint8_t, numbers for uint64_t.
+ *   - A buffer that is written (behind a pointer that is not const) overlaps no other buffer of the call.
+ *   - A uint64_t pointer is aligned for uint64_t.
+ *   - No pointer is null, also where the length is 0: pass a valid non-null pointer with length 0.
+ *
+ * THE INPUT is an encoded formula: records of a kind byte and a body.
+ *
+ *   kind  meaning                                              body
+ *   1     the number of variables n, 1 to 48; first, and once  one byte
+ *   2     the clause has this variable as a positive literal   one byte, 1 to n
+ *   3     the clause has this variable as a negative literal   one byte, 1 to n
+ *   4     the clause ends                                      none
+ *   5     the formula ends; nothing may follow                 none
+ *
+ * At most 96 clauses. An assignment is a 64-bit number: variable v, counted from 1, is true if bit v - 1 is set. A model is an
+ * assignment in which every clause has a literal that is true, and no variable above n is.
+ *
+ * THE RESULTS are NORWYTHAI_RESULTS numbers:
+ *
+ *              check        judge          walk             list
+ *   results[0] the answer, one of the four below
+ *   results[1] 0            0              the model, or 0  the last call's model, or 0
+ *   results[2] the refusal's number, or 0 if the answer is no refusal
+ *   results[3] the refusal's place, or 0 if the answer is no refusal
+ *   results[4] 0            variables n    steps made       how many models were written
+ *   results[5] 0            clauses m      expansions made  0
+ *
+ *   answer                  check          judge            walk                list
+ *   0 NORWYTHAI_MODEL       a model: yes   matched          a model             the slice is full
+ *   1 NORWYTHAI_SPENT       no model: no   -                the budget is used  (empty slice only)
+ *   2 NORWYTHAI_ENDED       -              -                no model is left    no model is left
+ *   3 NORWYTHAI_REFUSED     refused        refused          refused             refused
+ *
+ * REFUSALS. Places are offsets into the input, counted from 0, except at 10.
+ *
+ *   number  trade's word     given if                                            place
+ *    1      short slate      judge is lent a buffer below 96 bytes               0
+ *    2      cut short        the input runs out within a record or before kind 5 length of the input
+ *    3      unknown kind     a kind byte is not 1 to 5                           that byte
+ *    4      misplaced        the kind may not stand here                         that byte
+ *    5      bad kit          n is 0 or above 48                                  the kind byte
+ *    6      no such switch   a variable is 0 or above n                          the kind byte
+ *    7      named twice      the clause already has the variable                 the kind byte
+ *    8      too many rules   the 97th clause ends                                the kind byte
+ *    9      tail             a byte follows kind 5                               that byte
+ *   10      over-ruled       the clauses can't be matched with variables         number of marked clauses
+ *   11      foreign marker   the walk of this input never has this checkpoint    0
+ *   12      stray switch     a checked assignment has a variable above n true    0
+ *
+ * They are tested in the order 1, then record by record 2 to 8, then 9, 10, 11, 12. check gives 2 to 9 and 12 only; judge 1 to 10;
+ * walk and list 2 to 11. On a refusal results[1], results[4] and results[5] are 0.
+ *
+ * A CHECKPOINT is NORWYTHAI_CHECKPOINT bytes that say where a walk stands: mode, length, 48 bytes of trail. norwythai_start gives the
+ * first, norwythai_walk and norwythai_list each the next. It can be kept, copied and sent anywhere, and used again with the same input.
+ *
+ * THE RETURNED NUMBER of every function is 0 if the results (norwythai_start: the checkpoint) were written, and 1 if `results_length`
+ * is not NORWYTHAI_RESULTS or `checkpoint_length` is not NORWYTHAI_CHECKPOINT: then no byte of any buffer has changed. A refusal is an
+ * answer: the function returns 0.
+ */
+#ifndef NORWYTHAI_H
+#define NORWYTHAI_H
+
+#include <stddef.h>
+#include <stdint.h>
+
+#define NORWYTHAI_RESULTS 6
+#define NORWYTHAI_CHECKPOINT 50
+#define NORWYTHAI_BUFFER 96
+
+#define NORWYTHAI_MODEL 0
+#define NORWYTHAI_SPENT 1
+#define NORWYTHAI_ENDED 2
+#define NORWYTHAI_REFUSED 3
+
+#ifdef __cplusplus
+extern "C" {
+#endif
+
+/*
+ * Whether the assignment is a model of the formula, which need not be matched.
+ * Reads the input and the assignment; writes the results.
+ */
+uint32_t norwythai_check(const uint8_t *input, size_t input_length, uint64_t assignment,
+                         uint64_t *results, size_t results_length);
+
+/*
+ * Whether the formula is matched: each clause can have a variable that it names, no variable used twice.
+ * Reads the input; writes the results and into the buffer, of which it needs NORWYTHAI_BUFFER bytes or more (fewer: refusal 1).
+ * Matched: byte i of the buffer, i below m, is the variable matched with clause i + 1, and results[4] and results[5] are n and m.
+ * Refusal 10: byte i is 1 if clause i + 1 is marked, else 0; the marked clauses name fewer variables than they are, and results[3]
+ * is how many they are. The buffer's other bytes never change; on any other refusal none does.
+ */
+uint32_t norwythai_judge(const uint8_t *input, size_t input_length, uint8_t *buffer, size_t buffer_length,
+                         uint64_t *results, size_t results_length);
+
+/*
+ * The checkpoint at which every walk starts. Writes the checkpoint: 50 zeros.
+ */
+uint32_t norwythai_start(uint8_t *checkpoint, size_t checkpoint_length);
+
+/*
+ * One walk call: goes on from the checkpoint until a model or the end comes, or as many steps as the budget are made.
+ * Reads the input, the checkpoint and the budget; writes the results, and over the checkpoint the one to go on from.
+ * After NORWYTHAI_SPENT and NORWYTHAI_MODEL the walk goes on by another call. After NORWYTHAI_ENDED another call says it again. On a
+ * refusal the checkpoint stays as it was. A budget of 96 always brings a model or the end.
+ */
+uint32_t norwythai_walk(const uint8_t *input, size_t input_length, uint8_t *checkpoint, size_t checkpoint_length,
+                        uint32_t budget, uint64_t *results, size_t results_length);
+
+/*
+ * The next models, as many as there is room for: what a list of walk calls of budget 96 gives, in one call.
+ * Reads the input and the checkpoint; writes the models from the front of `models`, the results, and over the checkpoint the one to
+ * go on from. It stops when `models` is full (NORWYTHAI_MODEL), at the end (NORWYTHAI_ENDED), or at a refusal, which leaves the
+ * checkpoint as it was. What stands behind the last model written does not change. `models_length` may be any number; with 0 it makes
+ * one walk call of budget 0 (NORWYTHAI_SPENT, or NORWYTHAI_ENDED from a checkpoint at the end, or a refusal).
+ */
+uint32_t norwythai_list(const uint8_t *input, size_t input_length, uint8_t *checkpoint, size_t checkpoint_length,
+                        uint64_t *models, size_t models_length, uint64_t *results, size_t results_length);
+
+#ifdef __cplusplus
+}
+#endif
+
+#endif
