@@ -58,8 +58,9 @@ pub enum Verdict {
     Refused(Refusal),
 }
 
-// Where reading stands: the offset of the next record, the number of variables once kind 1 is read, how many clauses have
-// ended, and what the current clause names so far.
+// Where reading stands: the number of variables once kind 1 is read, the offset of the next record, how many clauses have
+// ended, and what the current clause names so far. The byte stands first, as a refusal's case does, so that in an event the two
+// share whole fields.
 struct Reader {
     variables: u8,
     at: usize,
