@@ -1,4 +1,4 @@
--- Laws of the test `one-to m`, for a number n that the code holds equal to the byte b.
+-- Laws of the test `one-to m`.
 use Prim.Native.Nat.{ℕ, _≤_, _<_}
 use mathlib.Core.Bool.{true, false}
 use mathlib.Core.Path.{_≡_}
@@ -9,22 +9,16 @@ use Rattle.lists.proofs.TestLaws.{and-left, and-right}
 use Rattle.formula.specs.Decode.{one-to}
 
 -- 0 is not 1 to m
-pub one-to-zero : (m n b : ℕ) → n ≡ b → n ≡ 0 → one-to m b ≡ false
-one-to-zero m n b e z = let l : b ≤ 0 = omega arith in rw (le-ltb 0 b l)
+pub one-to-zero : (m b : ℕ) → b ≡ 0 → one-to m b ≡ false
+one-to-zero m b z = let l : b ≤ 0 = omega arith in rw (le-ltb 0 b l)
 
 -- nor is what is above m
-pub one-to-above : (m n b : ℕ) → n ≡ b → m < n → one-to m b ≡ false
-one-to-above m n b e h =
-    let l : 0 < b = omega arith in
-    let g : m < b = omega arith in
-    rw (lt-ltb 0 b l, lt-leb b m g)
+pub one-to-above : (m b : ℕ) → m < b → one-to m b ≡ false
+one-to-above m b h = let l : 0 < b = omega arith in rw (lt-ltb 0 b l, lt-leb b m h)
 
 -- every other number is
-pub one-to-within : (m n b : ℕ) → n ≡ b → (n ≡ 0 → ⊥) → n ≤ m → one-to m b ≡ true
-one-to-within m n b e z h =
-    let l : 0 < b = omega arith in
-    let g : b ≤ m = omega arith in
-    rw (lt-ltb 0 b l, le-leb b m g)
+pub one-to-within : (m b : ℕ) → (b ≡ 0 → ⊥) → b ≤ m → one-to m b ≡ true
+one-to-within m b z h = let l : 0 < b = omega arith in rw (lt-ltb 0 b l, le-leb b m h)
 
 -- what is 1 to m is at least 1
 pub one-to-least : (m b : ℕ) → one-to m b ≡ true → 1 ≤ b

@@ -58,11 +58,12 @@ pub enum Verdict {
     Refused(Refusal),
 }
 
-// Where reading stands: the offset of the next record, the number of variables once kind 1 is read, how many clauses have
-// ended, and what the current clause names so far.
+// Where reading stands: the number of variables once kind 1 is read, the offset of the next record, how many clauses have
+// ended, and what the current clause names so far. The byte stands first, as a refusal's case does, so that in an event the two
+// share whole fields.
 struct Reader {
+    variables: u8,
     at: usize,
-    variables: usize,
     count: usize,
     current: Clause,
 }
@@ -129,7 +130,7 @@ fn read_count(input: &[u8], r: Reader) -> Event
     if input.len() <= at + 1 {
         return Event::Stopped(Refusal::Truncated(input.len()));
     }
-    let n = wide(input[at + 1]);
+    let n = input[at + 1];
     if n == 0 {
         return Event::Stopped(Refusal::BadVariableCount(at));
     }
@@ -138,8 +139,8 @@ fn read_count(input: &[u8], r: Reader) -> Event
     }
     let current = r.current;
     Event::Next(Reader {
-        at: at + 2,
         variables: n,
+        at: at + 2,
         count: r.count,
         current,
     })
@@ -155,8 +156,8 @@ fn read_variable(r: Reader, v: usize, sign: bool) -> Event
         return Event::Stopped(Refusal::RepeatedVariable(r.at));
     }
     Event::Next(Reader {
-        at: r.at + 2,
         variables: r.variables,
+        at: r.at + 2,
         count: r.count,
         current: add_literal(current, v, sign),
     })
@@ -174,14 +175,14 @@ fn read_literal(input: &[u8], r: Reader, sign: bool) -> Event
     if input.len() <= at + 1 {
         return Event::Stopped(Refusal::Truncated(input.len()));
     }
-    let b = wide(input[at + 1]);
+    let b = input[at + 1];
     if b == 0 {
         return Event::Stopped(Refusal::NoSuchVariable(at));
     }
     if r.variables < b {
         return Event::Stopped(Refusal::NoSuchVariable(at));
     }
-    read_variable(r, b - 1, sign)
+    read_variable(r, wide(b) - 1, sign)
 }
 
 // Kind 4.
@@ -197,8 +198,8 @@ fn read_end(r: Reader) -> Event
         return Event::Stopped(Refusal::TooManyClauses(at));
     }
     Event::Next(Reader {
-        at: at + 1,
         variables: r.variables,
+        at: at + 1,
         count: r.count + 1,
         current: empty_clause(),
     })
@@ -264,8 +265,8 @@ pub fn decode(input: &[u8]) -> Decoded
 {
     let mut clauses = no_clauses();
     let mut reader = Reader {
-        at: 0,
         variables: 0,
+        at: 0,
         count: 0,
         current: empty_clause(),
     };
@@ -281,7 +282,7 @@ pub fn decode(input: &[u8]) -> Decoded
             }
             Event::Finished => {
                 let formula = Formula {
-                    variables: reader.variables,
+                    variables: wide(reader.variables),
                     count: reader.count,
                     clauses,
                 };

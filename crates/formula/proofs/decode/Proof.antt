@@ -56,9 +56,15 @@ loop-again-2 c = turn (c .before .before .before .before) .kept (c .if1 .left)
 enum-told : tie.Need-enum-told Inv-loop μ-loop
 enum-told c = search needs
 
+wide-requires : tie.Need-wide-requires Inv-loop μ-loop
+wide-requires c κs = search needs
+
 returns : tie.Need-returns Inv-loop μ-loop
 unfolding decoded
-returns c = sym (turn-finished (whole _ _ _ (c .before .before .before .loop .inv)) (sym (c .before .before .read-record .ensures) ∙ c .enum-told .given .1))
+returns c =
+    let e = c .before in
+    let r = e .before .before in
+    rw (c .wide .ensures) (sym (turn-finished (whole _ _ _ (r .before .loop .inv)) (sym (r .read-record .ensures) ∙ e .enum-told .given .1)))
 
 enum-known-refusal : tie.Need-enum-known-refusal Inv-loop μ-loop
 enum-known-refusal c = search needs
@@ -88,6 +94,7 @@ decode-spec =
     loop-less-2
     loop-again-2
     enum-told
+    wide-requires
     returns
     enum-known-refusal
     refuse-requires

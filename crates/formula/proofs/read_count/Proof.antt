@@ -17,29 +17,26 @@ returns-2 : tie.Need-returns-2
 unfolding count-event
 returns-2 c = simp (eq-eqb _ _ (c .before .if1 .left), le-ltb _ _ (c .if2 .taken))
 
-add-wide : tie.Need-add-wide
-add-wide c = search needs
+add-n : tie.Need-add-n
+add-n c = search needs
 
-shared-slice-read-wide : tie.Need-shared-slice-read-wide
-shared-slice-read-wide c = search needs
-
-wide-requires : tie.Need-wide-requires
-wide-requires c κs = search needs
+shared-slice-read-n : tie.Need-shared-slice-read-n
+shared-slice-read-n c = search needs
 
 returns-3 : tie.Need-returns-3
 unfolding count-event
-returns-3 c = simp (eq-eqb _ _ (c .before .before .before .before .if1 .left), lt-ltb _ _ (c .before .before .before .if2 .left), one-to-zero 48 _ _ (c .before .wide .ensures) (c .if3 .taken))
+returns-3 c = simp (eq-eqb _ _ (c .before .before .before .if1 .left), lt-ltb _ _ (c .before .before .if2 .left), one-to-zero 48 _ (c .if3 .taken))
 
 returns-4 : tie.Need-returns-4
 unfolding count-event
-returns-4 c = simp (eq-eqb _ _ (c .before .before .before .before .before .if1 .left), lt-ltb _ _ (c .before .before .before .before .if2 .left), one-to-above 48 _ _ (c .before .before .wide .ensures) (c .if4 .taken))
+returns-4 c = simp (eq-eqb _ _ (c .before .before .before .before .if1 .left), lt-ltb _ _ (c .before .before .before .if2 .left), one-to-above 48 _ (c .if4 .taken))
 
 add-t9 : tie.Need-add-t9
 add-t9 c = search needs
 
 returns-5 : tie.Need-returns-5
 unfolding count-event
-returns-5 c = simp (eq-eqb _ _ (c .before .before .before .before .before .before .if1 .left), lt-ltb _ _ (c .before .before .before .before .before .if2 .left), one-to-within 48 _ _ (c .before .before .before .wide .ensures) (c .before .before .if3 .left) (c .before .if4 .left), c .before .before .before .wide .ensures)
+returns-5 c = simp (eq-eqb _ _ (c .before .before .before .before .before .if1 .left), lt-ltb _ _ (c .before .before .before .before .if2 .left), one-to-within 48 _ (c .before .before .if3 .left) (c .before .if4 .left))
 
 pub read-count-spec : {M : Type 1} → statement M
 read-count-spec =
@@ -48,9 +45,8 @@ read-count-spec =
     returns
     add-if2
     returns-2
-    add-wide
-    shared-slice-read-wide
-    wide-requires
+    add-n
+    shared-slice-read-n
     returns-3
     returns-4
     add-t9

@@ -18,22 +18,22 @@ returns-2 : tie.Need-returns-2
 unfolding literal-event
 returns-2 c = simp (ne-eqb _ _ (c .before .if1 .left), le-ltb _ _ (c .if2 .taken))
 
-add-wide : tie.Need-add-wide
-add-wide c = search needs
+add-b : tie.Need-add-b
+add-b c = search needs
 
-shared-slice-read-wide : tie.Need-shared-slice-read-wide
-shared-slice-read-wide c = search needs
-
-wide-requires : tie.Need-wide-requires
-wide-requires c κs = search needs
+shared-slice-read-b : tie.Need-shared-slice-read-b
+shared-slice-read-b c = search needs
 
 returns-3 : tie.Need-returns-3
 unfolding literal-event
-returns-3 c = simp (ne-eqb _ _ (c .before .before .before .before .if1 .left), lt-ltb _ _ (c .before .before .before .if2 .left), one-to-zero (c .before .before .before .before .before .before .args .r .variables) _ _ (c .before .wide .ensures) (c .if3 .taken))
+returns-3 c = simp (ne-eqb _ _ (c .before .before .before .if1 .left), lt-ltb _ _ (c .before .before .if2 .left), one-to-zero (c .before .before .before .before .before .args .r .variables) _ (c .if3 .taken))
 
 returns-4 : tie.Need-returns-4
 unfolding literal-event
-returns-4 c = simp (ne-eqb _ _ (c .before .before .before .before .before .before .if1 .left), lt-ltb _ _ (c .before .before .before .before .before .if2 .left), one-to-above (c .before .before .before .before .before .before .before .before .args .r .variables) _ _ (c .before .before .before .wide .ensures) (c .if4 .taken))
+returns-4 c = simp (ne-eqb _ _ (c .before .before .before .before .before .if1 .left), lt-ltb _ _ (c .before .before .before .before .if2 .left), one-to-above (c .before .before .before .before .before .before .before .args .r .variables) _ (c .if4 .taken))
+
+wide-requires : tie.Need-wide-requires
+wide-requires c κs = search needs
 
 sub-read-variable : tie.Need-sub-read-variable
 sub-read-variable c = search needs
@@ -43,7 +43,11 @@ read-variable-requires c κs = search needs
 
 returns-5 : tie.Need-returns-5
 unfolding literal-event
-returns-5 c = c .read-variable .ensures ∙ simp (ne-eqb _ _ (c .before .before .before .before .before .before .before .if1 .left), lt-ltb _ _ (c .before .before .before .before .before .before .if2 .left), one-to-within (c .before .before .before .before .before .before .before .before .before .args .r .variables) _ _ (c .before .before .before .before .wide .ensures) (c .before .before .before .if3 .left) (c .before .if4 .left), c .before .before .before .before .wide .ensures)
+returns-5 c =
+    let e = c .before .before in
+    let o = e .before .before .before .before in
+    c .read-variable .ensures
+    ∙ simp (ne-eqb _ _ (o .before .if1 .left), lt-ltb _ _ (o .if2 .left), one-to-within (o .before .before .before .args .r .variables) _ (e .before .before .if3 .left) (e .if4 .left), c .before .wide .ensures)
 
 pub read-literal-spec : {M : Type 1} → statement M
 read-literal-spec =
@@ -52,11 +56,11 @@ read-literal-spec =
     returns
     add-if2
     returns-2
-    add-wide
-    shared-slice-read-wide
-    wide-requires
+    add-b
+    shared-slice-read-b
     returns-3
     returns-4
+    wide-requires
     sub-read-variable
     read-variable-requires
     returns-5)
