@@ -13,7 +13,8 @@ use Rattle.walk.specs.PlainMachine.{found, spent, ended}
 use Rattle.walk.specs.InnerStack.{Stack, empty, push, depth, trail-of, Tree}
 use Rattle.walk.specs.InnerMachine.{Position, down, full, back, over, Resumed}
 use Rattle.walk.specs.InnerTest.{mode-of, stack-of, shown}
-use Rattle.walk.specs.WalkCall.{answered, resumed-result}
+use Rattle.walk.specs.InnerCall.{resumed-result}
+use Rattle.walk.specs.WalkCall.{answered}
 use Rattle.walk.proofs.PositionLaws.{length-trail}
 use Rattle.enumeration.specs.declared.Answer.{Answer}
 use Rattle.enumeration.specs.declared.Answer.the-variants.{Model, Spent, Ended}

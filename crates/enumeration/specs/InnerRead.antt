@@ -10,7 +10,8 @@ use Rattle.formula.specs.Masked.{formula-of}
 use Rattle.walk.specs.InnerStack.{Stack, Tree}
 use Rattle.walk.specs.InnerTest.{replays, position-of}
 use Rattle.walk.specs.Checkpoints.{Checkpoint}
-use Rattle.walk.specs.WalkCall.{Result, call-from, refusing}
+use Rattle.walk.specs.InnerCall.{call-from}
+use Rattle.walk.specs.WalkCall.{Result, refusing}
 use Rattle.enumeration.specs.InnerState.{stack-in, position-in, Follows, Holds, marked-as}
 use Rattle.enumeration.specs.declared.State.{State}
 use Rattle.enumeration.specs.declared.Tested.{Tested}

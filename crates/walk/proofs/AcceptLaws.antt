@@ -7,10 +7,10 @@ use native.Mathlib.Omega.{arith}
 use lib.ListN.{length}
 use Rattle.lists.proofs.TestLaws.{and-left, and-right, and-both}
 use Rattle.walk.specs.Checkpoints.{Checkpoint, checkpoint-of}
-use Rattle.walk.specs.WalkCall.{resumed-result, call-from}
 use Rattle.walk.specs.InnerStack.{Stack, empty, push, trail-of, Tree}
 use Rattle.walk.specs.InnerMachine.{Position, down, full, back, over, next, resume}
 use Rattle.walk.specs.InnerTest.{mode-of, stack-of, shown, read, position-of, formed, fits, accepts}
+use Rattle.walk.specs.InnerCall.{resumed-result, call-from}
 use Rattle.walk.proofs.RestLaws.{Quiet, Replayed, replayed-depth, Ok, Live}
 use Rattle.walk.proofs.PositionLaws.{position-back}
 use Rattle.walk.proofs.TestLaws.{fits-stop, stop-fits}

@@ -14,10 +14,7 @@ use Rattle.splitting.specs.Nodes.{less, assign, remaining, occurs, named, first
 use Rattle.splitting.specs.Stripping.{pure, not-naming, strip}
 use Rattle.splitting.specs.Choosing.{matched, trial, first-passing, candidates, among, listed, last, emptied, last-listed, choice}
 use Rattle.walk.specs.Plain.{assignment, node-walk, plain-walk}
-use Rattle.walk.specs.WalkCall.{Kind, says-model, says-spent, says-ended, Result, walk-call, walk-calls}
-use Rattle.walk.specs.InnerStack.{trail-of}
-use Rattle.walk.specs.InnerMachine.{next, resume}
-use Rattle.walk.specs.InnerTest.{pushed, numbered, zeros, formed, replays, fits, accepts}
+use Rattle.walk.specs.WalkCall.{Kind, says-model, says-spent, says-ended, Result, same-bytes, same, locate-from, located, walk-call, walk-calls}
 use Rattle.walk.specs.Checkpoints.{start, Checkpoint, checkpoint-of, without-last, last-value, past-all, behind, checkpoint-after}
 use Rattle.walk.specs.PlainMachine.{Answer, found, spent, ended, Call, go-on, plain-call, plain-calls}
 
@@ -52,7 +49,7 @@ values r = (r .kind, r .model, r .number, r .steps, r .expansions)
 -- the first formula from its bytes, each call given the checkpoint that the last one returned
 pub from-bytes : map values (walk-calls (1 ∷ 2 ∷ 2 ∷ 1 ∷ 2 ∷ 2 ∷ 4 ∷ 3 ∷ 1 ∷ 3 ∷ 2 ∷ 4 ∷ 5 ∷ []) start (1 ∷ 0 ∷ 96 ∷ 3 ∷ 96 ∷ 96 ∷ 0 ∷ []))
     ≡ (says-spent, 0, 0, 1, 2) ∷ (says-spent, 0, 0, 0, 0) ∷ (says-model, 2, 0, 1, 0) ∷ (says-spent, 0, 0, 3, 0) ∷ (says-model, 1, 0, 1, 0) ∷ (says-ended, 0, 0, 2, 0) ∷ (says-ended, 0, 0, 0, 0) ∷ []
-unfolding plain-calls plain-call go-on plain-walk node-walk assignment choice remaining assign less names names-as occurs named first-from upward-from pure not-naming strip variables matched trial first-passing candidates among listed last emptied last-listed outcome match-rest search-from expand take-front scan see begin no-links owner rematch-from bit members xor walk-calls walk-call start checkpoint-of padded decode records read-record resume next accepts formed fits replays numbered zeros pushed trail-of
+unfolding plain-calls plain-call go-on plain-walk node-walk assignment choice remaining assign less names names-as occurs named first-from upward-from pure not-naming strip variables matched trial first-passing candidates among listed last emptied last-listed outcome match-rest search-from expand take-front scan see begin no-links owner rematch-from bit members xor walk-calls walk-call start checkpoint-of padded decode records read-record located locate-from same same-bytes checkpoint-after behind past-all without-last last-value
 from-bytes = refl
 
 -- the refusal's number and place
@@ -61,30 +58,30 @@ refusal r = (r .number, r .place)
 
 -- (¬1): true is closed at the root, so that the end follows the undoing of false in the same call, and mode 2 at length 0 is never had
 pub closed-root : refusal (walk-call (1 ∷ 1 ∷ 3 ∷ 1 ∷ 4 ∷ 5 ∷ []) (checkpoint-of 2 []) 96) ≡ (11, 0)
-unfolding plain-calls plain-call go-on plain-walk node-walk assignment choice remaining assign less names names-as occurs named first-from upward-from pure not-naming strip variables matched trial first-passing candidates among listed last emptied last-listed outcome match-rest search-from expand take-front scan see begin no-links owner rematch-from bit members xor walk-calls walk-call start checkpoint-of padded decode records read-record resume next accepts formed fits replays numbered zeros pushed trail-of
+unfolding plain-calls plain-call go-on plain-walk node-walk assignment choice remaining assign less names names-as occurs named first-from upward-from pure not-naming strip variables matched trial first-passing candidates among listed last emptied last-listed outcome match-rest search-from expand take-front scan see begin no-links owner rematch-from bit members xor walk-calls walk-call start checkpoint-of padded decode records read-record located locate-from same same-bytes checkpoint-after behind past-all without-last last-value
 closed-root = refl
 
 -- on the first formula mode 2 is had at length 0
 pub open-root : refusal (walk-call (1 ∷ 2 ∷ 2 ∷ 1 ∷ 2 ∷ 2 ∷ 4 ∷ 3 ∷ 1 ∷ 3 ∷ 2 ∷ 4 ∷ 5 ∷ []) (checkpoint-of 2 []) 96) ≡ (0, 0)
-unfolding plain-calls plain-call go-on plain-walk node-walk assignment choice remaining assign less names names-as occurs named first-from upward-from pure not-naming strip variables matched trial first-passing candidates among listed last emptied last-listed outcome match-rest search-from expand take-front scan see begin no-links owner rematch-from bit members xor walk-calls walk-call start checkpoint-of padded decode records read-record resume next accepts formed fits replays numbered zeros pushed trail-of
+unfolding plain-calls plain-call go-on plain-walk node-walk assignment choice remaining assign less names names-as occurs named first-from upward-from pure not-naming strip variables matched trial first-passing candidates among listed last emptied last-listed outcome match-rest search-from expand take-front scan see begin no-links owner rematch-from bit members xor walk-calls walk-call start checkpoint-of padded decode records read-record located locate-from same same-bytes checkpoint-after behind past-all without-last last-value
 open-root = refl
 
 -- mode 3 is never had there
 pub never-three : refusal (walk-call (1 ∷ 2 ∷ 2 ∷ 1 ∷ 2 ∷ 2 ∷ 4 ∷ 3 ∷ 1 ∷ 3 ∷ 2 ∷ 4 ∷ 5 ∷ []) (checkpoint-of 3 []) 96) ≡ (11, 0)
-unfolding plain-calls plain-call go-on plain-walk node-walk assignment choice remaining assign less names names-as occurs named first-from upward-from pure not-naming strip variables matched trial first-passing candidates among listed last emptied last-listed outcome match-rest search-from expand take-front scan see begin no-links owner rematch-from bit members xor walk-calls walk-call start checkpoint-of padded decode records read-record resume next accepts formed fits replays numbered zeros pushed trail-of
+unfolding plain-calls plain-call go-on plain-walk node-walk assignment choice remaining assign less names names-as occurs named first-from upward-from pure not-naming strip variables matched trial first-passing candidates among listed last emptied last-listed outcome match-rest search-from expand take-front scan see begin no-links owner rematch-from bit members xor walk-calls walk-call start checkpoint-of padded decode records read-record located locate-from same same-bytes checkpoint-after behind past-all without-last last-value
 never-three = refl
 
 -- 10 before 11, with the number of marked clauses
 pub empty-clause : refusal (walk-call (1 ∷ 1 ∷ 4 ∷ 5 ∷ []) (checkpoint-of 3 []) 96) ≡ (10, 1)
-unfolding plain-calls plain-call go-on plain-walk node-walk assignment choice remaining assign less names names-as occurs named first-from upward-from pure not-naming strip variables matched trial first-passing candidates among listed last emptied last-listed outcome match-rest search-from expand take-front scan see begin no-links owner rematch-from bit members xor walk-calls walk-call start checkpoint-of padded decode records read-record resume next accepts formed fits replays numbered zeros pushed trail-of
+unfolding plain-calls plain-call go-on plain-walk node-walk assignment choice remaining assign less names names-as occurs named first-from upward-from pure not-naming strip variables matched trial first-passing candidates among listed last emptied last-listed outcome match-rest search-from expand take-front scan see begin no-links owner rematch-from bit members xor walk-calls walk-call start checkpoint-of padded decode records read-record located locate-from same same-bytes checkpoint-after behind past-all without-last last-value
 empty-clause = refl
 
 -- and two of them
 pub two-marked : refusal (walk-call (1 ∷ 1 ∷ 2 ∷ 1 ∷ 4 ∷ 3 ∷ 1 ∷ 4 ∷ 5 ∷ []) start 0) ≡ (10, 2)
-unfolding plain-calls plain-call go-on plain-walk node-walk assignment choice remaining assign less names names-as occurs named first-from upward-from pure not-naming strip variables matched trial first-passing candidates among listed last emptied last-listed outcome match-rest search-from expand take-front scan see begin no-links owner rematch-from bit members xor walk-calls walk-call start checkpoint-of padded decode records read-record resume next accepts formed fits replays numbered zeros pushed trail-of
+unfolding plain-calls plain-call go-on plain-walk node-walk assignment choice remaining assign less names names-as occurs named first-from upward-from pure not-naming strip variables matched trial first-passing candidates among listed last emptied last-listed outcome match-rest search-from expand take-front scan see begin no-links owner rematch-from bit members xor walk-calls walk-call start checkpoint-of padded decode records read-record located locate-from same same-bytes checkpoint-after behind past-all without-last last-value
 two-marked = refl
 
 -- 2 before both
 pub no-bytes : refusal (walk-call [] (checkpoint-of 3 []) 96) ≡ (2, 0)
-unfolding plain-calls plain-call go-on plain-walk node-walk assignment choice remaining assign less names names-as occurs named first-from upward-from pure not-naming strip variables matched trial first-passing candidates among listed last emptied last-listed outcome match-rest search-from expand take-front scan see begin no-links owner rematch-from bit members xor walk-calls walk-call start checkpoint-of padded decode records read-record resume next accepts formed fits replays numbered zeros pushed trail-of
+unfolding plain-calls plain-call go-on plain-walk node-walk assignment choice remaining assign less names names-as occurs named first-from upward-from pure not-naming strip variables matched trial first-passing candidates among listed last emptied last-listed outcome match-rest search-from expand take-front scan see begin no-links owner rematch-from bit members xor walk-calls walk-call start checkpoint-of padded decode records read-record located locate-from same same-bytes checkpoint-after behind past-all without-last last-value
 no-bytes = refl

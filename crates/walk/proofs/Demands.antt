@@ -78,12 +78,12 @@ module _ (s : List ℕ) (n : ℕ) (cs : List (List Literal)) (reads : decode s �
   from-checkpoint c w b = ap (λ (x : Checkpoint). walk-call s x b) (sym (w .1)) ∙ laws.call-plain s n cs reads M (w .0) b
 
   -- Demand 1, 'A marker that the sheet's walk never has is refused too': 11 exactly for the checkpoints that the walk never has
-  pub foreign-exactly : (c : Checkpoint) (b : ℕ) → length (c .bytes) ≡ 48 → (walk-call s c b .number ≡ 11) ↔ (Has n cs c → ⊥)
-  foreign-exactly c b h = laws.foreign-number s n cs reads M c b h
+  pub foreign-exactly : (c : Checkpoint) (b : ℕ) → (walk-call s c b .number ≡ 11) ↔ (Has n cs c → ⊥)
+  foreign-exactly c b = laws.foreign-number s n cs reads M c b
 
   -- 'the marker comes back as handed in, set-up 0, moves 0, reaches 0'
-  pub foreign-returned : (c : Checkpoint) (b : ℕ) → length (c .bytes) ≡ 48 → (Has n cs c → ⊥) → walk-call s c b ≡ refusing (ForeignCheckpoint 0) c
-  foreign-returned c b h f = laws.foreign s n cs reads M c b f h
+  pub foreign-returned : (c : Checkpoint) (b : ℕ) → (Has n cs c → ⊥) → walk-call s c b ≡ refusing (ForeignCheckpoint 0) c
+  foreign-returned c b f = laws.foreign s n cs reads M c b f
 
   -- The checkpoints that the walk has are the start checkpoint and those that calls return.
   pub returned : (c : Checkpoint) → Has n cs c ↔ ((bs : List ℕ) × (last-checkpoint s start bs ≡ c))

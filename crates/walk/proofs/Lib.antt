@@ -1,4 +1,5 @@
 pub mod Cases
+pub mod LocateLaws
 pub mod RestLaws
 pub mod PositionLaws
 pub mod AgreeLaws
@@ -17,6 +18,7 @@ pub mod TreeLaws
 pub mod ProperLaws
 pub mod FormulaLaws
 pub mod RefusalLaws
+pub mod ResumedLaws
 pub mod Demands
 pub mod StoreLaws
 pub mod ReplayLaws

@@ -25,7 +25,8 @@ pub call-unreadable : (s : List ℕ) (r : Refusal) (c : Checkpoint) (b : ℕ) �
 unfolding walk-call
 call-unreadable s r c b e = rw e
 
-call-failure : (s : List ℕ) (n : ℕ) (cs : List (List Literal)) (taken : List ℕ) (e : ℕ) (c : Checkpoint) (b : ℕ) → decode s ≡ readable n cs
+-- a readable, unmatched one gets 10 with the number of marked clauses
+pub call-failure : (s : List ℕ) (n : ℕ) (cs : List (List Literal)) (taken : List ℕ) (e : ℕ) (c : Checkpoint) (b : ℕ) → decode s ≡ readable n cs
     → outcome (map variables cs) ≡ failure taken e → walk-call s c b ≡ refusing (Unmatched (length taken)) c
 unfolding walk-call
 call-failure s n cs taken e c b reads f = rw (reads, f)
@@ -35,7 +36,7 @@ judge-failure : (s buffer : List ℕ) (n : ℕ) (cs : List (List Literal)) (take
 unfolding judge
 judge-failure s buffer n cs taken e l reads f = rw (le-ltb (length buffer) 96 l, reads, f)
 
--- a readable, unmatched one gets 10 with the number of marks that judge gives
+-- which is the number of marks that judge gives
 pub call-unmatched : (s buffer : List ℕ) (n : ℕ) (cs : List (List Literal)) (c : Checkpoint) (b : ℕ) → 96 ≤ length buffer → decode s ≡ readable n cs
     → ((vs : List ℕ) → Pairs cs vs → ⊥)
     → (k : ℕ) × (judge s buffer .answer ≡ refusal (Unmatched k)) × (walk-call s c b ≡ refusing (Unmatched k) c)

@@ -1,9 +1,10 @@
 pub mod Plain
 pub mod Checkpoints
 pub mod PlainMachine
+pub mod WalkCall
 pub mod InnerStack
 pub mod InnerMachine
 pub mod InnerTest
-pub mod WalkCall
+pub mod InnerCall
 pub mod Gaps
 pub mod Proper

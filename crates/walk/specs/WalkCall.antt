@@ -1,7 +1,8 @@
--- 01: the act walk, one call on bytes: 'A walk call takes a sheet, a marker and a budget.'
-use Prim.Native.Nat.{ℕ}
-use mathlib.Core.Bool.{cond}
+-- 01: the act walk, one call on bytes: 'A walk call takes a sheet, a marker and a budget.' Told over the plain machine alone.
+use Prim.Native.Nat.{ℕ, zero, suc}
+use mathlib.Core.Bool.{Bool, true, false, cond, _&&_}
 use mathlib.Core.List.{List, [], _∷_, map}
+use lib.Dec.{eqb}
 use lib.ListN.{length}
 use Rattle.formula.specs.declared.Refusal.{Refusal}
 use Rattle.formula.specs.declared.Refusal.the-variants.{Unmatched, ForeignCheckpoint}
@@ -10,11 +11,9 @@ use Rattle.formula.specs.Format.{Literal}
 use Rattle.formula.specs.Masked.{variables}
 use Rattle.formula.specs.Refusals.{listing}
 use Rattle.matching.specs.Search.{Outcome, success, failure, outcome}
+use Rattle.walk.specs.Plain.{plain-walk}
 use Rattle.walk.specs.Checkpoints.{Checkpoint, checkpoint-after}
-use Rattle.walk.specs.PlainMachine.{Answer, found, spent, ended, Call}
-use Rattle.walk.specs.InnerStack.{Tree, tree}
-use Rattle.walk.specs.InnerMachine.{Resumed, resume}
-use Rattle.walk.specs.InnerTest.{shown, read, position-of, accepts}
+use Rattle.walk.specs.PlainMachine.{Answer, found, spent, ended, Call, plain-call}
 
 -- 'It answers one of four ways: a set-up, spent, ended, refused.'
 pub data Kind : Type 0 where
@@ -58,22 +57,50 @@ refusing r c =
 abbrev pub plain-result : ℕ → List (List Literal) → Call → Result
 plain-result n cs p = answered (p .answer) (p .steps) (p .expansions) (checkpoint-after n cs (p .behind))
 
--- what the resumable machine gives, as a result
-abbrev pub resumed-result : Resumed → Result
-resumed-result r = answered (r .answer) (r .steps) (r .expansions) (shown (r .position))
+-- ---- the state of a checkpoint
 
--- a call from a checkpoint that passed the test
-abbrev pub call-from : Tree → Checkpoint → ℕ → Result
-call-from K c b = resumed-result (resume K b (position-of (K .size) (c .mode) (read c)))
+-- the same bytes
+unfoldable pub same-bytes : List ℕ → List ℕ → Bool
+same-bytes [] [] = true
+same-bytes [] (y ∷ ys) = false
+same-bytes (x ∷ xs) [] = false
+same-bytes (x ∷ xs) (y ∷ ys) = eqb x y && same-bytes xs ys
 
--- matched: 11 where the walk never has this checkpoint; not matched: 10 with the number of marked clauses
-abbrev pub by-outcome : Tree → Outcome → Checkpoint → ℕ → Result
-by-outcome K (success vs e) c b = cond (accepts K c) (call-from K c b) (refusing (ForeignCheckpoint 0) c)
-by-outcome K (failure taken e) c b = refusing (Unmatched (length taken)) c
+-- the same checkpoint: 'a mode, a length and 48 bytes'
+unfoldable pub same : Checkpoint → Checkpoint → Bool
+same c d = eqb (c .mode) (d .mode) && (eqb (c .length) (d .length) && same-bytes (c .bytes) (d .bytes))
+
+-- where the plain machine has a checkpoint: at a state, which is how many entries lie behind; or nowhere
+pub data Located : Type 0 where
+  at-state : ℕ → Located
+  nowhere : Located
+
+module _ (n : ℕ) (cs : List (List Literal)) (c : Checkpoint) where
+  -- the first state with this checkpoint, from k on, by at most f calls of budget 1
+  unfoldable pub locate-from : ℕ → ℕ → Located
+  locate-from zero k = cond (same (checkpoint-after n cs k) c) (at-state k) nowhere
+  locate-from (suc f) k = cond (same (checkpoint-after n cs k) c) (at-state k) (locate-from f (plain-call n cs 1 k .behind))
+
+  -- 'A sheet's walk has the start marker and those so returned on some list of budgets, and no others.' Calls of budget 1 stop wherever
+  -- calls stop, and each leaves an entry more behind while one is ahead: as many calls as there are entries come to the end.
+  unfoldable pub located : Located
+  located = locate-from (length (plain-walk n cs)) 0
+
+  -- a call from there; 11 where 'the walk of this sheet never has this marker'
+  abbrev pub by-state : Located → ℕ → Result
+  by-state (at-state k) b = plain-result n cs (plain-call n cs b k)
+  by-state nowhere b = refusing (ForeignCheckpoint 0) c
+
+-- ---- the call
+
+-- matched: by the checkpoint's state; not matched: 10 with the number of marked clauses
+abbrev pub by-outcome : ℕ → List (List Literal) → Outcome → Checkpoint → ℕ → Result
+by-outcome n cs (success vs e) c b = by-state n cs c (located n cs c) b
+by-outcome n cs (failure taken e) c b = refusing (Unmatched (length taken)) c
 
 -- first 2 to 9, then 10, then 11
 abbrev pub by-decoding : Decoding → Checkpoint → ℕ → Result
-by-decoding (readable n cs) c b = by-outcome (tree n cs) (outcome (map variables cs)) c b
+by-decoding (readable n cs) c b = by-outcome n cs (outcome (map variables cs)) c b
 by-decoding (refused r) c b = refusing r c
 
 -- a walk call: the input, the checkpoint and the budget

@@ -2,7 +2,9 @@
 use borrow.Author.Needs.{needs}
 use mathlib.Core.Path.{sym, _∙_}
 use Rattle.formula.proofs.MaskedLaws.{decoded-accepted, decoded-refused}
-use Rattle.enumeration.proofs.WalkLaws.{accepted-written, walk-read, walk-refused}
+use Rattle.walk.proofs.RefusalLaws.{call-unreadable}
+use Rattle.walk.proofs.ResumedLaws.{call-resumed}
+use Rattle.enumeration.proofs.WalkLaws.{accepted-written}
 use Rattle.enumeration.proofs.walk.Statement.{statement}
 use Rattle.enumeration.proofs.walk.Tie as tie
 
@@ -22,12 +24,12 @@ walk-formula-requires : tie.Need-walk-formula-requires
 walk-formula-requires c κs = accepted-written (c .before .before .before .before .before .args .input .now) _ (decoded-accepted _ _ (c .before .before .before .decode .ensures) (c .before .enum-told .given .1))
 
 returns : tie.Need-returns
-returns c = c .refuse .ensures ∙ sym (walk-refused _ _ _ _ (decoded-refused _ _ _ (c .before .before .before .before .decode .ensures) (c .before .before .outcome .given .1)))
+returns c = c .refuse .ensures ∙ sym (call-unreadable _ _ _ _ (decoded-refused _ _ _ (c .before .before .before .before .decode .ensures) (c .before .before .outcome .given .1)))
 
 returns-2 : tie.Need-returns-2
 returns-2 c =
     let a = decoded-accepted _ _ (c .before .before .before .before .decode .ensures) (c .before .before .enum-told .given .1) in
-    c .walk-formula .ensures (a .variables) (a .clauses) (a .formula) (a .sized) ∙ sym (walk-read _ _ _ _ _ (a .reads))
+    c .walk-formula .ensures (a .variables) (a .clauses) (a .formula) (a .sized) ∙ sym (call-resumed _ _ _ (search needs) _ _ (a .reads))
 
 pub walk-spec : {M : Type 1} → statement M
 walk-spec =
