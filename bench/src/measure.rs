@@ -19,8 +19,11 @@ pub const START: Bytes = [0; 50];
 /// A budget that always brings a model or the end.
 pub const BUDGET: u32 = 96;
 
-/// How often a time is taken; the best counts.
-const ROUNDS: usize = 9;
+/// How often a time is taken, at least, at different depths of the stack; the best counts.
+const ROUNDS: usize = 12;
+
+/// Short acts are measured more often, until this time is over, in milliseconds: others use the machine, too.
+const LEAST_TIME: u128 = 60;
 
 /// A time is taken over so many calls that they last about this long, in nanoseconds.
 const ROUND_TIME: f64 = 40_000.0;
@@ -35,26 +38,46 @@ const LONG_TIME: f64 = 300e6;
 /// The bar: the largest ratio of a row, and the geometric mean of all.
 const BAR: (f64, f64) = (1.5, 1.2);
 
+/// The time of one call, from so many.
+fn time_of(calls: usize, lister: &dyn Lister, act: &mut dyn FnMut(&dyn Lister)) -> f64 {
+    let start = Instant::now();
+    for _ in 0..calls {
+        act(lister);
+    }
+    start.elapsed().as_nanos() as f64 / calls as f64
+}
+
+/// Runs something so many levels deeper on the stack. How arrays lie in the lines of the cache changes the times of single acts
+/// by up to a third, so that times at one depth alone would be a matter of luck.
+#[inline(never)]
+fn deeper(levels: usize, run: &mut dyn FnMut()) {
+    let level = black_box([0_u8; 80]);
+    if levels == 0 {
+        run();
+    } else {
+        deeper(levels - 1, run);
+    }
+    black_box(&level);
+}
+
 /// The best times of an act. The implementations take turns, so that what disturbs one disturbs all; the first calls only warm
 /// up.
 pub fn times(mut act: impl FnMut(&dyn Lister)) -> Times {
-    let mut once = |lister: &dyn Lister, calls: usize| {
-        let start = Instant::now();
-        for _ in 0..calls {
-            act(lister);
-        }
-        start.elapsed().as_nanos() as f64 / calls as f64
-    };
     let calls = LISTERS.map(|lister| {
-        once(lister, 1);
-        let about = once(lister, 1);
+        time_of(1, lister, &mut act);
+        let about = time_of(1, lister, &mut act);
         (ROUND_TIME / about).clamp(1.0, 1_000.0) as usize
     });
     let mut best = [f64::INFINITY; 3];
-    for _ in 0..ROUNDS {
+    let start = Instant::now();
+    let mut round = 0;
+    while round < ROUNDS || start.elapsed().as_millis() < LEAST_TIME {
         for (i, lister) in LISTERS.iter().enumerate() {
-            best[i] = best[i].min(once(*lister, calls[i]));
+            deeper(round % ROUNDS, &mut || {
+                best[i] = best[i].min(time_of(calls[i], *lister, &mut act));
+            });
         }
+        round += 1;
     }
     best
 }
@@ -328,7 +351,7 @@ pub fn print_comparison() {
     print_table(&table);
     println!();
     println!("All three have listed the same models and given the same walk calls and matchings.");
-    println!("Best of {ROUNDS} rounds after a warm-up; a time is the geometric mean over a family's formulas.");
+    println!("Best of {ROUNDS} rounds or more after a warm-up; a time is the geometric mean over a family's formulas.");
     println!("Buffers were not cleared between calls.");
     print_verdict(&rows);
     println!("({:.0} s)", start.elapsed().as_secs_f64());
