@@ -6,7 +6,7 @@ use norwythai_reference::{decode, judge};
 /// The formulas that are kept as data.
 const KEPT: &str = include_str!("../data/families.txt");
 
-/// How many formulas of a family are generated.
+/// How many formulas are generated beside the kept ones of a family.
 const GENERATED: usize = 5;
 
 /// The largest number of variables.
@@ -85,15 +85,15 @@ impl Family {
     /// The kept formulas of the family, and generated ones of 48 variables.
     pub fn cases(&self) -> Vec<Case> {
         let mut cases: Vec<Case> = KEPT.lines().filter_map(|line| self.kept(line)).collect();
-        cases.extend(self.generated(LARGEST));
+        cases.extend(self.generated(LARGEST, GENERATED));
         cases
     }
 
-    /// Generated formulas of so many variables.
-    pub fn generated(&self, variables: usize) -> Vec<Case> {
+    /// So many generated formulas of so many variables.
+    pub fn generated(&self, variables: usize, count: usize) -> Vec<Case> {
         let mut random = Random::new(u64::from(self.letter) << 8 | variables as u64);
         let mut cases = Vec::new();
-        while cases.len() < GENERATED {
+        while cases.len() < count {
             let clauses = (self.generate)(&mut random, variables);
             let name = format!("{}_generated{}", self.letter, cases.len() + 1);
             cases.extend(Case::new(name, encode(variables, &clauses)));
@@ -242,7 +242,7 @@ mod tests {
             kept += cases.len() - GENERATED;
             assert!(cases.iter().all(|case| case.variables == LARGEST));
             for variables in [12, 24, 36] {
-                assert_eq!(family.generated(variables).len(), GENERATED);
+                assert_eq!(family.generated(variables, 3).len(), 3);
             }
         }
         assert_eq!(kept, 12);

@@ -9,6 +9,9 @@ use std::fmt::Write;
 /// The numbers of variables.
 const SIZES: [usize; 4] = [12, 24, 36, 48];
 
+/// Formulas of a family at one size: single ones differ much.
+const FORMULAS: usize = 15;
+
 /// The times of a family at one size.
 struct Point {
     family: &'static str,
@@ -27,7 +30,7 @@ fn model_times(case: &Case) -> Times {
 }
 
 fn point(family: &Family, variables: usize) -> Point {
-    let cases = family.generated(variables);
+    let cases = family.generated(variables, FORMULAS);
     let model: Vec<Times> = cases.iter().map(model_times).collect();
     let walk: Vec<Times> = cases
         .iter()
@@ -70,12 +73,27 @@ impl Point {
     }
 }
 
-/// Prints the table and writes growth.csv beside this package's manifest.
-pub fn print_growth() {
-    let points: Vec<Point> = FAMILIES
-        .iter()
-        .flat_map(|family| SIZES.map(|variables| point(family, variables)))
-        .collect();
+/// The exponent of n by which a time grows from the smallest size to the largest.
+fn exponent(smallest: &Point, largest: &Point, time: impl Fn(&Point) -> f64) -> String {
+    let sizes = largest.variables as f64 / smallest.variables as f64;
+    let times = time(largest) / time(smallest);
+    format!("{:.1}", times.ln() / sizes.ln())
+}
+
+/// A row of exponents for the points of one family, from the smallest to the largest.
+fn exponents(points: &[Point]) -> Vec<String> {
+    let (smallest, largest) = (&points[0], &points[points.len() - 1]);
+    let mut cells = row(&[smallest.family]);
+    for implementation in 0..3 {
+        cells.push(exponent(smallest, largest, |p| p.model[implementation]));
+    }
+    for implementation in 0..3 {
+        cells.push(exponent(smallest, largest, |p| p.walk[implementation]));
+    }
+    cells
+}
+
+fn print_times(points: &[Point]) {
     let mut table = vec![row(&[
         "family",
         "n",
@@ -89,11 +107,42 @@ pub fn print_growth() {
     ])];
     table.extend(points.iter().map(Point::cells));
     print_table(&table);
+}
+
+fn print_exponents(points: &[Point]) {
+    println!("From n = 12 to n = 48 a time grows as n to the power of:");
+    println!();
+    let mut table = vec![row(&[
+        "family",
+        "model: proved",
+        "plain",
+        "tuned",
+        "walk call: proved",
+        "plain",
+        "tuned",
+    ])];
+    table.extend(points.chunks(SIZES.len()).map(exponents));
+    print_table(&table);
+}
+
+/// Writes growth.csv beside this package's manifest.
+fn write_file(points: &[Point]) {
     let mut text = String::from("family,n,m,act,proved_ns,plain_ns,tuned_ns\n");
     text.extend(points.iter().map(Point::lines));
     let path = concat!(env!("CARGO_MANIFEST_DIR"), "/growth.csv");
-    match std::fs::write(path, text) {
-        Ok(()) => println!("\ngrowth.csv is written."),
-        Err(error) => println!("\ngrowth.csv is not written: {error}"),
+    if let Err(error) = std::fs::write(path, text) {
+        eprintln!("growth.csv is not written: {error}");
     }
+}
+
+/// Prints the times and how they grow, and writes them to growth.csv.
+pub fn print_growth() {
+    let points: Vec<Point> = FAMILIES
+        .iter()
+        .flat_map(|family| SIZES.map(|variables| point(family, variables)))
+        .collect();
+    print_times(&points);
+    println!();
+    print_exponents(&points);
+    write_file(&points);
 }

@@ -232,7 +232,7 @@ fn test_method() {
             "{found} bytes were found for {known}"
         );
         println!(
-            "A function that writes {} bytes of its stack: {} found.",
+            "- a function that writes {} bytes of its stack: {} found",
             count_text(known as u64),
             count_text(found as u64)
         );

@@ -83,7 +83,7 @@ fn on_the_families() {
 fn on_smaller_formulas_of_each_family() {
     for family in FAMILIES {
         for variables in 12..48 {
-            family.generated(variables).iter().for_each(same_acts);
+            family.generated(variables, 5).iter().for_each(same_acts);
         }
     }
 }
