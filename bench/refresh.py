@@ -1,7 +1,7 @@
 #!/usr/bin/env python3
 """Runs the benchmark and puts what it prints into docs/PERFORMANCE.md, between its marks, and draws docs/growth.svg.
 
-Run it where `cargo run --release` works in this folder. It needs nothing but Python."""
+Run it where `cargo run --release` works in this folder. It needs valgrind."""
 
 import os
 import re
@@ -17,6 +17,12 @@ def run(*arguments):
     """What the benchmark prints."""
     command = ["cargo", "run", "--release", "--quiet", *(["--", *arguments] if arguments else [])]
     return subprocess.run(command, cwd=HERE, check=True, stdout=subprocess.PIPE, text=True).stdout
+
+
+def script(name):
+    """What a script of this folder prints."""
+    command = [sys.executable, os.path.join(HERE, name)]
+    return subprocess.run(command, check=True, stdout=subprocess.PIPE, text=True).stdout
 
 
 def machine():
@@ -44,6 +50,7 @@ def main():
         "waits": WAITS + waits,
         "growth": run("growth"),
         "stack": run("stack"),
+        "instructions": script("instructions.py"),
     }
     with open(DOCUMENT) as file:
         document = file.read()
@@ -51,7 +58,7 @@ def main():
         document = put(document, mark, text)
     with open(DOCUMENT, "w") as file:
         file.write(document)
-    subprocess.run([sys.executable, os.path.join(HERE, "plot.py")], check=True)
+    script("plot.py")
 
 
 if __name__ == "__main__":

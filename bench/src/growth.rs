@@ -77,7 +77,9 @@ impl Point {
 fn exponent(smallest: &Point, largest: &Point, time: impl Fn(&Point) -> f64) -> String {
     let sizes = largest.variables as f64 / smallest.variables as f64;
     let times = time(largest) / time(smallest);
-    format!("{:.1}", times.ln() / sizes.ln())
+    let rounded = (times.ln() / sizes.ln() * 10.0).round() / 10.0;
+    // Not as a negative zero.
+    format!("{:.1}", rounded + 0.0)
 }
 
 /// A row of exponents for the points of one family, from the smallest to the largest.

@@ -6,6 +6,7 @@ pub mod families;
 pub mod growth;
 pub mod listers;
 pub mod measure;
+pub mod once;
 pub mod random;
 #[allow(unsafe_code)]
 pub mod stack;

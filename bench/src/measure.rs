@@ -47,8 +47,8 @@ fn time_of(calls: usize, lister: &dyn Lister, act: &mut dyn FnMut(&dyn Lister)) 
     start.elapsed().as_nanos() as f64 / calls as f64
 }
 
-/// Runs something so many levels deeper on the stack. How arrays lie in the lines of the cache changes the times of single acts
-/// by up to a third, so that times at one depth alone would be a matter of luck.
+/// Runs something so many levels deeper on the stack. Where a function's frame lies differs from process to process, and changed
+/// some times by about a third: at one depth alone they would be a matter of luck.
 #[inline(never)]
 fn deeper(levels: usize, run: &mut dyn FnMut()) {
     let level = black_box([0_u8; 80]);
@@ -83,32 +83,39 @@ pub fn times(mut act: impl FnMut(&dyn Lister)) -> Times {
 }
 
 /// Lists models from the start. The slice is not cleared before.
-pub fn list_times(case: &Case, models: &mut [u64]) -> Times {
-    times(|lister| {
-        let mut checkpoint = START;
-        let listed = lister.list(black_box(&case.input), &mut checkpoint, models);
-        assert!(black_box(listed).is_ok());
-        black_box((&checkpoint, &*models));
-    })
+pub fn list(lister: &dyn Lister, case: &Case, models: &mut [u64]) {
+    let mut checkpoint = START;
+    let listed = lister.list(black_box(&case.input), &mut checkpoint, models);
+    assert!(black_box(listed).is_ok());
+    black_box((&checkpoint, &*models));
 }
 
 /// One walk call from a checkpoint.
+pub fn walk(lister: &dyn Lister, case: &Case, from: &Bytes) {
+    let mut checkpoint = *black_box(from);
+    let walked = lister.walk(black_box(&case.input), &mut checkpoint, BUDGET);
+    assert!(black_box(walked).is_ok());
+    black_box(&checkpoint);
+}
+
+/// Judge, with a buffer that is not cleared before.
+pub fn judge(lister: &dyn Lister, case: &Case, buffer: &mut [u8; 96]) {
+    let judged = lister.judge(black_box(&case.input), buffer);
+    assert!(black_box(judged).is_ok());
+    black_box(&*buffer);
+}
+
+pub fn list_times(case: &Case, models: &mut [u64]) -> Times {
+    times(|lister| list(lister, case, models))
+}
+
 pub fn walk_times(case: &Case, from: &Bytes) -> Times {
-    times(|lister| {
-        let mut checkpoint = *black_box(from);
-        let walked = lister.walk(black_box(&case.input), &mut checkpoint, BUDGET);
-        assert!(black_box(walked).is_ok());
-        black_box(&checkpoint);
-    })
+    times(|lister| walk(lister, case, from))
 }
 
 fn judge_times(case: &Case) -> Times {
     let mut buffer = [0; 96];
-    times(|lister| {
-        let judged = lister.judge(black_box(&case.input), &mut buffer);
-        assert!(black_box(judged).is_ok());
-        black_box(&buffer);
-    })
+    times(|lister| judge(lister, case, &mut buffer))
 }
 
 /// Reads the longest input whole, and refuses the assignment by 12.

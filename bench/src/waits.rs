@@ -12,10 +12,12 @@ const MODELS: usize = 10_000;
 /// For so many waits the library's walk calls are asked, too.
 const ASKED: usize = 20;
 
-/// The longest that was seen. The end counts as a model here.
+/// The longest that was seen. Those for the first model and for the end count, too.
 #[derive(Clone, Copy, Default)]
 struct Waits {
-    models: usize,
+    models: u64,
+    /// The steps of all waits.
+    all_steps: u64,
     /// Steps before the first model.
     first: u64,
     /// Steps and expansions between two models.
@@ -29,6 +31,7 @@ impl Waits {
     fn longer(self, other: Waits) -> Self {
         Waits {
             models: self.models + other.models,
+            all_steps: self.all_steps + other.all_steps,
             first: self.first.max(other.first),
             steps: self.steps.max(other.steps),
             expansions: self.expansions.max(other.expansions),
@@ -50,6 +53,7 @@ fn bounds(case: &Case) -> Waits {
     let (n, m) = (case.variables as u64, case.clauses as u64);
     Waits {
         models: 0,
+        all_steps: 0,
         first: n,
         steps: 2 * n,
         expansions: n * n * m * (m + 1),
@@ -110,7 +114,8 @@ fn waits_of(case: &Case) -> Waits {
             );
         }
         longest = longest.longer(Waits {
-            models: usize::from(wait.model.is_some()),
+            models: wait.model.is_some().into(),
+            all_steps: wait.steps.into(),
             first: if index == 0 { wait.steps.into() } else { 0 },
             steps: wait.steps.into(),
             expansions: wait.expansions,
@@ -137,7 +142,8 @@ fn family_row(family: &Family) -> Vec<String> {
     let beside = |seen, bound| format!("{} of {}", count_text(seen), count_text(bound));
     row(&[
         family.title,
-        &count_text(seen.models as u64),
+        &count_text(seen.models),
+        &format!("{:.1}", seen.all_steps as f64 / seen.models as f64),
         &beside(seen.first, bounds.first),
         &beside(seen.steps, bounds.steps),
         &beside(seen.expansions, bounds.expansions),
@@ -152,6 +158,7 @@ pub fn print_waits() {
     let mut table = vec![row(&[
         "family",
         "models seen",
+        "steps a model, mean",
         "first model, steps (n)",
         "between two, steps (2 n)",
         "between two, expansions (n n m (m + 1))",
