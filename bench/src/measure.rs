@@ -38,13 +38,27 @@ const LONG_TIME: f64 = 300e6;
 /// The bar: the largest ratio of a row, and the geometric mean of all.
 const BAR: (f64, f64) = (1.5, 1.2);
 
-/// The time of one call, from so many.
+/// How long this thread has waited for a core so far, in nanoseconds; 0 where the system doesn't say.
+fn waited() -> f64 {
+    let text = std::fs::read_to_string("/proc/thread-self/schedstat").unwrap_or_default();
+    let second = text.split_whitespace().nth(1);
+    second.and_then(|field| field.parse().ok()).unwrap_or(0.0)
+}
+
+/// The time of one call, from so many. A long call hardly ever has a core to itself where others work, and a short one often has,
+/// so that the waits for a core are taken off: what was measured around both questions, less the waits between them. For short
+/// calls the time without the questions is the better one.
 fn time_of(calls: usize, lister: &dyn Lister, act: &mut dyn FnMut(&dyn Lister)) -> f64 {
+    let around = Instant::now();
+    let before = waited();
     let start = Instant::now();
     for _ in 0..calls {
         act(lister);
     }
-    start.elapsed().as_nanos() as f64 / calls as f64
+    let alone = start.elapsed().as_nanos() as f64;
+    let waits = waited() - before;
+    let around = around.elapsed().as_nanos() as f64;
+    alone.min(around - waits) / calls as f64
 }
 
 /// Runs something so many levels deeper on the stack. Where a function's frame lies differs from process to process, and changed
@@ -370,7 +384,7 @@ pub fn print_comparison() {
     println!();
     println!("- all three have listed the same models and given the same walk calls and matchings");
     println!("- best of {ROUNDS} rounds or more after a warm-up; a time is the geometric mean over a family's formulas");
-    println!("- buffers were not cleared between calls");
+    println!("- buffers were not cleared between calls; waits for a core are taken off");
     print_verdict(&rows);
     println!(
         "- these measurements took {:.0} seconds",
