@@ -1,26 +1,24 @@
 //! Matching clauses with variables (01: pairing), and the act judge.
 
-use crate::bits::{bit, lowest, numbers};
+use crate::bits::{bit, numbers};
 use crate::formula::{decode, Formula, Refusal, MAX_CLAUSES, MAX_VARIABLES};
 
-/// A matching that grows clause by clause. What its arrays hold means something only for matched clauses and variables, so
-/// that a new matching costs no clearing.
-#[derive(Clone)]
+/// A matching that grows clause by clause. A clause is given by the set of variables that it names.
 pub(crate) struct Matching {
     /// The matched variables.
     matched: u64,
-    /// The clause of a matched variable.
+    /// By matched variable: its clause.
     clause_of: [u8; MAX_VARIABLES],
-    /// The variable of a matched clause.
+    /// By matched clause: its variable.
     variable_of: [u8; MAX_CLAUSES],
-    /// The clause from which a search has first seen a variable.
+    /// By variable that the last search has seen: the clause that it remembers.
     seen_from: [u8; MAX_VARIABLES],
-    /// The queue of a search: its root, and a clause for each seen variable.
+    /// The queue of the last search: its first clause, and one more for each variable seen at most.
     queue: [u8; MAX_VARIABLES + 1],
-    /// Clauses taken off the queue in all searches (01: reaches).
+    /// How many clauses the last search took off its queue.
+    taken: usize,
+    /// The clauses taken off in all searches (01: reaches).
     expansions: u64,
-    /// How many of them belong to the last search that failed.
-    last_taken: usize,
 }
 
 impl Matching {
@@ -31,103 +29,91 @@ impl Matching {
             variable_of: [0; MAX_CLAUSES],
             seen_from: [0; MAX_VARIABLES],
             queue: [0; MAX_VARIABLES + 1],
+            taken: 0,
             expansions: 0,
-            last_taken: 0,
         }
     }
 
-    /// Forgets the matching; the expansions go on counting.
-    #[inline]
-    pub fn clear(&mut self) {
+    /// Matches the clauses anew, in their order; false if that cannot be.
+    pub fn match_all(&mut self, named: &[u64]) -> bool {
         self.matched = 0;
+        (0..named.len()).all(|clause| self.add(named, clause))
     }
 
     /// The expansions of all searches so far.
-    #[inline]
     pub fn expansions(&self) -> u64 {
         self.expansions
     }
 
-    /// Gives the clause a variable, re-matching others if need be; false if that cannot be. `named[c] & live` is what clause c
-    /// names.
-    #[inline]
-    pub fn add(&mut self, named: &[u64], live: u64, clause: usize) -> bool {
-        let free = named[clause] & live & !self.matched;
-        if free == 0 {
-            return self.search(named, live, clause);
-        }
-        // The search would end with its first clause.
-        self.expansions += 1;
-        self.pair(lowest(free), clause);
-        true
-    }
-
-    #[inline]
-    fn pair(&mut self, variable: usize, clause: usize) {
-        self.matched |= bit(variable);
-        self.clause_of[variable] = clause as u8;
-        self.variable_of[clause] = variable as u8;
-    }
-
-    /// The search of 01, in its order: clause by clause from the front of the queue, the variables of each upward.
-    fn search(&mut self, named: &[u64], live: u64, root: usize) -> bool {
-        self.queue[0] = root as u8;
-        let (mut taken, mut queued) = (0, 1);
-        let mut seen = 0;
-        while taken < queued {
-            let clause = usize::from(self.queue[taken]);
-            taken += 1;
-            self.expansions += 1;
-            let unseen = named[clause] & live & !seen;
-            let free = unseen & !self.matched;
-            if free != 0 {
-                // What is seen before it in this clause changes nothing any more.
-                self.rematch(lowest(free), clause, root);
-                return true;
+    /// Matches one clause more; false if that cannot be.
+    fn add(&mut self, named: &[u64], clause: usize) -> bool {
+        match self.search(named, clause) {
+            Some(variable) => {
+                self.rematch(variable, clause);
+                true
             }
-            seen |= unseen;
-            for variable in numbers(unseen) {
-                self.seen_from[variable] = clause as u8;
+            None => false,
+        }
+    }
+
+    /// The search for an unmatched variable, from a new clause.
+    fn search(&mut self, named: &[u64], root: usize) -> Option<usize> {
+        let mut seen = 0;
+        self.queue[0] = root as u8;
+        let mut queued = 1;
+        self.taken = 0;
+        while self.taken < queued {
+            let clause = self.queue[self.taken];
+            self.taken += 1;
+            self.expansions += 1;
+            for variable in numbers(named[usize::from(clause)] & !seen) {
+                seen |= bit(variable);
+                self.seen_from[variable] = clause;
+                if self.matched & bit(variable) == 0 {
+                    return Some(variable);
+                }
                 self.queue[queued] = self.clause_of[variable];
                 queued += 1;
             }
         }
-        self.last_taken = taken;
-        false
+        None
     }
 
-    /// Re-matches the path that ends with a free variable, seen from the clause, back to the root.
-    fn rematch(&mut self, free: usize, seen_from: usize, root: usize) {
-        let (mut variable, mut clause) = (free, seen_from);
-        while clause != root {
-            let given_up = usize::from(self.variable_of[clause]);
-            self.pair(variable, clause);
-            variable = given_up;
-            clause = usize::from(self.seen_from[variable]);
+    /// Re-matches the path that ends with an unmatched variable, link by link, back to the root.
+    fn rematch(&mut self, end: usize, root: usize) {
+        self.matched |= bit(end);
+        let mut variable = end;
+        loop {
+            let clause = usize::from(self.seen_from[variable]);
+            let before = usize::from(self.variable_of[clause]);
+            self.clause_of[variable] = clause as u8;
+            self.variable_of[clause] = variable as u8;
+            if clause == root {
+                return;
+            }
+            variable = before;
         }
-        self.pair(variable, root);
     }
 
     /// After a search that failed: the clauses that it took off the queue (01: the marked rules).
     fn violator(&self) -> &[u8] {
-        &self.queue[..self.last_taken]
+        &self.queue[..self.taken]
     }
 }
 
-/// Matches all clauses of a formula in their order, or leaves the violator in `matching` and gives false.
-pub(crate) fn match_all(formula: &Formula, matching: &mut Matching) -> bool {
+/// Matches all clauses of a formula, or gives false and leaves the violator in the matching.
+fn match_formula(formula: &Formula, matching: &mut Matching) -> bool {
     let mut named = [0; MAX_CLAUSES];
     for (set, clause) in named.iter_mut().zip(formula.clauses()) {
         *set = clause.named();
     }
-    matching.clear();
-    (0..formula.clauses().len()).all(|clause| matching.add(&named, !0, clause))
+    matching.match_all(&named[..formula.clauses().len()])
 }
 
 /// Refuses an unmatched formula by 10.
 pub(crate) fn require_matched(formula: &Formula) -> Result<(), Refusal> {
     let mut matching = Matching::new();
-    if match_all(formula, &mut matching) {
+    if match_formula(formula, &mut matching) {
         Ok(())
     } else {
         Err(Refusal::new(10, matching.violator().len()))
@@ -153,7 +139,7 @@ pub fn judge(input: &[u8], buffer: &mut [u8]) -> Result<Size, Refusal> {
     let clauses = formula.clauses().len();
     let written = &mut buffer[..clauses];
     let mut matching = Matching::new();
-    if match_all(&formula, &mut matching) {
+    if match_formula(&formula, &mut matching) {
         for (byte, variable) in written.iter_mut().zip(matching.variable_of) {
             *byte = variable + 1;
         }

@@ -1,0 +1,250 @@
+//! The families of formulas: those of data/families.txt, and more that are generated, the same in every run.
+
+use crate::random::Random;
+use norwythai_reference::{decode, judge};
+
+/// The formulas that are kept as data.
+const KEPT: &str = include_str!("../data/families.txt");
+
+/// How many formulas are generated beside the kept ones of a family.
+const GENERATED: usize = 5;
+
+/// The largest number of variables.
+const LARGEST: usize = 48;
+
+/// Clauses of signed variable numbers, negative for a negative literal.
+type Clauses = Vec<Vec<i8>>;
+
+/// A matched formula.
+pub struct Case {
+    pub name: String,
+    pub input: Vec<u8>,
+    /// Its number of variables.
+    pub variables: usize,
+    /// Its number of clauses.
+    pub clauses: usize,
+}
+
+impl Case {
+    fn new(name: String, input: Vec<u8>) -> Option<Self> {
+        let size = judge(&input, &mut [0; 96]).ok()?;
+        Some(Case {
+            name,
+            input,
+            variables: size.variables,
+            clauses: size.clauses,
+        })
+    }
+}
+
+/// A family of formulas.
+#[derive(Clone, Copy)]
+pub struct Family {
+    /// The letter with which the names of its formulas begin.
+    pub letter: char,
+    pub title: &'static str,
+    /// The clauses of one of its formulas over so many variables, matched or not.
+    generate: fn(&mut Random, usize) -> Clauses,
+}
+
+/// All families.
+pub const FAMILIES: [Family; 6] = [
+    Family {
+        letter: 'a',
+        title: "random 3-clauses",
+        generate: random_threes,
+    },
+    Family {
+        letter: 'b',
+        title: "mixed lengths",
+        generate: mixed_lengths,
+    },
+    Family {
+        letter: 'c',
+        title: "positive 2-clauses",
+        generate: positive_twos,
+    },
+    Family {
+        letter: 'd',
+        title: "cyclic 3-clauses",
+        generate: cyclic_threes,
+    },
+    Family {
+        letter: 'e',
+        title: "few clauses",
+        generate: few_clauses,
+    },
+    Family {
+        letter: 'f',
+        title: "stairs",
+        generate: some_stairs,
+    },
+];
+
+impl Family {
+    /// The kept formulas of the family, and generated ones of 48 variables.
+    pub fn cases(&self) -> Vec<Case> {
+        let mut cases: Vec<Case> = KEPT.lines().filter_map(|line| self.kept(line)).collect();
+        cases.extend(self.generated(LARGEST, GENERATED));
+        cases
+    }
+
+    /// So many generated formulas of so many variables.
+    pub fn generated(&self, variables: usize, count: usize) -> Vec<Case> {
+        let mut random = Random::new(u64::from(self.letter) << 8 | variables as u64);
+        let mut cases = Vec::new();
+        while cases.len() < count {
+            let clauses = (self.generate)(&mut random, variables);
+            let name = format!("{}_generated{}", self.letter, cases.len() + 1);
+            cases.extend(Case::new(name, encode(variables, &clauses)));
+        }
+        cases
+    }
+
+    /// The formula on a line of the kept ones, if it is of this family.
+    fn kept(&self, line: &str) -> Option<Case> {
+        let (name, digits) = line.split_once(' ')?;
+        if !name.starts_with(self.letter) {
+            return None;
+        }
+        let case = Case::new(name.to_string(), from_hex(digits));
+        Some(case.expect("the kept formulas are matched"))
+    }
+}
+
+/// The longest input: 96 clauses, each with all 48 variables. It is not matched.
+pub fn longest_input() -> Vec<u8> {
+    let clause: Vec<i8> = (1..=LARGEST as i8)
+        .map(|variable| {
+            if variable % 2 == 0 {
+                -variable
+            } else {
+                variable
+            }
+        })
+        .collect();
+    let input = encode(LARGEST, &vec![clause; 96]);
+    assert!(input.len() == 9315 && decode(&input).is_ok());
+    input
+}
+
+pub fn encode(variables: usize, clauses: &Clauses) -> Vec<u8> {
+    let mut bytes = vec![1, variables as u8];
+    for clause in clauses {
+        for literal in clause {
+            bytes.extend([if *literal > 0 { 2 } else { 3 }, literal.unsigned_abs()]);
+        }
+        bytes.push(4);
+    }
+    bytes.push(5);
+    bytes
+}
+
+fn from_hex(digits: &str) -> Vec<u8> {
+    (0..digits.len() / 2)
+        .map(|i| u8::from_str_radix(&digits[2 * i..2 * i + 2], 16).expect("two digits a byte"))
+        .collect()
+}
+
+/// A clause that has this variable, so that the formula is matched, and others: so many literals of random signs.
+fn clause_with(random: &mut Random, variable: i8, length: usize, variables: usize) -> Vec<i8> {
+    let mut named = random.some_of(length, variables);
+    if !named.contains(&variable) {
+        named[0] = variable;
+    }
+    named.into_iter().map(|v| random.signed(v)).collect()
+}
+
+/// As many clauses of three literals as variables; each variable is in a clause of its own, at least.
+fn random_threes(random: &mut Random, variables: usize) -> Clauses {
+    random
+        .some_of(variables, variables)
+        .into_iter()
+        .map(|own| clause_with(random, own, 3, variables))
+        .collect()
+}
+
+/// Clauses of one to eight literals, five for eight variables.
+fn mixed_lengths(random: &mut Random, variables: usize) -> Clauses {
+    random
+        .some_of(variables * 5 / 8, variables)
+        .into_iter()
+        .map(|own| {
+            let length = random.between(1, 8);
+            clause_with(random, own, length, variables)
+        })
+        .collect()
+}
+
+/// As many clauses of two positive literals as variables.
+fn positive_twos(random: &mut Random, variables: usize) -> Clauses {
+    random
+        .some_of(variables, variables)
+        .into_iter()
+        .map(|own| {
+            let clause = clause_with(random, own, 2, variables);
+            clause.into_iter().map(i8::abs).collect()
+        })
+        .collect()
+}
+
+/// A ring of clauses i, not i + j, and i + k with a random sign, by random j and k.
+fn cyclic_threes(random: &mut Random, variables: usize) -> Clauses {
+    let apart = random.some_of(2, variables - 1);
+    let sign = random.signed(1);
+    let at = |i: usize, apart: i8| ((i + apart as usize) % variables) as i8 + 1;
+    (0..variables)
+        .map(|i| vec![at(i, 0), -at(i, apart[0]), sign * at(i, apart[1])])
+        .collect()
+}
+
+/// Five clauses of three literals for 24 variables, over a quarter of the variables.
+fn few_clauses(random: &mut Random, variables: usize) -> Clauses {
+    let named = variables / 4;
+    random
+        .some_of((variables * 5 / 24).min(named), named)
+        .into_iter()
+        .map(|own| clause_with(random, own, 3, named))
+        .collect()
+}
+
+/// Stairs with a random number of pairs.
+fn some_stairs(random: &mut Random, variables: usize) -> Clauses {
+    let pairs = random.between(1, variables / 3);
+    stairs(variables, pairs)
+}
+
+/// Stairs: clauses (1, .., i - 1, not i) for the steps, and for each pair of variables at the top one clause of the pair and all
+/// steps, and one of all their negations. Most trials fail.
+pub fn stairs(variables: usize, pairs: usize) -> Clauses {
+    let steps = (variables - 2 * pairs) as i8;
+    let mut clauses = Vec::new();
+    for pair in 0..pairs as i8 {
+        let top = [steps + 2 * pair + 1, steps + 2 * pair + 2];
+        clauses.push((1..=steps).chain(top).collect());
+        clauses.push((1..=steps).chain(top).map(|v| -v).collect());
+    }
+    for step in 1..=steps {
+        clauses.push((1..step).chain([-step]).collect());
+    }
+    clauses
+}
+
+#[cfg(test)]
+mod tests {
+    use super::*;
+
+    #[test]
+    fn every_family_has_kept_and_generated_formulas() {
+        let mut kept = 0;
+        for family in FAMILIES {
+            let cases = family.cases();
+            kept += cases.len() - GENERATED;
+            assert!(cases.iter().all(|case| case.variables == LARGEST));
+            for variables in [12, 24, 36] {
+                assert_eq!(family.generated(variables, 3).len(), 3);
+            }
+        }
+        assert_eq!(kept, 12);
+    }
+}

@@ -1,0 +1,142 @@
+//! The three implementations that are compared, by one interface.
+
+use norwythai::{Answer, Assignment, Checkpoint};
+use norwythai_reference as plain;
+use norwythai_tuned as tuned;
+
+/// A checkpoint's bytes.
+pub type Bytes = [u8; Checkpoint::LENGTH];
+
+/// The number and the place of a refusal.
+pub type Refused = (u8, usize);
+
+/// What a walk call comes to: the model, or nothing at the end; steps and expansions.
+#[derive(Clone, Copy, Debug, PartialEq, Eq)]
+pub struct Walked {
+    pub model: Option<u64>,
+    pub steps: u32,
+    pub expansions: u64,
+}
+
+/// The acts, of which each implementation has its own form.
+pub trait Lister {
+    /// Whether the assignment is a model.
+    fn check(&self, input: &[u8], assignment: u64) -> Result<bool, Refused>;
+
+    /// The numbers of variables and clauses of a matched formula; the matching is in the buffer.
+    fn judge(&self, input: &[u8], buffer: &mut [u8; 96]) -> Result<(usize, usize), Refused>;
+
+    /// Goes on from the checkpoint, which becomes the next one. The budget brings a model or the end.
+    fn walk(&self, input: &[u8], checkpoint: &mut Bytes, budget: u32) -> Result<Walked, Refused>;
+
+    /// Fills the slice with the next models, and gives how many there are.
+    fn list(
+        &self,
+        input: &[u8],
+        checkpoint: &mut Bytes,
+        models: &mut [u64],
+    ) -> Result<usize, Refused>;
+}
+
+/// The proved library, by its safe wrapper.
+pub struct Proved;
+
+/// The plain reference.
+pub struct Plain;
+
+/// The tuned baseline.
+pub struct Tuned;
+
+fn refused(refusal: norwythai::Refusal) -> Refused {
+    (refusal.number(), refusal.place())
+}
+
+impl Lister for Proved {
+    fn check(&self, input: &[u8], assignment: u64) -> Result<bool, Refused> {
+        norwythai::check(input, Assignment::from_bits(assignment)).map_err(refused)
+    }
+
+    fn judge(&self, input: &[u8], buffer: &mut [u8; 96]) -> Result<(usize, usize), Refused> {
+        match norwythai::judge_into(input, buffer) {
+            Ok(size) => Ok((size.variables.into(), size.clauses)),
+            Err(refusal) => Err(refused(refusal)),
+        }
+    }
+
+    fn walk(&self, input: &[u8], bytes: &mut Bytes, budget: u32) -> Result<Walked, Refused> {
+        let mut checkpoint = Checkpoint::from_bytes(*bytes);
+        let walked = norwythai::walk(input, &mut checkpoint, budget).map_err(refused)?;
+        *bytes = *checkpoint.as_bytes();
+        Ok(Walked {
+            model: match walked.answer {
+                Answer::Model(model) => Some(model.bits()),
+                _ => None,
+            },
+            steps: walked.steps,
+            expansions: walked.expansions,
+        })
+    }
+
+    fn list(&self, input: &[u8], bytes: &mut Bytes, models: &mut [u64]) -> Result<usize, Refused> {
+        let mut checkpoint = Checkpoint::from_bytes(*bytes);
+        let listed = norwythai::list(input, &mut checkpoint, models).map_err(refused)?;
+        *bytes = *checkpoint.as_bytes();
+        Ok(listed.written)
+    }
+}
+
+/// The two Rust implementations have the same functions.
+macro_rules! rust_lister {
+    ($name:ident, $module:ident) => {
+        impl Lister for $name {
+            fn check(&self, input: &[u8], assignment: u64) -> Result<bool, Refused> {
+                $module::check(input, assignment).map_err(|r| (r.number, r.place))
+            }
+
+            fn judge(
+                &self,
+                input: &[u8],
+                buffer: &mut [u8; 96],
+            ) -> Result<(usize, usize), Refused> {
+                match $module::judge(input, buffer) {
+                    Ok(size) => Ok((size.variables, size.clauses)),
+                    Err(refusal) => Err((refusal.number, refusal.place)),
+                }
+            }
+
+            fn walk(
+                &self,
+                input: &[u8],
+                checkpoint: &mut Bytes,
+                budget: u32,
+            ) -> Result<Walked, Refused> {
+                let walked =
+                    $module::walk(input, checkpoint, budget).map_err(|r| (r.number, r.place))?;
+                *checkpoint = walked.checkpoint;
+                Ok(Walked {
+                    model: match walked.progress.answer {
+                        $module::Answer::Model(model) => Some(model),
+                        _ => None,
+                    },
+                    steps: walked.progress.steps,
+                    expansions: walked.progress.expansions,
+                })
+            }
+
+            fn list(
+                &self,
+                input: &[u8],
+                checkpoint: &mut Bytes,
+                models: &mut [u64],
+            ) -> Result<usize, Refused> {
+                let listed =
+                    $module::list(input, checkpoint, models).map_err(|r| (r.number, r.place))?;
+                *checkpoint = listed.checkpoint;
+                Ok(listed.written)
+            }
+        }
+    };
+}
+
+rust_lister!(Plain, plain);
+rust_lister!(Tuned, tuned);

@@ -1,0 +1,393 @@
+//! The times of the acts, and the table of ratios.
+
+use crate::families::{longest_input, Case, Family, FAMILIES};
+use crate::listers::{Bytes, Lister, Plain, Proved, Tuned};
+use crate::table::{count_text, print_table, row, time_text};
+use std::fmt::Debug;
+use std::hint::black_box;
+use std::time::Instant;
+
+/// What is compared, in the order of [`Times`].
+pub const LISTERS: [&dyn Lister; 3] = [&Proved, &Plain, &Tuned];
+
+/// Nanoseconds of the proved library, of the plain reference and of the tuned baseline.
+pub type Times = [f64; 3];
+
+/// The walk's first checkpoint.
+pub const START: Bytes = [0; 50];
+
+/// A budget that always brings a model or the end.
+pub const BUDGET: u32 = 96;
+
+/// How often a time is taken, at least, at different depths of the stack; the best counts.
+const ROUNDS: usize = 12;
+
+/// Short acts are measured more often, until this time is over, in milliseconds: others use the machine, too.
+const LEAST_TIME: u128 = 60;
+
+/// A time is taken over so many calls that they last about this long, in nanoseconds.
+const ROUND_TIME: f64 = 40_000.0;
+
+/// The models of the short and of the long lists.
+pub const SHORT: usize = 1_000;
+const LONG: [usize; 6] = [100_000, 50_000, 20_000, 10_000, 5_000, 2_000];
+
+/// A long list should not last longer, in nanoseconds.
+const LONG_TIME: f64 = 300e6;
+
+/// The bar: the largest ratio of a row, and the geometric mean of all.
+const BAR: (f64, f64) = (1.5, 1.2);
+
+/// How long this thread has waited for a core so far, in nanoseconds; 0 where the system doesn't say.
+fn waited() -> f64 {
+    let text = std::fs::read_to_string("/proc/thread-self/schedstat").unwrap_or_default();
+    let second = text.split_whitespace().nth(1);
+    second.and_then(|field| field.parse().ok()).unwrap_or(0.0)
+}
+
+/// The time of one call, from so many. A long call hardly ever has a core to itself where others work, and a short one often has,
+/// so that the waits for a core are taken off: what was measured around both questions, less the waits between them. For short
+/// calls the time without the questions is the better one.
+fn time_of(calls: usize, lister: &dyn Lister, act: &mut dyn FnMut(&dyn Lister)) -> f64 {
+    let around = Instant::now();
+    let before = waited();
+    let start = Instant::now();
+    for _ in 0..calls {
+        act(lister);
+    }
+    let alone = start.elapsed().as_nanos() as f64;
+    let waits = waited() - before;
+    let around = around.elapsed().as_nanos() as f64;
+    alone.min(around - waits) / calls as f64
+}
+
+/// Runs something so many levels deeper on the stack. Where a function's frame lies differs from process to process, and changed
+/// some times by about a third: at one depth alone they would be a matter of luck.
+#[inline(never)]
+fn deeper(levels: usize, run: &mut dyn FnMut()) {
+    let level = black_box([0_u8; 80]);
+    if levels == 0 {
+        run();
+    } else {
+        deeper(levels - 1, run);
+    }
+    black_box(&level);
+}
+
+/// The best times of an act. The implementations take turns, so that what disturbs one disturbs all; the first calls only warm
+/// up.
+pub fn times(mut act: impl FnMut(&dyn Lister)) -> Times {
+    let calls = LISTERS.map(|lister| {
+        time_of(1, lister, &mut act);
+        let about = time_of(1, lister, &mut act);
+        (ROUND_TIME / about).clamp(1.0, 1_000.0) as usize
+    });
+    let mut best = [f64::INFINITY; 3];
+    let start = Instant::now();
+    let mut round = 0;
+    while round < ROUNDS || start.elapsed().as_millis() < LEAST_TIME {
+        for (i, lister) in LISTERS.iter().enumerate() {
+            deeper(round % ROUNDS, &mut || {
+                best[i] = best[i].min(time_of(calls[i], *lister, &mut act));
+            });
+        }
+        round += 1;
+    }
+    best
+}
+
+/// Lists models from the start. The slice is not cleared before.
+pub fn list(lister: &dyn Lister, case: &Case, models: &mut [u64]) {
+    let mut checkpoint = START;
+    let listed = lister.list(black_box(&case.input), &mut checkpoint, models);
+    assert!(black_box(listed).is_ok());
+    black_box((&checkpoint, &*models));
+}
+
+/// One walk call from a checkpoint.
+pub fn walk(lister: &dyn Lister, case: &Case, from: &Bytes) {
+    let mut checkpoint = *black_box(from);
+    let walked = lister.walk(black_box(&case.input), &mut checkpoint, BUDGET);
+    assert!(black_box(walked).is_ok());
+    black_box(&checkpoint);
+}
+
+/// Judge, with a buffer that is not cleared before.
+pub fn judge(lister: &dyn Lister, case: &Case, buffer: &mut [u8; 96]) {
+    let judged = lister.judge(black_box(&case.input), buffer);
+    assert!(black_box(judged).is_ok());
+    black_box(&*buffer);
+}
+
+pub fn list_times(case: &Case, models: &mut [u64]) -> Times {
+    times(|lister| list(lister, case, models))
+}
+
+pub fn walk_times(case: &Case, from: &Bytes) -> Times {
+    times(|lister| walk(lister, case, from))
+}
+
+fn judge_times(case: &Case) -> Times {
+    let mut buffer = [0; 96];
+    times(|lister| judge(lister, case, &mut buffer))
+}
+
+/// Reads the longest input whole, and refuses the assignment by 12.
+fn decode_times() -> Times {
+    let input = longest_input();
+    times(|lister| {
+        let checked = lister.check(black_box(&input), black_box(1 << 63));
+        assert_eq!(black_box(checked), Err((12, 0)));
+    })
+}
+
+/// What all three give, once it is the same.
+fn same<T: PartialEq + Debug>(what: &str, case: &Case, act: impl Fn(&dyn Lister) -> T) -> T {
+    let [proved, plain, tuned] = LISTERS.map(act);
+    assert!(plain == proved, "{}: {what}: proved and plain", case.name);
+    assert!(tuned == proved, "{}: {what}: proved and tuned", case.name);
+    proved
+}
+
+/// The first models, so many at most, and the checkpoint after them.
+fn same_models(case: &Case, most: usize) -> (Vec<u64>, Bytes) {
+    same("list", case, |lister| {
+        let mut models = vec![0; most];
+        let mut checkpoint = START;
+        let written = lister.list(&case.input, &mut checkpoint, &mut models);
+        models.truncate(written.expect("a matched formula"));
+        (models, checkpoint)
+    })
+}
+
+/// The checkpoint after 500 models, or in the middle of a shorter list; the walk call from there gives the same by all three.
+pub fn deep_checkpoint(case: &Case) -> Bytes {
+    let models = same_models(case, SHORT).0.len();
+    let (_, checkpoint) = same_models(case, models / 2);
+    same("walk", case, |lister| {
+        let mut next = checkpoint;
+        (lister.walk(&case.input, &mut next, BUDGET), next)
+    })
+    .0
+    .expect("a checkpoint of the walk");
+    checkpoint
+}
+
+fn require_same_judge(case: &Case) {
+    same("judge", case, |lister| {
+        let mut buffer = [0; 96];
+        (lister.judge(&case.input, &mut buffer), buffer)
+    })
+    .0
+    .expect("a matched formula");
+}
+
+/// A row of the table: the times of some formulas for one act.
+struct Row {
+    family: String,
+    act: String,
+    times: Vec<Times>,
+}
+
+impl Row {
+    /// The geometric means of the times.
+    fn means(&self) -> Times {
+        mean_times(&self.times)
+    }
+
+    /// How many times as long the proved library takes as the plain reference.
+    fn ratio(&self) -> f64 {
+        let [proved, plain, _] = self.means();
+        proved / plain
+    }
+
+    /// How many times as long the plain reference takes as the tuned baseline.
+    fn gain(&self) -> f64 {
+        let [_, plain, tuned] = self.means();
+        plain / tuned
+    }
+
+    fn cells(&self) -> Vec<String> {
+        let [proved, plain, tuned] = self.means();
+        row(&[
+            &self.family,
+            &self.act,
+            &time_text(proved),
+            &time_text(plain),
+            &time_text(tuned),
+            &format!("{:.2}", proved / plain),
+            &format!("{:.2}", proved / tuned),
+        ])
+    }
+}
+
+/// The geometric mean.
+pub fn mean(numbers: impl Iterator<Item = f64> + Clone) -> f64 {
+    let count = numbers.clone().count();
+    (numbers.map(f64::ln).sum::<f64>() / count as f64).exp()
+}
+
+/// The geometric means, by implementation.
+pub fn mean_times(times: &[Times]) -> Times {
+    [0, 1, 2].map(|i| mean(times.iter().map(|t| t[i])))
+}
+
+/// How many models a long list of a family has: fewer where a model takes long.
+fn long_list(short: &[Times]) -> usize {
+    let slowest = short.iter().map(|times| times[0]).fold(0.0, f64::max) / SHORT as f64;
+    LONG.into_iter()
+        .find(|models| *models as f64 * slowest <= LONG_TIME)
+        .unwrap_or(SHORT)
+}
+
+/// The act's name of a list: how many models there are, if not always as many as wanted.
+fn list_name(wanted: usize, least: usize) -> String {
+    if least == wanted {
+        format!("list {}", count_text(wanted as u64))
+    } else {
+        format!("list {}, or all", count_text(wanted as u64))
+    }
+}
+
+fn list_row(family: &Family, cases: &[Case], wanted: usize) -> Row {
+    let mut least = wanted;
+    let times = cases
+        .iter()
+        .map(|case| {
+            let mut models = vec![0; wanted];
+            least = least.min(same_models(case, wanted).0.len());
+            list_times(case, &mut models)
+        })
+        .collect();
+    Row {
+        family: family.title.to_string(),
+        act: list_name(wanted, least),
+        times,
+    }
+}
+
+fn walk_row(family: &Family, cases: &[Case]) -> Row {
+    Row {
+        family: family.title.to_string(),
+        act: "walk, deep".to_string(),
+        times: cases
+            .iter()
+            .map(|case| walk_times(case, &deep_checkpoint(case)))
+            .collect(),
+    }
+}
+
+fn judge_row(family: &Family, cases: &[Case]) -> Row {
+    cases.iter().for_each(require_same_judge);
+    Row {
+        family: family.title.to_string(),
+        act: "judge".to_string(),
+        times: cases.iter().map(judge_times).collect(),
+    }
+}
+
+fn family_rows(family: &Family) -> Vec<Row> {
+    let cases = family.cases();
+    let short = list_row(family, &cases, SHORT);
+    let long = list_row(family, &cases, long_list(&short.times));
+    vec![
+        short,
+        long,
+        walk_row(family, &cases),
+        judge_row(family, &cases),
+    ]
+}
+
+fn all_rows() -> Vec<Row> {
+    let mut rows: Vec<Row> = FAMILIES.iter().flat_map(family_rows).collect();
+    rows.push(Row {
+        family: "longest input".to_string(),
+        act: "check".to_string(),
+        times: vec![decode_times()],
+    });
+    rows
+}
+
+fn print_verdict(rows: &[Row]) {
+    let mean_ratio = mean(rows.iter().map(Row::ratio));
+    let largest = rows
+        .iter()
+        .max_by(|a, b| a.ratio().total_cmp(&b.ratio()))
+        .expect("there are rows");
+    let single = rows
+        .iter()
+        .flat_map(|row| &row.times)
+        .map(|times| times[0] / times[1])
+        .fold(0.0, f64::max);
+    let mean_gain = mean(rows.iter().map(Row::gain));
+    let largest_gain = rows.iter().map(Row::gain).fold(0.0, f64::max);
+    println!("- proved/plain, geometric mean of all rows: {mean_ratio:.2}");
+    println!(
+        "- proved/plain, largest row: {:.2} ({}, {}); largest of a single formula: {single:.2}",
+        largest.ratio(),
+        largest.family,
+        largest.act
+    );
+    println!(
+        "- plain/tuned, geometric mean of all rows: {mean_gain:.2}; largest row: {largest_gain:.2}"
+    );
+    let holds = largest.ratio() <= BAR.0 && mean_ratio <= BAR.1;
+    println!(
+        "- the bar, proved/plain at most {} on every row and {} in the geometric mean: {}",
+        BAR.0,
+        BAR.1,
+        if holds { "holds" } else { "does not hold" }
+    );
+}
+
+/// Prints each formula's times and ratios, and not the means of a family.
+pub fn print_each() {
+    for family in FAMILIES {
+        for case in family.cases() {
+            let mut models = vec![0; SHORT];
+            let acts = [
+                list_times(&case, &mut models),
+                walk_times(&case, &deep_checkpoint(&case)),
+                judge_times(&case),
+            ];
+            print!("{:<14}", case.name);
+            for (act, [proved, plain, tuned]) in
+                ["list 1,000", "walk, deep", "judge"].iter().zip(acts)
+            {
+                print!(
+                    " | {act}: {} {:.2} {:.2}",
+                    time_text(proved),
+                    proved / plain,
+                    proved / tuned
+                );
+            }
+            println!();
+        }
+    }
+}
+
+/// Prints the table and whether the bar holds.
+pub fn print_comparison() {
+    let start = Instant::now();
+    let rows = all_rows();
+    let mut table = vec![row(&[
+        "family",
+        "act",
+        "proved",
+        "plain",
+        "tuned",
+        "proved/plain",
+        "proved/tuned",
+    ])];
+    table.extend(rows.iter().map(Row::cells));
+    print_table(&table);
+    println!();
+    println!("- all three have listed the same models and given the same walk calls and matchings");
+    println!("- best of {ROUNDS} rounds or more after a warm-up; a time is the geometric mean over a family's formulas");
+    println!("- buffers were not cleared between calls; waits for a core are taken off");
+    print_verdict(&rows);
+    println!(
+        "- these measurements took {:.0} seconds",
+        start.elapsed().as_secs_f64()
+    );
+}

@@ -1,0 +1,363 @@
+//! How much stack the C functions use, and how deep re-matching calls itself.
+//!
+//! The method: a stretch of the stack below the caller is painted, the function is called, and the stretch is read from its far end
+//! until something other than the paint is found. It is tested on functions of known use. What a function reserves and never writes
+//! is not seen.
+
+use crate::families::{encode, longest_input, Case, FAMILIES};
+use crate::listers::{Bytes, Lister, Proved};
+use crate::measure::{deep_checkpoint, BUDGET, START};
+use crate::table::{count_text, print_table, row};
+use std::hint::black_box;
+use std::mem::MaybeUninit;
+
+extern "C" {
+    fn norwythai_check(
+        input: *const u8,
+        input_length: usize,
+        assignment: u64,
+        results: *mut u64,
+        results_length: usize,
+    ) -> u32;
+    fn norwythai_judge(
+        input: *const u8,
+        input_length: usize,
+        buffer: *mut u8,
+        buffer_length: usize,
+        results: *mut u64,
+        results_length: usize,
+    ) -> u32;
+    fn norwythai_start(checkpoint: *mut u8, checkpoint_length: usize) -> u32;
+    fn norwythai_walk(
+        input: *const u8,
+        input_length: usize,
+        checkpoint: *mut u8,
+        checkpoint_length: usize,
+        budget: u32,
+        results: *mut u64,
+        results_length: usize,
+    ) -> u32;
+    fn norwythai_list(
+        input: *const u8,
+        input_length: usize,
+        checkpoint: *mut u8,
+        checkpoint_length: usize,
+        models: *mut u64,
+        models_length: usize,
+        results: *mut u64,
+        results_length: usize,
+    ) -> u32;
+}
+
+/// The bytes that are painted.
+const PAINTED: usize = 256 * 1024;
+
+/// The byte that they are painted with.
+const PAINT: u8 = 0xa5;
+
+/// Models that are listed where the stack of list is measured.
+const LISTED: usize = 200;
+
+/// Where the stack stands: the bytes below are free.
+#[cfg(target_arch = "x86_64")]
+#[inline(always)]
+fn stack_pointer() -> usize {
+    let pointer: usize;
+    // SAFETY: it only reads a register.
+    unsafe { std::arch::asm!("mov {}, rsp", out(reg) pointer, options(nomem, nostack)) };
+    pointer
+}
+
+/// About where the stack stands: within the caller's frame, whose bytes below then count, too.
+#[cfg(not(target_arch = "x86_64"))]
+#[inline(always)]
+fn stack_pointer() -> usize {
+    let here = 0_u8;
+    black_box(&raw const here) as usize
+}
+
+/// Paints the stack below the caller, and gives the lowest address.
+#[inline(never)]
+fn paint() -> usize {
+    let mut area = MaybeUninit::<[u8; PAINTED]>::uninit();
+    let bottom: *mut u8 = black_box(area.as_mut_ptr()).cast();
+    for at in 0..PAINTED {
+        // SAFETY: the address is within `area`.
+        unsafe { bottom.add(at).write_volatile(PAINT) };
+    }
+    bottom as usize
+}
+
+/// The lowest address from the bottom on that has lost its paint.
+#[inline(never)]
+fn lowest_written(bottom: usize) -> usize {
+    let mut at = bottom;
+    // SAFETY: the addresses belong to this thread's stack, and were painted. The search ends at the latest where this function's own
+    // frame stands, which is within the painted stretch.
+    while unsafe { (at as *const u8).read_volatile() } == PAINT {
+        at += 1;
+    }
+    at
+}
+
+/// The bytes below the stack pointer that a call has written. The call gives the stack pointer at which it begins.
+#[inline(never)]
+fn stack_of(call: &mut dyn FnMut() -> usize) -> usize {
+    let bottom = paint();
+    let top = call();
+    let written = lowest_written(bottom);
+    assert!(written > bottom, "more stack is used than is painted");
+    top.saturating_sub(written)
+}
+
+fn check_stack(input: &[u8]) -> usize {
+    let mut results = [0; 6];
+    stack_of(&mut || {
+        let top = stack_pointer();
+        // SAFETY: the pointers are good for the lengths, and the arrays do not overlap.
+        let returned =
+            unsafe { norwythai_check(input.as_ptr(), input.len(), 0, results.as_mut_ptr(), 6) };
+        assert_eq!(returned, 0);
+        top
+    })
+}
+
+fn judge_stack(input: &[u8]) -> usize {
+    let mut results = [0; 6];
+    let mut buffer = [0; 96];
+    stack_of(&mut || {
+        let top = stack_pointer();
+        // SAFETY: the pointers are good for the lengths, and the arrays do not overlap.
+        let returned = unsafe {
+            norwythai_judge(
+                input.as_ptr(),
+                input.len(),
+                buffer.as_mut_ptr(),
+                96,
+                results.as_mut_ptr(),
+                6,
+            )
+        };
+        assert_eq!(returned, 0);
+        top
+    })
+}
+
+fn start_stack() -> usize {
+    let mut checkpoint = [0; 50];
+    stack_of(&mut || {
+        let top = stack_pointer();
+        // SAFETY: the pointer is good for the length.
+        let returned = unsafe { norwythai_start(checkpoint.as_mut_ptr(), 50) };
+        assert_eq!(returned, 0);
+        top
+    })
+}
+
+fn walk_stack(input: &[u8], from: &Bytes) -> usize {
+    let mut results = [0; 6];
+    let mut checkpoint = *from;
+    stack_of(&mut || {
+        let top = stack_pointer();
+        // SAFETY: the pointers are good for the lengths, and the arrays do not overlap.
+        let returned = unsafe {
+            norwythai_walk(
+                input.as_ptr(),
+                input.len(),
+                checkpoint.as_mut_ptr(),
+                50,
+                BUDGET,
+                results.as_mut_ptr(),
+                6,
+            )
+        };
+        assert_eq!(returned, 0);
+        top
+    })
+}
+
+fn list_stack(input: &[u8], from: &Bytes) -> usize {
+    let mut results = [0; 6];
+    let mut checkpoint = *from;
+    let mut models = vec![0; LISTED];
+    stack_of(&mut || {
+        let top = stack_pointer();
+        // SAFETY: the pointers are good for the lengths, and the arrays do not overlap.
+        let returned = unsafe {
+            norwythai_list(
+                input.as_ptr(),
+                input.len(),
+                checkpoint.as_mut_ptr(),
+                50,
+                models.as_mut_ptr(),
+                models.len(),
+                results.as_mut_ptr(),
+                6,
+            )
+        };
+        assert_eq!(returned, 0);
+        top
+    })
+}
+
+/// A function that writes so many bytes of its stack.
+#[inline(never)]
+extern "C" fn write_stack<const BYTES: usize>() {
+    let mut area = MaybeUninit::<[u8; BYTES]>::uninit();
+    let bottom: *mut u8 = black_box(area.as_mut_ptr()).cast();
+    for at in 0..BYTES {
+        // SAFETY: the address is within `area`.
+        unsafe { bottom.add(at).write_volatile(0) };
+    }
+}
+
+/// What the method says of that function.
+fn known_stack<const BYTES: usize>() -> usize {
+    stack_of(&mut || {
+        let top = stack_pointer();
+        black_box(write_stack::<BYTES> as extern "C" fn())();
+        top
+    })
+}
+
+/// Tests the method: it must find the bytes that are known, and little more.
+fn test_method() {
+    for (known, found) in [
+        (1_000, known_stack::<1_000>()),
+        (10_000, known_stack::<10_000>()),
+        (100_000, known_stack::<100_000>()),
+    ] {
+        assert!(
+            (known..known + 200).contains(&found),
+            "{found} bytes were found for {known}"
+        );
+        println!(
+            "- a function that writes {} bytes of its stack: {} found",
+            count_text(known as u64),
+            count_text(found as u64)
+        );
+    }
+}
+
+/// A formula whose last clause re-matches all others: (1, 2), (2, 3), .. up to the link before the last, and (1).
+fn chain(links: usize) -> Vec<u8> {
+    let mut clauses: Vec<Vec<i8>> = (1..links as i8).map(|v| vec![v, v + 1]).collect();
+    clauses.push(vec![1]);
+    encode(links, &clauses)
+}
+
+/// A ring in falling order, (48, not 1) at its end: with variable 1 false, the trial at the root has a chain of 47 links.
+fn falling_ring() -> Vec<u8> {
+    let mut clauses: Vec<Vec<i8>> = (1..48).rev().map(|v| vec![v, -(v + 1)]).collect();
+    clauses.push(vec![48, -1]);
+    encode(48, &clauses)
+}
+
+/// The links of the last clause's chain, by the library: the clauses that are matched otherwise than without it, and itself.
+fn links_of_last(input: &[u8]) -> usize {
+    let mut buffer = [0; 96];
+    let (_, clauses) = Proved.judge(input, &mut buffer).expect("a matched formula");
+    let mut without = [0; 96];
+    Proved
+        .judge(&without_last(input), &mut without)
+        .expect("a matched formula");
+    (0..clauses).filter(|i| buffer[*i] != without[*i]).count()
+}
+
+/// The encoded formula without its last clause, which has one literal.
+fn without_last(input: &[u8]) -> Vec<u8> {
+    let mut shorter = input[..input.len() - 4].to_vec();
+    shorter.push(5);
+    shorter
+}
+
+/// The matched formulas on which the stack is measured, and their deep checkpoints.
+fn inputs() -> Vec<(Vec<u8>, Bytes)> {
+    let mut inputs: Vec<(Vec<u8>, Bytes)> = FAMILIES
+        .iter()
+        .flat_map(|family| family.cases())
+        .map(|case: Case| {
+            let deep = deep_checkpoint(&case);
+            (case.input, deep)
+        })
+        .collect();
+    inputs.push((chain(48), START));
+    inputs.push((falling_ring(), START));
+    inputs
+}
+
+fn print_functions() {
+    let inputs = inputs();
+    let largest = |stack: &dyn Fn(&[u8], &Bytes) -> usize| {
+        inputs
+            .iter()
+            .flat_map(|(input, deep)| [stack(input, &START), stack(input, deep)])
+            .max()
+            .expect("there are inputs")
+    };
+    let longest = longest_input();
+    let check = largest(&|input, _| check_stack(input)).max(check_stack(&longest));
+    let judge = largest(&|input, _| judge_stack(input)).max(judge_stack(&longest));
+    let rows = [
+        ("norwythai_check", check),
+        ("norwythai_judge", judge),
+        ("norwythai_start", start_stack()),
+        ("norwythai_walk", largest(&walk_stack)),
+        ("norwythai_list", largest(&list_stack)),
+    ];
+    let mut table = vec![row(&["function", "bytes of stack"])];
+    table.extend(rows.map(|(name, bytes)| row(&[name, &count_text(bytes as u64)])));
+    print_table(&table);
+    println!();
+    println!(
+        "check reads the shortest formula with {} bytes and the longest input with {}.",
+        count_text(check_stack(&[1, 1, 5]) as u64),
+        count_text(check_stack(&longest) as u64)
+    );
+}
+
+fn print_chains() {
+    let mut table = vec![row(&[
+        "clauses of the chain",
+        "links of the last clause",
+        "bytes of stack of judge",
+    ])];
+    for clauses in [2, 12, 24, 48] {
+        let input = chain(clauses);
+        table.push(row(&[
+            &clauses.to_string(),
+            &links_of_last(&input).to_string(),
+            &count_text(judge_stack(&input) as u64),
+        ]));
+    }
+    print_table(&table);
+    println!();
+    println!("Re-matching calls itself once a link: at most 48 times, since a chain has each variable once.");
+    let grown = judge_stack(&chain(48)) as f64 - judge_stack(&chain(2)) as f64;
+    println!("From 2 links to 48 the stack grows by {grown} bytes.");
+}
+
+/// Prints the stack of each function, and that of judge by the length of the chain.
+pub fn print_stack() {
+    test_method();
+    println!();
+    print_functions();
+    println!();
+    print_chains();
+}
+
+#[cfg(test)]
+mod tests {
+    use super::*;
+
+    #[test]
+    fn the_longest_chain_has_48_links() {
+        assert_eq!(links_of_last(&chain(48)), 48);
+        assert_eq!(links_of_last(&chain(2)), 2);
+    }
+
+    #[test]
+    fn the_method_finds_what_is_known() {
+        test_method();
+    }
+}

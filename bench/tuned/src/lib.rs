@@ -1,0 +1,25 @@
+//! A second baseline of the benchmark: what a faster algorithm would gain. It gives the same answers as the plain reference and
+//! the proved library, and does less for them:
+//!
+//! - for each variable it keeps the clauses that have it, as masks, so that dropping clauses touches only what they name;
+//! - it keeps a node for each depth of the trail and makes each from the one above, so that no choice gathers clauses anew;
+//! - a matching first looks for a free variable of the new clause, and of each clause that it takes off the queue, by one mask
+//!   operation, and goes through the variables one by one only where there is none.
+//!
+//! Nothing is tested against it; the benchmark compares it with the plain reference. Variables count from 0 in the code, so that
+//! variable v is bit v of a mask; in bytes they count from 1.
+
+#![forbid(unsafe_code)]
+#![deny(missing_docs)]
+
+mod bits;
+mod formula;
+mod matching;
+mod node;
+mod walking;
+
+pub use formula::{check, Refusal};
+pub use matching::{judge, Size};
+pub use walking::{
+    list, start_checkpoint, walk, Answer, Checkpoint, Listed, Progress, Walked, CHECKPOINT_LENGTH,
+};

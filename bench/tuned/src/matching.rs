@@ -1,0 +1,170 @@
+//! Matching clauses with variables (01: pairing), and the act judge.
+
+use crate::bits::{bit, lowest, numbers};
+use crate::formula::{decode, Formula, Refusal, MAX_CLAUSES, MAX_VARIABLES};
+
+/// A matching that grows clause by clause. What its arrays hold means something only for matched clauses and variables, so
+/// that a new matching costs no clearing.
+#[derive(Clone)]
+pub(crate) struct Matching {
+    /// The matched variables.
+    matched: u64,
+    /// The clause of a matched variable.
+    clause_of: [u8; MAX_VARIABLES],
+    /// The variable of a matched clause.
+    variable_of: [u8; MAX_CLAUSES],
+    /// The clause from which a search has first seen a variable.
+    seen_from: [u8; MAX_VARIABLES],
+    /// The queue of a search: its root, and a clause for each seen variable.
+    queue: [u8; MAX_VARIABLES + 1],
+    /// Clauses taken off the queue in all searches (01: reaches).
+    expansions: u64,
+    /// How many of them belong to the last search that failed.
+    last_taken: usize,
+}
+
+impl Matching {
+    pub fn new() -> Self {
+        Matching {
+            matched: 0,
+            clause_of: [0; MAX_VARIABLES],
+            variable_of: [0; MAX_CLAUSES],
+            seen_from: [0; MAX_VARIABLES],
+            queue: [0; MAX_VARIABLES + 1],
+            expansions: 0,
+            last_taken: 0,
+        }
+    }
+
+    /// Forgets the matching; the expansions go on counting.
+    #[inline]
+    pub fn clear(&mut self) {
+        self.matched = 0;
+    }
+
+    /// The expansions of all searches so far.
+    #[inline]
+    pub fn expansions(&self) -> u64 {
+        self.expansions
+    }
+
+    /// Gives the clause a variable, re-matching others if need be; false if that cannot be. `named[c] & live` is what clause c
+    /// names.
+    #[inline]
+    pub fn add(&mut self, named: &[u64], live: u64, clause: usize) -> bool {
+        let free = named[clause] & live & !self.matched;
+        if free == 0 {
+            return self.search(named, live, clause);
+        }
+        // The search would end with its first clause.
+        self.expansions += 1;
+        self.pair(lowest(free), clause);
+        true
+    }
+
+    #[inline]
+    fn pair(&mut self, variable: usize, clause: usize) {
+        self.matched |= bit(variable);
+        self.clause_of[variable] = clause as u8;
+        self.variable_of[clause] = variable as u8;
+    }
+
+    /// The search of 01, in its order: clause by clause from the front of the queue, the variables of each upward.
+    fn search(&mut self, named: &[u64], live: u64, root: usize) -> bool {
+        self.queue[0] = root as u8;
+        let (mut taken, mut queued) = (0, 1);
+        let mut seen = 0;
+        while taken < queued {
+            let clause = usize::from(self.queue[taken]);
+            taken += 1;
+            self.expansions += 1;
+            let unseen = named[clause] & live & !seen;
+            let free = unseen & !self.matched;
+            if free != 0 {
+                // What is seen before it in this clause changes nothing any more.
+                self.rematch(lowest(free), clause, root);
+                return true;
+            }
+            seen |= unseen;
+            for variable in numbers(unseen) {
+                self.seen_from[variable] = clause as u8;
+                self.queue[queued] = self.clause_of[variable];
+                queued += 1;
+            }
+        }
+        self.last_taken = taken;
+        false
+    }
+
+    /// Re-matches the path that ends with a free variable, seen from the clause, back to the root.
+    fn rematch(&mut self, free: usize, seen_from: usize, root: usize) {
+        let (mut variable, mut clause) = (free, seen_from);
+        while clause != root {
+            let given_up = usize::from(self.variable_of[clause]);
+            self.pair(variable, clause);
+            variable = given_up;
+            clause = usize::from(self.seen_from[variable]);
+        }
+        self.pair(variable, root);
+    }
+
+    /// After a search that failed: the clauses that it took off the queue (01: the marked rules).
+    fn violator(&self) -> &[u8] {
+        &self.queue[..self.last_taken]
+    }
+}
+
+/// Matches all clauses of a formula in their order, or leaves the violator in `matching` and gives false.
+pub(crate) fn match_all(formula: &Formula, matching: &mut Matching) -> bool {
+    let mut named = [0; MAX_CLAUSES];
+    for (set, clause) in named.iter_mut().zip(formula.clauses()) {
+        *set = clause.named();
+    }
+    matching.clear();
+    (0..formula.clauses().len()).all(|clause| matching.add(&named, !0, clause))
+}
+
+/// Refuses an unmatched formula by 10.
+pub(crate) fn require_matched(formula: &Formula) -> Result<(), Refusal> {
+    let mut matching = Matching::new();
+    if match_all(formula, &mut matching) {
+        Ok(())
+    } else {
+        Err(Refusal::new(10, matching.violator().len()))
+    }
+}
+
+/// What judge says of a matched formula.
+#[derive(Clone, Copy, Debug, PartialEq, Eq)]
+pub struct Size {
+    /// n, the number of variables.
+    pub variables: usize,
+    /// m, the number of clauses.
+    pub clauses: usize,
+}
+
+/// The act judge, with a lent buffer (01: slate). Matched: byte i becomes the variable, from 1, of clause i (from 0).
+/// Unmatched: byte i becomes 1 if clause i is of the violator, else 0. Other bytes stay as they are.
+pub fn judge(input: &[u8], buffer: &mut [u8]) -> Result<Size, Refusal> {
+    if buffer.len() < MAX_CLAUSES {
+        return Err(Refusal::new(1, 0));
+    }
+    let formula = decode(input)?;
+    let clauses = formula.clauses().len();
+    let written = &mut buffer[..clauses];
+    let mut matching = Matching::new();
+    if match_all(&formula, &mut matching) {
+        for (byte, variable) in written.iter_mut().zip(matching.variable_of) {
+            *byte = variable + 1;
+        }
+        return Ok(Size {
+            variables: formula.variables(),
+            clauses,
+        });
+    }
+    written.fill(0);
+    for clause in matching.violator() {
+        written[usize::from(*clause)] = 1;
+    }
+    Err(Refusal::new(10, matching.violator().len()))
+}
