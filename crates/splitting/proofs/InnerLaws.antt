@@ -1,6 +1,6 @@
 -- Laws of what the code of the choice computes over masks: one clause, one variable or one turn more.
 use Prim.Native.Nat.{ℕ, zero, suc, _+_, _*_, _^_, _-_, _≤_, _<_, suc-le-suc}
-use mathlib.Core.Bool.{Bool, true, false, cond, _||_, or-true, or-false, or-assoc}
+use mathlib.Core.Bool.{Bool, true, false, not, cond, _||_, or-true, or-false, or-assoc}
 use mathlib.Core.List.{List, [], _∷_, _++_, map, map-append, append-nil}
 use mathlib.Core.Path.{_≡_, refl, sym, ap, _∙_}
 use native.Mathlib.Decide.{ℕ-discrete}
@@ -12,16 +12,19 @@ use lib.Dec.{eqb}
 use borrow.Author.Tests.{eq-eqb, ne-eqb}
 use lib.ListN.{length, getD, take, drop, set, replicate, length-append, length-map, length-replicate}
 use lib.Pow.{pow-mono}
-use lib.Seq.{take-at}
+use lib.Seq.{take-at, getD-set-same, getD-set-other}
 use Rattle.lists.specs.Every.{Every}
 use Rattle.lists.specs.Over.{over}
+use Rattle.lists.specs.Tabulated.{tabulated}
 use Rattle.lists.proofs.EveryLaws.{every-append, every-replicate, every-getD}
 use Rattle.lists.proofs.OverLaws.{over-length, over-set}
+use Rattle.lists.proofs.TestLaws.{or-left, or-right}
+use Rattle.lists.proofs.TabulatedLaws.{length-tabulated, tabulated-more, getD-tabulated, tabulated-same}
 use Rattle.masks.specs.Mask.{bit, with, minus, without, lowest, members}
-use Rattle.masks.proofs.BitLaws.{minus-lt, bit-none}
-use Rattle.masks.proofs.MembersLaws.{lowest-is, members-none, members-are, members-lowest}
+use Rattle.masks.proofs.BitLaws.{bit-or, minus-lt, bit-none}
+use Rattle.masks.proofs.MembersLaws.{Lowest, lowest-is, some-member, member-some, members-none, members-are, members-lowest}
 use Rattle.matching.specs.declared.Matching.{Matching}
-use Rattle.matching.specs.Result.{Clauses, packed}
+use Rattle.matching.specs.Result.{Clauses}
 use Rattle.matching.specs.Search.{succeeds, expansions}
 use Rattle.matching.proofs.ResultLaws.{packed-complete, packed-expansions}
 use Rattle.matching.proofs.Theorems.{outcome-cost}
@@ -32,40 +35,126 @@ use Rattle.splitting.specs.declared.Assignment.{Assignment}
 use Rattle.splitting.specs.declared.Reduced.{Reduced}
 use Rattle.splitting.specs.declared.Trial.{Trial}
 use Rattle.splitting.specs.declared.Survey.{Survey}
-use Rattle.splitting.specs.InnerChoose.{assigned, set-to, satisfied-under, left-under, open-clauses, node, surveys, survey-from, survey-of, some-empty, matched-node, reduced-at, pure-of, reduce-from, reduced, tried, passing, greatest, listed-last, chosen}
+use Rattle.splitting.specs.InnerChoose.{assigned, set-to, satisfied-under, left-under, open-clauses, node, unnamed, clause-in, clauses-in, formula-in, formula-at, Small, surveys, survey-from, survey-of, some-empty, matched-node, matching-at, reduced-at, pure-of, reduce-from, reduced, tried, passing, greatest, listed-last, chosen}
 use Rattle.splitting.specs.Choosing.{both-open, last}
+
+-- ---- one clause
+
+-- a mask of two has a member if one of them has
+pub some-or : (x y : ℕ) → not (eqb (bitOr x y) 0) ≡ not (eqb x 0) || not (eqb y 0)
+some-or x y = go (ℕ-discrete x 0) (ℕ-discrete y 0)
+  where
+    has : (i : ℕ) → bit x i || bit y i ≡ true → not (eqb (bitOr x y) 0) ≡ true
+    has i h = ap not (ne-eqb (bitOr x y) 0 (member-some (bitOr x y) i (bit-or x y i ∙ h)))
+
+    go : Dec (x ≡ 0) → Dec (y ≡ 0) → not (eqb (bitOr x y) 0) ≡ not (eqb x 0) || not (eqb y 0)
+    go (no p) d = let w = some-member x p in has (w .0) (or-left (bit x (w .0)) (bit y (w .0)) (w .1)) ∙ sym (rw (ne-eqb x 0 p))
+    go (yes p) (no q) = let w = some-member y q in has (w .0) (or-right (bit x (w .0)) (bit y (w .0)) (w .1)) ∙ sym (rw (eq-eqb x 0 p, ne-eqb y 0 q))
+    go (yes p) (yes q) = rw (p, q)
+
+-- ---- clauses in arrays
+
+module _ (p q : List ℕ) where
+  -- the i-th of them
+  pub clause-read : (k i : ℕ) → i < k → getD (clauses-in p q k) i no-clause ≡ clause-in p q i
+  clause-read k i l = getD-tabulated (clause-in p q) k i no-clause l
+
+  -- one more is written
+  clause-written : (n x y : ℕ) → n < length p → n < length q
+      → clauses-in (set p n x) (set q n y) (n + 1) ≡ clauses-in p q n ++ (record { positive = x; negative = y } ∷ [])
+  clause-written n x y k l =
+      let same = tabulated-same (clause-in (set p n x) (set q n y)) (clause-in p q) n
+      (λ i m. let d : i ≡ n → ⊥ = λ e. omega arith in rw (getD-set-other p n i x 0 d, getD-set-other q n i y 0 d)) in
+      rw (tabulated-more (clause-in (set p n x) (set q n y)) n, same, getD-set-same p n x 0 k, getD-set-same q n y 0 l)
+
+  -- those past it stay
+  pub clause-kept : (n x y j : ℕ) → n < j → clause-in (set p n x) (set q n y) j ≡ clause-in p q j
+  clause-kept n x y j l = let d : j ≡ n → ⊥ = λ e. omega arith in rw (getD-set-other p n j x 0 d, getD-set-other q n j y 0 d)
+
+  -- they are a formula
+  pub formula-held : (n : ℕ) (cs : List Clause) → clauses-in p q n ≡ cs
+      → formula-in p q n ≡ record { variables = 64; count = length cs; clauses = cs }
+  formula-held n cs e =
+      let m : n ≡ length cs = sym (length-tabulated (clause-in p q) n) ∙ ap length e in
+      λ i. record { variables = 64; count = m i; clauses = e i }
 
 -- ---- one clause more
 
-module _ (cs : List Clause) (a : Assignment) (i : ℕ) where
+module _ (cs : List Clause) (a : Assignment) (i : ℕ) (c : Clause) (at : getD cs i no-clause ≡ c) where
   -- one that is satisfied
-  pub open-gone : satisfied-under a (getD cs i no-clause) ≡ true → open-clauses cs a (i + 1) ≡ open-clauses cs a i
+  pub open-gone : satisfied-under a c ≡ true → open-clauses cs a (i + 1) ≡ open-clauses cs a i
   unfolding open-clauses
-  open-gone t = rw (add-one, open-clauses, t) (append-nil (open-clauses cs a i))
+  open-gone t = rw (add-one, open-clauses, at, t) (append-nil (open-clauses cs a i))
 
   -- one that is not
-  pub open-more : satisfied-under a (getD cs i no-clause) ≡ false
-      → open-clauses cs a (i + 1) ≡ open-clauses cs a i ++ (left-under a (getD cs i no-clause) ∷ [])
+  open-more : satisfied-under a c ≡ false → open-clauses cs a (i + 1) ≡ open-clauses cs a i ++ (left-under a c ∷ [])
   unfolding open-clauses
-  open-more e = rw (add-one, open-clauses, e)
+  open-more e = rw (add-one, open-clauses, at, e)
+
+  -- what is left of it is written to the arrays
+  pub keep-more : (p q : List ℕ) (n : ℕ) → satisfied-under a c ≡ false → n < length p → n < length q → clauses-in p q n ≡ open-clauses cs a i
+      → clauses-in (set p n (left-under a c .positive)) (set q n (left-under a c .negative)) (n + 1) ≡ open-clauses cs a (i + 1)
+  keep-more p q n e k l h =
+      clause-written p q n (left-under a c .positive) (left-under a c .negative) k l ∙ ap (λ (x : List Clause). x ++ (left-under a c ∷ [])) h ∙ sym (open-more e)
+
+  -- what the node's clauses name, over a buffer
+  pub gather-more : (n : ℕ) (b s : List ℕ) → satisfied-under a c ≡ false → n ≡ length (open-clauses cs a i) → n < length b
+      → s ≡ over (map named (open-clauses cs a i)) b
+      → (n + 1 ≡ length (open-clauses cs a (i + 1))) × (set s n (named (left-under a c)) ≡ over (map named (open-clauses cs a (i + 1))) b)
+  gather-more n b s e q l h =
+      let o = open-clauses cs a i in
+      let x = left-under a c in
+      let m : n ≡ length (map named o) = q ∙ sym (length-map o named) in
+      let k : length (map named o) < length b = omega arith in (
+        rw (open-more e) (simp length-append (omega arith)),
+        rw (open-more e, map-append, h, m) (over-set (map named o) b (named x) k),
+      )
+
+module _ (cs : List Clause) (v i : ℕ) (c : Clause) (at : getD cs i no-clause ≡ c) where
+  -- one that names v
+  pub unnamed-gone : bit (named c) v ≡ true → unnamed cs v (i + 1) ≡ unnamed cs v i
+  unfolding unnamed
+  unnamed-gone t = rw (add-one, unnamed, at, t) (append-nil (unnamed cs v i))
+
+  -- one that does not
+  unnamed-next : bit (named c) v ≡ false → unnamed cs v (i + 1) ≡ unnamed cs v i ++ (c ∷ [])
+  unfolding unnamed
+  unnamed-next e = rw (add-one, unnamed, at, e)
+
+  -- it is written to the arrays
+  pub unnamed-more : (p q : List ℕ) (n : ℕ) → bit (named c) v ≡ false → n < length p → n < length q → clauses-in p q n ≡ unnamed cs v i
+      → clauses-in (set p n (c .positive)) (set q n (c .negative)) (n + 1) ≡ unnamed cs v (i + 1)
+  unnamed-more p q n e k l h = clause-written p q n (c .positive) (c .negative) k l ∙ ap (λ (x : List Clause). x ++ (c ∷ [])) h ∙ sym (unnamed-next e)
+
+-- as long as no clause names v, all are kept
+pub unnamed-whole : (p q : List ℕ) (k v i : ℕ) → i < k → bit (named (clause-in p q i)) v ≡ false → unnamed (clauses-in p q k) v i ≡ clauses-in p q i
+    → unnamed (clauses-in p q k) v (i + 1) ≡ clauses-in p q (i + 1)
+unnamed-whole p q k v i l e h =
+    unnamed-next (clauses-in p q k) v i (clause-in p q i) (clause-read p q k i l) e ∙ ap (λ (x : List Clause). x ++ (clause-in p q i ∷ [])) h
+    ∙ sym (tabulated-more (clause-in p q) i)
 
 -- the survey of one clause more
-pub survey-snoc : (s : Survey) (l : List Clause) (c : Clause) → survey-from s (l ++ (c ∷ [])) ≡ surveys (survey-from s l) c
+survey-snoc : (s : Survey) (l : List Clause) (c : Clause) → survey-from s (l ++ (c ∷ [])) ≡ surveys (survey-from s l) c
 unfolding survey-from
 survey-snoc s [] c = refl
 survey-snoc s (x ∷ l) c = survey-snoc (surveys s x) l c
 
+pub survey-more : (p q : List ℕ) (i : ℕ) → survey-of (clauses-in p q (i + 1)) ≡ surveys (survey-of (clauses-in p q i)) (clause-in p q i)
+survey-more p q i = rw (tabulated-more (clause-in p q) i) (survey-snoc (record { positive = 0; negative = 0; any = false }) (clauses-in p q i) (clause-in p q i))
+
+-- whether there is a clause
+pub survey-any : (p q : List ℕ) (k : ℕ) → survey-of (clauses-in p q k) .any ≡ not (eqb k 0)
+unfolding survey-from tabulated
+survey-any p q zero = refl
+survey-any p q (suc k) =
+    ap (λ (s : Survey). s .any) (survey-snoc (record { positive = 0; negative = 0; any = false }) (clauses-in p q k) (clause-in p q k))
+    ∙ sym (ap not (ne-eqb (suc k) 0 (λ e. omega arith)))
+
 -- a clause that names nothing, among one clause more
-pub empty-snoc : (l : List Clause) (c : Clause) → some-empty (l ++ (c ∷ [])) ≡ some-empty l || eqb (named c) 0
+empty-snoc : (l : List Clause) (c : Clause) → some-empty (l ++ (c ∷ [])) ≡ some-empty l || eqb (named c) 0
 unfolding some-empty
 empty-snoc [] c = or-false (eqb (named c) 0)
 empty-snoc (x ∷ l) c = ap (λ (b : Bool). eqb (named x) 0 || b) (empty-snoc l c) ∙ sym (or-assoc (eqb (named x) 0) (some-empty l) (eqb (named c) 0))
-
--- the survey of one clause more that is not satisfied
-pub survey-more : (cs : List Clause) (a : Assignment) (i : ℕ) (s : Survey) → s ≡ survey-of (open-clauses cs a i)
-    → satisfied-under a (getD cs i no-clause) ≡ false → surveys s (left-under a (getD cs i no-clause)) ≡ survey-of (open-clauses cs a (i + 1))
-survey-more cs a i s e f =
-    rw (open-more cs a i f, survey-snoc) (ap (λ (t : Survey). surveys t (left-under a (getD cs i no-clause))) e)
 
 -- a clause of which nothing is left empties the list, whatever comes after it
 module _ (cs : List Clause) (a : Assignment) where
@@ -73,38 +162,24 @@ module _ (cs : List Clause) (a : Assignment) where
   empty-next i e = go (satisfied-under a (getD cs i no-clause)) refl
     where
       go : (b : Bool) → satisfied-under a (getD cs i no-clause) ≡ b → some-empty (open-clauses cs a (i + 1)) ≡ true
-      go true t = rw (open-gone cs a i t) e
-      go false t = rw (open-more cs a i t, empty-snoc, e)
+      go true t = rw (open-gone cs a i (getD cs i no-clause) refl t) e
+      go false t = rw (open-more cs a i (getD cs i no-clause) refl t, empty-snoc, e)
 
   empty-stays : (i d : ℕ) → some-empty (open-clauses cs a i) ≡ true → some-empty (open-clauses cs a (i + d)) ≡ true
   empty-stays i zero e = let q : i + 0 ≡ i = omega arith in rw q e
   empty-stays i (suc d) e = let q : i + suc d ≡ i + d + 1 = omega arith in rw q (empty-next (i + d) (empty-stays i d e))
 
-  pub empty-found : (i n : ℕ) → i < n → satisfied-under a (getD cs i no-clause) ≡ false → named (left-under a (getD cs i no-clause)) ≡ 0
-      → some-empty (open-clauses cs a n) ≡ true
-  empty-found i n l e z =
-      let q : n ≡ i + 1 + (n - (i + 1)) = omega arith in
-      let t : some-empty (open-clauses cs a (i + 1)) ≡ true =
-      rw (open-more cs a i e, empty-snoc, eq-eqb (named (left-under a (getD cs i no-clause))) 0 z) (or-true (some-empty (open-clauses cs a i))) in
-      rw q (empty-stays (i + 1) (n - (i + 1)) t)
+  module _ (i : ℕ) (c : Clause) (at : getD cs i no-clause ≡ c) (e : satisfied-under a c ≡ false) where
+    pub empty-found : (n : ℕ) → i < n → named (left-under a c) ≡ 0 → some-empty (open-clauses cs a n) ≡ true
+    empty-found n l z =
+        let q : n ≡ i + 1 + (n - (i + 1)) = omega arith in
+        let t : some-empty (open-clauses cs a (i + 1)) ≡ true =
+        rw (open-more cs a i c at e, empty-snoc, eq-eqb (named (left-under a c)) 0 z) (or-true (some-empty (open-clauses cs a i))) in
+        rw q (empty-stays (i + 1) (n - (i + 1)) t)
 
-  -- a clause of which something is left does not
-  pub empty-passed : (i : ℕ) → some-empty (open-clauses cs a i) ≡ false → satisfied-under a (getD cs i no-clause) ≡ false
-      → (named (left-under a (getD cs i no-clause)) ≡ 0 → ⊥) → some-empty (open-clauses cs a (i + 1)) ≡ false
-  empty-passed i p e z = rw (open-more cs a i e, empty-snoc, p) (ne-eqb (named (left-under a (getD cs i no-clause))) 0 z)
-
--- what the node's clauses name, over a buffer: one clause more
-pub gather-more : (cs : List Clause) (a : Assignment) (i n : ℕ) (b s : List ℕ) → satisfied-under a (getD cs i no-clause) ≡ false
-    → n ≡ length (open-clauses cs a i) → n < length b → s ≡ over (map named (open-clauses cs a i)) b
-    → (n + 1 ≡ length (open-clauses cs a (i + 1))) × (set s n (named (left-under a (getD cs i no-clause))) ≡ over (map named (open-clauses cs a (i + 1))) b)
-gather-more cs a i n b s e q l h =
-    let o = open-clauses cs a i in
-    let x = left-under a (getD cs i no-clause) in
-    let m : n ≡ length (map named o) = q ∙ sym (length-map o named) in
-    let k : length (map named o) < length b = omega arith in (
-      rw (open-more cs a i e) (simp length-append (omega arith)),
-      rw (open-more cs a i e, map-append, h, m) (over-set (map named o) b (named x) k),
-    )
+    -- a clause of which something is left does not
+    pub empty-passed : some-empty (open-clauses cs a i) ≡ false → (named (left-under a c) ≡ 0 → ⊥) → some-empty (open-clauses cs a (i + 1)) ≡ false
+    empty-passed p z = rw (open-more cs a i c at e, empty-snoc, p) (ne-eqb (named (left-under a c)) 0 z)
 
 -- ---- the matching of a node
 
@@ -115,6 +190,16 @@ Word x = x < 2 ^ 64
 abbrev WordClause : Clause → Type 0
 WordClause c = Word (c .positive) × Word (c .negative)
 
+-- a decoded formula is small
+pub small-of : (f : Formula) → FormulaFits f → Small f
+small-of f fits = record {
+  few = fits .few;
+  words = λ i l sign.
+      let n : f .variables ≤ 64 = omega (arith, fits .most) in
+      let p : 2 ^ f .variables ≤ 2 ^ 64 = pow-mono n in
+      omega (arith, fits .clauses i l .below sign);
+}
+
 words-named : (l : List Clause) → Every WordClause l → Every Word (map named l)
 words-named [] h = tt
 words-named (c ∷ l) h = (or-lt 64 (c .positive) (c .negative) (h .0 .0) (h .0 .1), words-named l (h .1))
@@ -124,13 +209,7 @@ every-drop P zero l h = h
 every-drop P (suc n) [] h = tt
 every-drop P (suc n) (x ∷ l) h = every-drop P n l (h .1)
 
-module _ (f : Formula) (fits : FormulaFits f) (a : Assignment) where
-  side-word : (i : ℕ) → i < f .count → (sign : Bool) → Word (side (getD (f .clauses) i no-clause) sign)
-  side-word i l sign =
-      let n : f .variables ≤ 64 = omega (arith, fits .most) in
-      let p : 2 ^ f .variables ≤ 2 ^ 64 = pow-mono n in
-      omega (arith, fits .clauses i l .below sign)
-
+module _ (f : Formula) (fits : Small f) (a : Assignment) where
   open-words : (n : ℕ) → n ≤ f .count → Every WordClause (open-clauses (f .clauses) a n)
   unfolding open-clauses
   open-words zero l = tt
@@ -142,7 +221,7 @@ module _ (f : Formula) (fits : FormulaFits f) (a : Assignment) where
       go : (b : Bool) → Every WordClause (cond b [] (left-under a c ∷ []))
       go true = tt
       go false =
-          ((minus-lt 64 (c .positive) (assigned a) (side-word n (omega arith) true), minus-lt 64 (c .negative) (assigned a) (side-word n (omega arith) false)), tt)
+          ((minus-lt 64 (c .positive) (assigned a) (fits .words n (omega arith) true), minus-lt 64 (c .negative) (assigned a) (fits .words n (omega arith) false)), tt)
 
   open-length : (n : ℕ) → length (open-clauses (f .clauses) a n) ≤ n
   unfolding open-clauses
@@ -153,6 +232,17 @@ module _ (f : Formula) (fits : FormulaFits f) (a : Assignment) where
           → length (open-clauses (f .clauses) a n) + length (cond b [] (left-under a (getD (f .clauses) n no-clause) ∷ [])) ≤ suc n
       go true h = omega arith
       go false h = omega arith
+
+  -- what is left at the node is as small
+  pub small-at : Small (formula-at f a)
+  small-at = record {
+    few = omega (arith, open-length (f .count), fits .few);
+    words = λ i l sign. by-side (getD (node f a) i no-clause) sign (every-getD WordClause (node f a) i no-clause l (open-words (f .count) (omega arith)));
+  }
+    where
+      by-side : (c : Clause) (sign : Bool) → WordClause c → side c sign < 2 ^ 64
+      by-side c true w = w .0
+      by-side c false w = w .1
 
   node-words : Every Word (map named (node f a))
   node-words = words-named (node f a) (open-words (f .count) (omega arith))
@@ -185,7 +275,7 @@ module _ (f : Formula) (fits : FormulaFits f) (a : Assignment) where
       let p : k * (k + 1) ≤ 96 * 97 = mul-le-mul node-few s in
       omega (arith, outcome-cost l (λ i m. every-getD Word l i 0 m node-words))
 
-  pub match-cost : (m : Matching) → m ≡ packed (length (node f a)) (matched-node f a) → m .expansions ≤ 4656
+  pub match-cost : (m : Matching) → m ≡ matching-at f a → m .expansions ≤ 4656
   match-cost m e = rw (e, packed-expansions) node-cost
 
 -- ---- pure literals
@@ -197,16 +287,15 @@ survey-words s [] p n h = (p, n)
 survey-words s (c ∷ l) p n h =
     survey-words (surveys s c) l (or-lt 64 (s .positive) (c .positive) p (h .0 .0)) (or-lt 64 (s .negative) (c .negative) n (h .0 .1)) (h .1)
 
-module _ (f : Formula) (fits : FormulaFits f) (a : Assignment) where
-  -- the lowest pure variable is below 64
-  pub pure-low : (pure-of f a ≡ 0 → ⊥) → lowest (pure-of f a) < 64
-  pure-low h =
+module _ (f : Formula) (fits : Small f) (a : Assignment) where
+  pub pure-lowest : (pure-of f a ≡ 0 → ⊥) → Lowest (pure-of f a) (lowest (pure-of f a)) 64
+  pure-lowest h =
       let s = survey-of (node f a) in
       let w = survey-words (record { positive = 0; negative = 0; any = false }) (node f a) (omega arith) (omega arith) (open-words f fits a (f .count) (omega arith)) in
-      lowest-is 64 (pure-of f a) (xor-lt 64 (s .positive) (s .negative) (w .0) (w .1)) (omega arith) .below
+      lowest-is 64 (pure-of f a) (xor-lt 64 (s .positive) (s .negative) (w .0) (w .1)) (omega arith)
 
 -- the lowest pure variable has its value as well
-abbrev next-of : Formula → Assignment → Assignment
+abbrev pub next-of : Formula → Assignment → Assignment
 next-of f a = set-to a (lowest (pure-of f a)) (bit (survey-of (node f a) .positive) (lowest (pure-of f a)))
 
 module _ (f : Formula) (a : Assignment) (noted v : ℕ) where
@@ -217,7 +306,7 @@ module _ (f : Formula) (a : Assignment) (noted v : ℕ) where
   reduce-done (suc k) e = rw (reduce-from, eq-eqb (pure-of f a) 0 e)
 
   -- the lowest pure variable is assigned its way and noted
-  reduce-turn : (k : ℕ) → (pure-of f a ≡ 0 → ⊥)
+  pub reduce-turn : (k : ℕ) → (pure-of f a ≡ 0 → ⊥)
       → reduce-from (suc k) f a noted v ≡ reduce-from k f (next-of f a) (with noted (lowest (pure-of f a))) (lowest (pure-of f a))
   unfolding reduce-from
   reduce-turn k z = rw (reduce-from, ne-eqb (pure-of f a) 0 z)
@@ -232,7 +321,7 @@ module _ (f : Formula) (a : Assignment) (noted v : ℕ) where
       rw (q, en, ew, eb, ex, es) (reduce-turn (n - (k + 1)) z)
 
 -- the last noted variable is below 64
-pub reduce-last : (k : ℕ) (f : Formula) (a : Assignment) (noted v : ℕ) → FormulaFits f → v < 64 → reduce-from k f a noted v .last < 64
+pub reduce-last : (k : ℕ) (f : Formula) (a : Assignment) (noted v : ℕ) → Small f → v < 64 → reduce-from k f a noted v .last < 64
 unfolding reduce-from
 reduce-last zero f a noted v fits l = l
 reduce-last (suc k) f a noted v fits l =
@@ -241,13 +330,13 @@ reduce-last (suc k) f a noted v fits l =
     go : (lowest (pure-of f a) < 64 → reduce-from k f (next-of f a) (with noted (lowest (pure-of f a))) (lowest (pure-of f a)) .last < 64)
         → Dec (pure-of f a ≡ 0) → reduce-from (suc k) f a noted v .last < 64
     go h (yes e) = rw (reduce-done f a noted v (suc k) e) l
-    go h (no z) = rw (reduce-turn f a noted v k z) (h (pure-low f fits a z))
+    go h (no z) = rw (reduce-turn f a noted v k z) (h (pure-lowest f fits a z .below))
 
 -- ---- trials
 
 module _ (f : Formula) (a : Assignment) (v : ℕ) where
   -- the matching with v false fails
-  pub tried-false : (m : Matching) → m ≡ packed (length (node f (set-to a v false))) (matched-node f (set-to a v false)) → m .complete ≡ false
+  pub tried-false : (m : Matching) → m ≡ matching-at f (set-to a v false) → m .complete ≡ false
       → _≡_ {A = Trial} (record { passes = false; cost = m .expansions }) (tried f a v)
   unfolding tried
   tried-false m e h =
@@ -257,8 +346,8 @@ module _ (f : Formula) (a : Assignment) (v : ℕ) where
       rw (e, packed-expansions, tried, t)
 
   -- it succeeds, and the one with v true decides
-  pub tried-true : (m n : Matching) → m ≡ packed (length (node f (set-to a v false))) (matched-node f (set-to a v false)) → m .complete ≡ true
-      → n ≡ packed (length (node f (set-to a v true))) (matched-node f (set-to a v true))
+  pub tried-true : (m n : Matching) → m ≡ matching-at f (set-to a v false) → m .complete ≡ true
+      → n ≡ matching-at f (set-to a v true)
       → _≡_ {A = Trial} (record { passes = n .complete; cost = m .expansions + n .expansions }) (tried f a v)
   unfolding tried
   tried-true m n e h d =
@@ -276,7 +365,7 @@ module _ (f : Formula) (a : Assignment) (v : ℕ) where
       )
 
   -- a trial costs at most two matchings
-  tried-cost : FormulaFits f → tried f a v .cost ≤ 9312
+  tried-cost : Small f → tried f a v .cost ≤ 9312
   unfolding tried
   tried-cost fits = go (succeeds (matched-node f (set-to a v false))) refl
     where
@@ -311,7 +400,7 @@ module _ (f : Formula) (a : Assignment) (rest e v : ℕ) (t : Trial) (w : Lowere
   unfolding passing
   passing-more next h n = rw (w .listed, passing, trial, h, trial, n, q)
 
-  pub trial-cost : FormulaFits f → t .cost ≤ 9312
+  pub trial-cost : Small f → t .cost ≤ 9312
   trial-cost fits = rw p (tried-cost f a v fits)
 
 -- no candidate is left
@@ -335,15 +424,19 @@ pub last-none : (v : ℕ) → last (v ∷ members 0 64) ≡ v
 unfolding last
 last-none v = rw (members-none 0 64 (λ i l. bit-none i))
 
--- the greatest member is below 64
-last-is : (P : ℕ → Type 0) (l : List ℕ) → P 0 → ((j : ℕ) → j < length l → P (getD l j 0)) → P (last l)
+-- what holds of the members holds of the greatest
+last-is : (P : ℕ → Type 0) (l : List ℕ) → (length l ≡ 0 → P 0) → ((j : ℕ) → j < length l → P (getD l j 0)) → P (last l)
 unfolding last
-last-is P [] p h = p
+last-is P [] p h = p refl
 last-is P (x ∷ []) p h = h 0 (omega arith)
-last-is P (x ∷ (y ∷ l)) p h = last-is P (y ∷ l) p (λ j m. h (suc j) (suc-le-suc m))
+last-is P (x ∷ (y ∷ l)) p h = last-is P (y ∷ l) (λ e. absurd (omega arith)) (λ j m. h (suc j) (suc-le-suc m))
 
 pub greatest-below : (m : ℕ) → greatest m < 64
-greatest-below m = last-is (λ x. x < 64) (members m 64) (omega arith) (λ j l. members-are m 64 j l .0)
+greatest-below m = last-is (λ x. x < 64) (members m 64) (λ e. omega arith) (λ j l. members-are m 64 j l .0)
+
+pub greatest-member : (m : ℕ) → m < 2 ^ 64 → (m ≡ 0 → ⊥) → bit m (greatest m) ≡ true
+greatest-member m h z =
+    last-is (λ x. bit m x ≡ true) (members m 64) (λ e. absurd (omega (arith, lowered m h z .less))) (λ j l. members-are m 64 j l .1)
 
 -- ---- the choice
 

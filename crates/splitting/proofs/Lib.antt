@@ -15,6 +15,7 @@ pub mod TrailLaws
 pub mod OpenLaws
 pub mod Theorems
 pub mod MaskNodeLaws
+pub mod CompactLaws
 pub mod MaskSearchLaws
 pub mod MaskChoiceLaws
 pub mod Cases

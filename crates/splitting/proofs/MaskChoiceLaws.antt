@@ -16,7 +16,7 @@ use Rattle.matching.specs.Search.{Outcome, outcome, succeeds, expansions}
 use Rattle.formula.specs.declared.Clause.{Clause}
 use Rattle.formula.specs.declared.Formula.{Formula}
 use Rattle.formula.specs.Format.{Literal, names, names-as}
-use Rattle.formula.specs.Masked.{named, side, variables, clause-of, formula-of}
+use Rattle.formula.specs.Masked.{named, variables, clause-of, formula-of}
 use Rattle.formula.proofs.ClauseLaws.{clause-side, clause-empty, variables-named, named-as}
 use Rattle.formula.proofs.FormatLaws.{clause-more}
 use Rattle.splitting.specs.declared.Assignment.{Assignment}
@@ -36,19 +36,10 @@ use Rattle.splitting.proofs.NodeLaws.{remaining-snoc, named-remaining, 
 use Rattle.splitting.proofs.SearchLaws.{lowest-some, among-here, among-more, upward-of, upward-in, last-append}
 use Rattle.splitting.proofs.Theorems.{last-listed-named}
 use Rattle.splitting.proofs.TurnLaws.{strip-next, strip-end}
-use Rattle.splitting.proofs.MaskNodeLaws.{node-masks, assignment-more, assigned-trail}
+use Rattle.splitting.proofs.MaskNodeLaws.{survey-side, surveys-side, node-masks, assignment-more, assigned-trail}
 use Rattle.splitting.proofs.MaskSearchLaws.{lowest-empty, lowest-member, members-upward}
 
 -- ---- what the clauses name
-
--- a side of a survey
-abbrev survey-side : Survey → Bool → ℕ
-survey-side s true = s .positive
-survey-side s false = s .negative
-
-surveys-side : (s : Survey) (c : Clause) (sign : Bool) (v : ℕ) → bit (survey-side (surveys s c) sign) v ≡ bit (survey-side s sign) v || bit (side c sign) v
-surveys-side s c true v = bit-or (s .positive) (c .positive) v
-surveys-side s c false v = bit-or (s .negative) (c .negative) v
 
 survey-occurs : (s : Survey) (ds : List (List Literal)) (sign : Bool) (v : ℕ)
     → bit (survey-side (survey-from s (map clause-of ds)) sign) v ≡ bit (survey-side s sign) v || occurs ds v sign

@@ -22,16 +22,28 @@ use Rattle.formula.specs.Masked.{no-clause, side, clause-of, formula-of}
 use Rattle.formula.proofs.ClauseLaws.{clause-side}
 use Rattle.formula.proofs.FormatLaws.{distinct-rest}
 use Rattle.splitting.specs.declared.Assignment.{Assignment}
+use Rattle.splitting.specs.declared.Survey.{Survey}
 use Rattle.splitting.specs.Nodes.{less, assign, remaining}
-use Rattle.splitting.specs.InnerChoose.{assigned, set-to, satisfied-under, left-under, open-clauses, node, assign-all, assignment-of}
+use Rattle.splitting.specs.InnerChoose.{assigned, set-to, satisfied-under, left-under, open-clauses, node, unassigned, surveys, assign-all, assignment-of}
 use Rattle.splitting.proofs.ClauseLaws.{less-self, less-other}
 
 -- two clauses with the same members on both sides are equal
-clause-same : (c d : Clause) → ((sign : Bool) (i : ℕ) → bit (side c sign) i ≡ bit (side d sign) i) → c ≡ d
+pub clause-same : (c d : Clause) → ((sign : Bool) (i : ℕ) → bit (side c sign) i ≡ bit (side d sign) i) → c ≡ d
 clause-same c d e =
     let p : c .positive ≡ d .positive = mask-same (c .positive) (d .positive) (e true) in
     let q : c .negative ≡ d .negative = mask-same (c .negative) (d .negative) (e false) in
     λ i. record { positive = p i; negative = q i }
+
+-- ---- what clauses name
+
+-- a side of a survey
+abbrev pub survey-side : Survey → Bool → ℕ
+survey-side s true = s .positive
+survey-side s false = s .negative
+
+pub surveys-side : (s : Survey) (c : Clause) (sign : Bool) (v : ℕ) → bit (survey-side (surveys s c) sign) v ≡ bit (survey-side s sign) v || bit (side c sign) v
+surveys-side s c true v = bit-or (s .positive) (c .positive) v
+surveys-side s c false v = bit-or (s .negative) (c .negative) v
 
 -- ---- one variable, over masks
 
@@ -40,7 +52,7 @@ less-mask : ℕ → Clause → Clause
 less-mask v c = record { positive = without (c .positive) v; negative = without (c .negative) v }
 
 -- v gets the value b in clauses of masks
-assign-masks : ℕ → Bool → List Clause → List Clause
+pub assign-masks : ℕ → Bool → List Clause → List Clause
 assign-masks v b [] = []
 assign-masks v b (c ∷ cs) = cond (bit (side c b) v) (assign-masks v b cs) (less-mask v c ∷ assign-masks v b cs)
 
@@ -78,11 +90,11 @@ assign-of-masks v b (c ∷ cs) = go (names-as c v b) (clause-side c b v) (assign
 -- ---- one variable more in the assignment
 
 -- what is left of those clauses that are not satisfied
-open-of : Assignment → List Clause → List Clause
+unfoldable pub open-of : Assignment → List Clause → List Clause
 open-of a [] = []
 open-of a (c ∷ cs) = cond (satisfied-under a c) (open-of a cs) (left-under a c ∷ open-of a cs)
 
-assigned-more : (a : Assignment) (v : ℕ) (b : Bool) (i : ℕ) → bit (assigned (set-to a v b)) i ≡ bit (assigned a) i || eqb i v
+pub assigned-more : (a : Assignment) (v : ℕ) (b : Bool) (i : ℕ) → bit (assigned (set-to a v b)) i ≡ bit (assigned a) i || eqb i v
 assigned-more a v true i =
     bit-or (with (a .trues) v) (a .falses) i
     ∙ rw (bit-with (a .trues) v i) (or-swap (bit (a .trues) i) (bit (a .falses) i) (eqb i v))
@@ -92,11 +104,11 @@ assigned-more a v false i =
     ∙ rw (bit-with (a .falses) v i) (sym (or-assoc (bit (a .trues) i) (bit (a .falses) i) (eqb i v)))
     ∙ ap (λ (x : Bool). x || eqb i v) (sym (bit-or (a .trues) (a .falses) i))
 
-satisfied-more : (a : Assignment) (c : Clause) (v : ℕ) (b : Bool) → satisfied-under (set-to a v b) c ≡ satisfied-under a c || bit (side c b) v
+pub satisfied-more : (a : Assignment) (c : Clause) (v : ℕ) (b : Bool) → satisfied-under (set-to a v b) c ≡ satisfied-under a c || bit (side c b) v
 satisfied-more a c v true = rw (meets-with (c .positive) (a .trues) v) (or-swap (meets (c .positive) (a .trues)) (meets (c .negative) (a .falses)) (bit (c .positive) v))
 satisfied-more a c v false = rw (meets-with (c .negative) (a .falses) v) (sym (or-assoc (meets (c .positive) (a .trues)) (meets (c .negative) (a .falses)) (bit (c .negative) v)))
 
-left-side : (a : Assignment) (c : Clause) (sign : Bool) (i : ℕ) → bit (side (left-under a c) sign) i ≡ bit (side c sign) i && not (bit (assigned a) i)
+pub left-side : (a : Assignment) (c : Clause) (sign : Bool) (i : ℕ) → bit (side (left-under a c) sign) i ≡ bit (side c sign) i && not (bit (assigned a) i)
 left-side a c true i = bit-minus (c .positive) (assigned a) i
 left-side a c false i = bit-minus (c .negative) (assigned a) i
 
@@ -115,7 +127,7 @@ left-more a c v b =
 
 -- a variable that is not assigned yet: the clauses that are left lose it
 module _ (a : Assignment) (v : ℕ) (b : Bool) (new : bit (assigned a) v ≡ false) where
-  open-more : (cs : List Clause) → open-of (set-to a v b) cs ≡ assign-masks v b (open-of a cs)
+  pub open-more : (cs : List Clause) → open-of (set-to a v b) cs ≡ assign-masks v b (open-of a cs)
   unfolding open-of assign-masks
   open-more [] = refl
   open-more (c ∷ cs) = go (satisfied-under a c) (bit (side c b) v) refl refl (open-more cs)
@@ -179,7 +191,7 @@ open-cons a c cs (suc n) =
     let k = cond (satisfied-under a (getD cs n no-clause)) [] (left-under a (getD cs n no-clause) ∷ []) in
     ap (λ (l : List Clause). l ++ k) (open-cons a c cs n) ∙ append-assoc (cond (satisfied-under a c) [] (left-under a c ∷ [])) (open-clauses cs a n) k
 
-open-list : (a : Assignment) (cs : List Clause) → open-clauses cs a (length cs) ≡ open-of a cs
+pub open-list : (a : Assignment) (cs : List Clause) → open-clauses cs a (length cs) ≡ open-of a cs
 unfolding open-clauses open-of
 open-list a [] = refl
 open-list a (c ∷ cs) = open-cons a c cs (length cs) ∙ go (satisfied-under a c) (open-list a cs)
@@ -194,19 +206,18 @@ unfolding open-clauses
 open-padded a k cs zero l = refl
 open-padded a k cs (suc n) l = rw (open-padded a k cs n (omega arith), getD-padded k no-clause cs n no-clause l)
 
-meets-none : (p : ℕ) → meets p 0 ≡ false
+pub meets-none : (p : ℕ) → meets p 0 ≡ false
 meets-none p =
     let e : bitAnd p 0 ≡ 0 = mask-same (bitAnd p 0) 0 (λ i. bit-and p 0 i ∙ rw (bit-none i) (and-false (bit p i))) in
     ap not (eq-eqb (bitAnd p 0) 0 e)
 
 -- nothing is assigned: every clause is left whole
-open-none : (cs : List Clause) → open-of (record { trues = 0; falses = 0 }) cs ≡ cs
+pub open-none : (cs : List Clause) → open-of unassigned cs ≡ cs
 unfolding open-of
 open-none [] = refl
 open-none (c ∷ cs) =
-    let a : Assignment = record { trues = 0; falses = 0 } in
-    let whole : left-under a c ≡ c =
-    clause-same (left-under a c) c (λ sign i. left-side a c sign i ∙ rw (bit-none i) (and-true (bit (side c sign) i))) in
+    let whole : left-under unassigned c ≡ c =
+    clause-same (left-under unassigned c) c (λ sign i. left-side unassigned c sign i ∙ rw (bit-none i) (and-true (bit (side c sign) i))) in
     rw (meets-none (c .positive), meets-none (c .negative), whole, open-none cs)
 
 -- The node of a trail over masks has the masks of the clauses that remain there.

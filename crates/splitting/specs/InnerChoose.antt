@@ -1,16 +1,19 @@
--- What the code of the choice computes over masks; proofs/MaskLaws.antt ties it to Choosing.
-use Prim.Native.Nat.{ℕ, zero, suc, _+_}
+-- What the code of the choice computes over masks; proofs/MaskChoiceLaws.antt ties it to Choosing.
+use Prim.Native.Nat.{ℕ, zero, suc, _+_, _^_, _<_, _≤_}
 use mathlib.Core.Bool.{Bool, true, false, not, cond, _||_}
 use mathlib.Core.List.{List, [], _∷_, _++_, map}
 use lib.Bits.{bitOr, bitXor}
 use lib.Dec.{eqb}
-use lib.ListN.{getD}
+use lib.ListN.{length, getD}
+use Rattle.lists.specs.Tabulated.{tabulated}
 use Rattle.masks.specs.Mask.{bit, with, minus, meets, lowest, members}
+use Rattle.matching.specs.declared.Matching.{Matching}
+use Rattle.matching.specs.Result.{packed}
 use Rattle.matching.specs.Search.{Outcome, outcome, succeeds, expansions}
 use Rattle.formula.specs.declared.Clause.{Clause}
 use Rattle.formula.specs.declared.Formula.{Formula}
 use Rattle.formula.specs.Format.{Literal}
-use Rattle.formula.specs.Masked.{no-clause, named}
+use Rattle.formula.specs.Masked.{no-clause, side, named}
 use Rattle.splitting.specs.declared.Assignment.{Assignment}
 use Rattle.splitting.specs.declared.Choice.{Choice}
 use Rattle.splitting.specs.declared.Reduced.{Reduced}
@@ -45,6 +48,34 @@ open-clauses cs a (suc n) =
 abbrev pub node : Formula → Assignment → List Clause
 node f a = open-clauses (f .clauses) a (f .count)
 
+-- those of the first n clauses that do not name v
+unfoldable pub unnamed : List Clause → ℕ → ℕ → List Clause
+unnamed cs v zero = []
+unnamed cs v (suc n) = unnamed cs v n ++ cond (bit (named (getD cs n no-clause)) v) [] (getD cs n no-clause ∷ [])
+
+-- nothing is assigned
+abbrev pub unassigned : Assignment
+unassigned = record { trues = 0; falses = 0 }
+
+-- what is left at the node, as a formula over the 64 variables of a mask
+abbrev pub formula-at : Formula → Assignment → Formula
+formula-at f a = record { variables = 64; count = length (node f a); clauses = node f a }
+
+-- a clause, and the first k clauses, in an array for each side
+abbrev pub clause-in : List ℕ → List ℕ → ℕ → Clause
+clause-in p q i = record { positive = getD p i 0; negative = getD q i 0 }
+
+abbrev pub clauses-in : List ℕ → List ℕ → ℕ → List Clause
+clauses-in p q k = tabulated (clause-in p q) k
+
+abbrev pub formula-in : List ℕ → List ℕ → ℕ → Formula
+formula-in p q k = record { variables = 64; count = k; clauses = clauses-in p q k }
+
+-- at most 96 clauses, of 64-bit masks
+pub record Small (f : Formula) : Type 0 where
+  pub few : f .count ≤ 96
+  pub words : (i : ℕ) → i < f .count → (sign : Bool) → side (getD (f .clauses) i no-clause) sign < 2 ^ 64
+
 -- the variables that clauses name as true and as false, and whether there is a clause
 abbrev pub surveys : Survey → Clause → Survey
 surveys s c = record { positive = bitOr (s .positive) (c .positive); negative = bitOr (s .negative) (c .negative); any = true }
@@ -64,6 +95,9 @@ some-empty (c ∷ cs) = eqb (named c) 0 || some-empty cs
 -- the outcome of matching the clauses
 abbrev pub matched-node : Formula → Assignment → Outcome
 matched-node f a = outcome (map named (node f a))
+
+abbrev pub matching-at : Formula → Assignment → Matching
+matching-at f a = packed (length (node f a)) (matched-node f a)
 
 -- ---- pure literals
 

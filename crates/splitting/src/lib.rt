@@ -1,16 +1,16 @@
 // The choice of the next variable (01: 'Which switch is settled next'), over a formula in masks and the assigned variables.
-// A clause is gone if an assigned variable satisfies it; what is left of another are its unassigned variables. Stripping a
-// pure literal is assigning it its way, so that nothing is ever copied or rebuilt.
+// A clause is gone if an assigned variable satisfies it; what is left of another are its unassigned variables. Few clauses are
+// open where a choice is made, so what is left of those is copied first, into an array for each side, and all else goes over
+// the arrays: stripping a pure literal drops the clauses that name it, in place.
 ghost use mathlib.Core.Path.{_≡_};
 ghost use mathlib.Core.List.{map};
-ghost use Prim.Native.Nat.{_<_};
+ghost use Prim.Native.Nat.{_<_, _≤_};
 ghost use lib.ListN.{length};
 ghost use Rattle.lists.specs.Over.{over};
 ghost use Rattle.masks.specs.Mask.{members};
 ghost use Rattle.formula.specs.Masked.{FormulaFits, named};
-ghost use Rattle.matching.specs.Result.{packed};
 ghost use Rattle.splitting.specs.Choosing.{both-open};
-ghost use Rattle.splitting.specs.InnerChoose.{set-to, satisfied-under, left-under, node, survey-of, some-empty, matched-node, reduced, tried, passing, greatest, listed-last, chosen};
+ghost use Rattle.splitting.specs.InnerChoose.{set-to, satisfied-under, left-under, node, unnamed, survey-of, some-empty, matching-at, unassigned, clause-in, clauses-in, formula-in, formula-at, Small, reduce-from, tried, passing, greatest, listed-last, chosen};
 use formula::Clause;
 use formula::Formula;
 use matching::Matching;
@@ -68,11 +68,29 @@ pub fn assign(a: Assignment, v: usize, value: bool) -> Assignment
     }
 }
 
+// Nothing is assigned.
+fn no_assignment() -> Assignment
+    ensures { λ r. ⌜ r ≡ unassigned ⌝ }
+{
+    Assignment {
+        trues: 0,
+        falses: 0,
+    }
+}
+
+// v has the value, and nothing else is assigned.
+fn only(v: usize, value: bool) -> Assignment
+    requires { ⌜ v < 64 ⌝ }
+    ensures { λ r. ⌜ r ≡ set-to unassigned v value ⌝ }
+{
+    assign(no_assignment(), v, value)
+}
+
 // An assigned variable satisfies the clause.
 fn is_satisfied(a: Assignment, c: Clause) -> bool
     ensures { λ r. ⌜ r ≡ satisfied-under a c ⌝ }
 {
-    masks::meets(c.positive, a.trues) || masks::meets(c.negative, a.falses)
+    ((c.positive & a.trues) | (c.negative & a.falses)) != 0
 }
 
 // What is left of a clause.
@@ -86,40 +104,133 @@ fn left(a: Assignment, c: Clause) -> Clause
     }
 }
 
-// What the clauses of the node name.
-fn survey_node(f: Formula, a: Assignment) -> Survey
-    requires { ⌜ FormulaFits f ⌝ }
-    ensures { λ r. ⌜ r ≡ survey-of (node f a) ⌝ }
+// The i-th clause of the arrays.
+fn clause_at(positives: &[u64; 96], negatives: &[u64; 96], i: usize) -> Clause
+    requires { ⌜ i < 96 ⌝ }
+    ensures { λ r. ⌜ r ≡ clause-in (now (positives .entry)) (now (negatives .entry)) i ⌝ }
 {
-    let mut positive: u64 = 0;
-    let mut negative: u64 = 0;
-    let mut any = false;
+    Clause {
+        positive: positives[i],
+        negative: negatives[i],
+    }
+}
+
+// Writes what is left of the formula's open clauses, and gives their number.
+fn open_node(
+    f: Formula,
+    a: Assignment,
+    positives: &mut [u64; 96],
+    negatives: &mut [u64; 96],
+) -> usize
+    requires { ⌜ Small f × (length (now positives) ≡ 96) × (length (now negatives) ≡ 96) ⌝ }
+    ensures { λ r. ⌜ formula-in (now (positives .exit)) (now (negatives .exit)) r ≡ formula-at f a ⌝ }
+    ensures { λ _. ⌜ (length (now (positives .exit)) ≡ 96) × (length (now (negatives .exit)) ≡ 96) ⌝ }
+{
+    let mut count: usize = 0;
     let mut i: usize = 0;
     while i < f.count {
         let c = f.clauses[i];
         if !is_satisfied(a, c) {
             let l = left(a, c);
-            positive = positive | l.positive;
-            negative = negative | l.negative;
-            any = true;
+            positives[count] = l.positive;
+            negatives[count] = l.negative;
+            count += 1;
         }
+        i += 1;
+    }
+    count
+}
+
+// Keeps what is left of the open clauses, in place, and gives their number.
+fn compact(
+    positives: &mut [u64; 96],
+    negatives: &mut [u64; 96],
+    count: usize,
+    a: Assignment,
+) -> usize
+    requires { ⌜ (count ≤ 96) × (length (now positives) ≡ 96) × (length (now negatives) ≡ 96) ⌝ }
+    ensures { λ r. ⌜ formula-in (now (positives .exit)) (now (negatives .exit)) r ≡ formula-at (formula-in (now (positives .entry)) (now (negatives .entry)) count) a ⌝ }
+    ensures { λ _. ⌜ (length (now (positives .exit)) ≡ 96) × (length (now (negatives .exit)) ≡ 96) ⌝ }
+{
+    let mut kept: usize = 0;
+    let mut i: usize = 0;
+    while i < count {
+        let c = clause_at(positives, negatives, i);
+        if !is_satisfied(a, c) {
+            let l = left(a, c);
+            positives[kept] = l.positive;
+            negatives[kept] = l.negative;
+            kept += 1;
+        }
+        i += 1;
+    }
+    kept
+}
+
+// The first clause that names v, or their number.
+fn first_named(positives: &[u64; 96], negatives: &[u64; 96], count: usize, v: usize) -> usize
+    requires { ⌜ (count ≤ 96) × (v < 64) ⌝ }
+    ensures { λ r. ⌜ (r ≤ count) × (unnamed (clauses-in (now (positives .entry)) (now (negatives .entry)) count) v r ≡ clauses-in (now (positives .entry)) (now (negatives .entry)) r) ⌝ }
+{
+    let mut i: usize = 0;
+    while i < count {
+        let c = clause_at(positives, negatives, i);
+        if masks::member(c.positive | c.negative, v) {
+            return i;
+        }
+        i += 1;
+    }
+    i
+}
+
+// Keeps the clauses that do not name v, in place, and gives their number. Those before the first that names it need no store.
+fn drop_named(positives: &mut [u64; 96], negatives: &mut [u64; 96], count: usize, v: usize) -> usize
+    requires { ⌜ (count ≤ 96) × (v < 64) × (length (now positives) ≡ 96) × (length (now negatives) ≡ 96) ⌝ }
+    ensures { λ r. ⌜ clauses-in (now (positives .exit)) (now (negatives .exit)) r ≡ unnamed (clauses-in (now (positives .entry)) (now (negatives .entry)) count) v count ⌝ }
+    ensures { λ _. ⌜ (length (now (positives .exit)) ≡ 96) × (length (now (negatives .exit)) ≡ 96) ⌝ }
+{
+    let mut kept = first_named(positives, negatives, count, v);
+    let mut i = kept;
+    while i < count {
+        let c = clause_at(positives, negatives, i);
+        if !masks::member(c.positive | c.negative, v) {
+            positives[kept] = c.positive;
+            negatives[kept] = c.negative;
+            kept += 1;
+        }
+        i += 1;
+    }
+    kept
+}
+
+// What the clauses name.
+fn survey_clauses(positives: &[u64; 96], negatives: &[u64; 96], count: usize) -> Survey
+    requires { ⌜ count ≤ 96 ⌝ }
+    ensures { λ r. ⌜ r ≡ survey-of (clauses-in (now (positives .entry)) (now (negatives .entry)) count) ⌝ }
+{
+    let mut positive: u64 = 0;
+    let mut negative: u64 = 0;
+    let mut i: usize = 0;
+    while i < count {
+        positive = positive | positives[i];
+        negative = negative | negatives[i];
         i += 1;
     }
     Survey {
         positive,
         negative,
-        any,
+        any: count != 0,
     }
 }
 
 // Some clause of the node names nothing.
-fn has_empty(f: Formula, a: Assignment) -> bool
-    requires { ⌜ FormulaFits f ⌝ }
-    ensures { λ r. ⌜ r ≡ some-empty (node f a) ⌝ }
+fn has_empty(positives: &[u64; 96], negatives: &[u64; 96], count: usize, a: Assignment) -> bool
+    requires { ⌜ count ≤ 96 ⌝ }
+    ensures { λ r. ⌜ r ≡ some-empty (node (formula-in (now (positives .entry)) (now (negatives .entry)) count) a) ⌝ }
 {
     let mut i: usize = 0;
-    while i < f.count {
-        let c = f.clauses[i];
+    while i < count {
+        let c = clause_at(positives, negatives, i);
         if !is_satisfied(a, c) {
             let l = left(a, c);
             if (l.positive | l.negative) == 0 {
@@ -132,47 +243,56 @@ fn has_empty(f: Formula, a: Assignment) -> bool
 }
 
 // Writes the variables that each clause of the node names, and gives the number of clauses.
-fn gather(f: Formula, a: Assignment, sets: &mut [u64; 96]) -> usize
-    requires { ⌜ FormulaFits f × (length (now sets) ≡ 96) ⌝ }
-    ensures { λ r. ⌜ r ≡ length (node f a) ⌝ }
-    ensures { λ _. ⌜ now (sets .exit) ≡ over (map named (node f a)) (now (sets .entry)) ⌝ }
+fn gather(
+    positives: &[u64; 96],
+    negatives: &[u64; 96],
+    count: usize,
+    a: Assignment,
+    sets: &mut [u64; 96],
+) -> usize
+    requires { ⌜ (count ≤ 96) × (length (now sets) ≡ 96) ⌝ }
+    ensures { λ r. ⌜ r ≡ length (node (formula-in (now (positives .entry)) (now (negatives .entry)) count) a) ⌝ }
+    ensures { λ _. ⌜ now (sets .exit) ≡ over (map named (node (formula-in (now (positives .entry)) (now (negatives .entry)) count) a)) (now (sets .entry)) ⌝ }
 {
-    let mut count: usize = 0;
+    let mut written: usize = 0;
     let mut i: usize = 0;
-    while i < f.count {
-        let c = f.clauses[i];
+    while i < count {
+        let c = clause_at(positives, negatives, i);
         if !is_satisfied(a, c) {
             let l = left(a, c);
-            sets[count] = l.positive | l.negative;
-            count += 1;
+            sets[written] = l.positive | l.negative;
+            written += 1;
         }
         i += 1;
     }
-    count
+    written
 }
 
 // Matches the clauses of the node, from nothing.
-fn match_node(f: Formula, a: Assignment) -> Matching
-    requires { ⌜ FormulaFits f ⌝ }
-    ensures { λ r. ⌜ r ≡ packed (length (node f a)) (matched-node f a) ⌝ }
+fn match_node(positives: &[u64; 96], negatives: &[u64; 96], count: usize, a: Assignment) -> Matching
+    requires { ⌜ Small (formula-in (now positives) (now negatives) count) ⌝ }
+    ensures { λ r. ⌜ r ≡ matching-at (formula-in (now (positives .entry)) (now (negatives .entry)) count) a ⌝ }
 {
     let mut sets = [0u64; 96];
-    let count = gather(f, a, &mut sets);
-    matching::match_sets(&sets, count)
+    let written = gather(positives, negatives, count, a, &mut sets);
+    matching::match_sets(&sets, written)
 }
 
-// Strips pure literals, the lowest first, until there is none. No variable is noted twice, so that as many turns as variables
-// are enough.
-fn reduce(f: Formula, a: Assignment) -> Reduced
-    requires { ⌜ FormulaFits f ⌝ }
-    ensures { λ r. ⌜ r ≡ reduced f a ⌝ }
+// Strips pure literals, the lowest first, until there is none, from a copy of the arrays. No variable is noted twice, so that as
+// many turns as variables are enough.
+fn reduce(positives: &[u64; 96], negatives: &[u64; 96], count: usize, variables: usize) -> Reduced
+    requires { ⌜ Small (formula-in (now positives) (now negatives) count) × (length (now positives) ≡ 96) × (length (now negatives) ≡ 96) ⌝ }
+    ensures { λ r. ⌜ r ≡ reduce-from variables (formula-in (now (positives .entry)) (now (negatives .entry)) count) unassigned 0 0 ⌝ }
 {
-    let mut assignment = a;
+    let mut left_positives = *positives;
+    let mut left_negatives = *negatives;
+    let mut left_count = count;
+    let mut assignment = no_assignment();
     let mut noted: u64 = 0;
     let mut last: usize = 0;
     let mut k: usize = 0;
-    while k < f.variables {
-        let s = survey_node(f, assignment);
+    while k < variables {
+        let s = survey_clauses(&left_positives, &left_negatives, left_count);
         let pure = s.positive ^ s.negative;
         if pure == 0 {
             return Reduced {
@@ -184,6 +304,7 @@ fn reduce(f: Formula, a: Assignment) -> Reduced
         }
         let v = masks::lowest(pure);
         assignment = assign(assignment, v, masks::member(s.positive, v));
+        left_count = drop_named(&mut left_positives, &mut left_negatives, left_count, v);
         noted = masks::with(noted, v);
         last = v;
         k += 1;
@@ -192,23 +313,23 @@ fn reduce(f: Formula, a: Assignment) -> Reduced
         assignment,
         noted,
         last,
-        survey: survey_node(f, assignment),
+        survey: survey_clauses(&left_positives, &left_negatives, left_count),
     }
 }
 
 // A trial of v: the clauses are matched with v false, and if that succeeds, with v true.
-fn try_variable(f: Formula, a: Assignment, v: usize) -> Trial
-    requires { ⌜ FormulaFits f × (v < 64) ⌝ }
-    ensures { λ r. ⌜ r ≡ tried f a v ⌝ }
+fn try_variable(positives: &[u64; 96], negatives: &[u64; 96], count: usize, v: usize) -> Trial
+    requires { ⌜ Small (formula-in (now positives) (now negatives) count) × (v < 64) ⌝ }
+    ensures { λ r. ⌜ r ≡ tried (formula-in (now (positives .entry)) (now (negatives .entry)) count) unassigned v ⌝ }
 {
-    let when_false = match_node(f, assign(a, v, false));
+    let when_false = match_node(positives, negatives, count, only(v, false));
     if !when_false.complete {
         return Trial {
             passes: false,
             cost: when_false.expansions,
         };
     }
-    let when_true = match_node(f, assign(a, v, true));
+    let when_true = match_node(positives, negatives, count, only(v, true));
     Trial {
         passes: when_true.complete,
         cost: when_false.expansions + when_true.expansions,
@@ -228,15 +349,20 @@ fn both_open(v: usize, expansions: u64) -> Choice
 }
 
 // Tries the candidates upward, until one passes.
-fn first_passing(f: Formula, a: Assignment, candidates: u64) -> Choice
-    requires { ⌜ FormulaFits f ⌝ }
-    ensures { λ r. ⌜ r ≡ passing f a (members candidates 64) 0 ⌝ }
+fn first_passing(
+    positives: &[u64; 96],
+    negatives: &[u64; 96],
+    count: usize,
+    candidates: u64,
+) -> Choice
+    requires { ⌜ Small (formula-in (now positives) (now negatives) count) ⌝ }
+    ensures { λ r. ⌜ r ≡ passing (formula-in (now (positives .entry)) (now (negatives .entry)) count) unassigned (members candidates 64) 0 ⌝ }
 {
     let mut rest = candidates;
     let mut cost: u64 = 0;
     while rest != 0 {
         let v = masks::lowest(rest);
-        let t = try_variable(f, a, v);
+        let t = try_variable(positives, negatives, count, v);
         cost += t.cost;
         if t.passes {
             return both_open(v, cost);
@@ -260,14 +386,14 @@ fn highest(mask: u64) -> usize
 }
 
 // The last listed variable, with the values that empty no clause open.
-fn last_listed(f: Formula, a: Assignment, v: usize) -> Choice
-    requires { ⌜ FormulaFits f × (v < 64) ⌝ }
-    ensures { λ r. ⌜ r ≡ listed-last f a v ⌝ }
+fn last_listed(positives: &[u64; 96], negatives: &[u64; 96], count: usize, v: usize) -> Choice
+    requires { ⌜ (count ≤ 96) × (v < 64) ⌝ }
+    ensures { λ r. ⌜ r ≡ listed-last (formula-in (now (positives .entry)) (now (negatives .entry)) count) unassigned v ⌝ }
 {
     Choice {
         variable: v,
-        false_open: !has_empty(f, assign(a, v, false)),
-        true_open: !has_empty(f, assign(a, v, true)),
+        false_open: !has_empty(positives, negatives, count, only(v, false)),
+        true_open: !has_empty(positives, negatives, count, only(v, true)),
         expansions: 0,
     }
 }
@@ -277,19 +403,22 @@ pub fn choose(f: Formula, settle: u64, a: Assignment) -> Choice
     requires { ⌜ FormulaFits f ⌝ }
     ensures { λ r. ⌜ r ≡ chosen f settle a ⌝ }
 {
-    let names = survey_node(f, a);
+    let mut positives = [0u64; 96];
+    let mut negatives = [0u64; 96];
+    let count = open_node(f, a, &mut positives, &mut negatives);
+    let names = survey_clauses(&positives, &negatives, count);
     if !names.any {
         return both_open(masks::lowest(masks::minus(settle, a.trues | a.falses)), 0);
     }
-    let r = reduce(f, a);
+    let r = reduce(&positives, &negatives, count, f.variables);
     let s = r.survey;
     if s.any {
-        let inner = r.assignment;
-        return first_passing(f, inner, s.positive | s.negative);
+        let stripped = compact(&mut positives, &mut negatives, count, r.assignment);
+        return first_passing(&positives, &negatives, stripped, s.positive | s.negative);
     }
     let others = masks::minus(names.positive | names.negative, r.noted);
     if others == 0 {
-        return last_listed(f, a, r.last);
+        return last_listed(&positives, &negatives, count, r.last);
     }
-    last_listed(f, a, highest(others))
+    last_listed(&positives, &negatives, count, highest(others))
 }

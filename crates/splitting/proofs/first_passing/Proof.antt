@@ -7,17 +7,24 @@ use borrow.Author.Needs.{needs}
 use lib.ListN.{length}
 use Rattle.masks.specs.Mask.{members}
 use Rattle.masks.proofs.MembersLaws.{members-le}
-use Rattle.splitting.specs.InnerChoose.{passing}
+use Rattle.formula.specs.declared.Formula.{Formula}
+use Rattle.splitting.specs.InnerChoose.{passing, unassigned, formula-in}
 use Rattle.splitting.proofs.InnerLaws.{Lowered, lowered, passing-found, passing-more, passing-none, trial-cost}
 use Rattle.splitting.proofs.first_passing.Statement.{statement}
 use Rattle.splitting.proofs.first_passing.Tie as tie
 
 abbrev Inv-loop : tie.InvT-loop
-Inv-loop f a candidates rest₀ cost₀ rest cost =
-    (rest < 2 ^ 64) × (passing f a (members rest 64) cost ≡ passing f a (members candidates 64) 0) × (cost + 9312 * length (members rest 64) ≤ 9312 * 64)
+Inv-loop positives negatives count candidates rest₀ cost₀ rest cost =
+    (rest < 2 ^ 64)
+    × (passing (formula-in positives negatives count) unassigned (members rest 64) cost ≡ passing (formula-in positives negatives count) unassigned (members candidates 64) 0)
+    × (cost + 9312 * length (members rest 64) ≤ 9312 * 64)
 
 abbrev μ-loop : tie.MeasureT-loop
-μ-loop f a candidates rest₀ cost₀ rest cost = length (members rest 64)
+μ-loop positives negatives count candidates rest₀ cost₀ rest cost = length (members rest 64)
+
+-- the formula of the arrays
+abbrev held : tie.Start Inv-loop μ-loop → Formula
+held c = formula-in (c .args .positives .now) (c .args .negatives .now) (c .args .count)
 
 low : (c : tie.In-loop Inv-loop μ-loop) → Lowered (c .before .loop .rest)
 low c = lowered (c .before .loop .rest) (c .before .loop .inv .0) (c .loop-test .taken)
@@ -26,7 +33,7 @@ low c = lowered (c .before .loop .rest) (c .before .loop .inv .0) (c .loop-test 
 cost : (c : tie.After-try-variable Inv-loop μ-loop) → c .try-variable .result .cost ≤ 9312
 cost c =
     let l = c .before .before .before in
-    trial-cost (l .before .args .f) (l .before .args .a) (l .loop .rest) (l .loop .cost) (c .before .lowest .result) (c .try-variable .result)
+    trial-cost (held (l .before)) unassigned (l .loop .rest) (l .loop .cost) (c .before .lowest .result) (c .try-variable .result)
     (low (c .before .before)) (c .before .lowest .ensures) (c .try-variable .ensures) (l .before .pre)
 
 loop-holds : tie.Need-loop-holds Inv-loop μ-loop
@@ -51,7 +58,7 @@ returns c =
     let t = c .before .before .before in
     let l = t .before .before .before in
     c .both-open .ensures
-    ∙ sym (passing-found (l .before .args .f) (l .before .args .a) (l .loop .rest) (l .loop .cost) (t .before .lowest .result) (t .try-variable .result)
+    ∙ sym (passing-found (held (l .before)) unassigned (l .loop .rest) (l .loop .cost) (t .before .lowest .result) (t .try-variable .result)
     (low (t .before .before)) (t .before .lowest .ensures) (t .try-variable .ensures) (c .before .if1 .taken))
     ∙ l .loop .inv .1
 
@@ -67,7 +74,7 @@ loop-again c =
     let l = t .before .before .before in
     let w = low (t .before .before) in (
       rw (c .without .ensures, t .before .lowest .ensures) (w .fits),
-      sym (passing-more (l .before .args .f) (l .before .args .a) (l .loop .rest) (l .loop .cost) (t .before .lowest .result) (t .try-variable .result)
+      sym (passing-more (held (l .before)) unassigned (l .loop .rest) (l .loop .cost) (t .before .lowest .result) (t .try-variable .result)
           w (t .before .lowest .ensures) (t .try-variable .ensures) (c .without .result) (c .before .if1 .left) (c .without .ensures))
           ∙ l .loop .inv .1,
       rw (c .without .ensures, t .before .lowest .ensures) (omega (arith, cost t, w .less, l .loop .inv .2)),
@@ -79,8 +86,8 @@ both-open-requires-2 c κs = search needs
 returns-2 : tie.Need-returns-2 Inv-loop μ-loop
 returns-2 c =
     let l = c .before .before in
-    c .both-open2 .ensures ∙ sym (passing-none (l .before .args .f) (l .before .args .a) (l .loop .cost))
-    ∙ ap (λ (m : ℕ). passing (l .before .args .f) (l .before .args .a) (members m 64) (l .loop .cost)) (sym (c .before .loop-test .left)) ∙ l .loop .inv .1
+    c .both-open2 .ensures ∙ sym (passing-none (held (l .before)) unassigned (l .loop .cost))
+    ∙ ap (λ (m : ℕ). passing (held (l .before)) unassigned (members m 64) (l .loop .cost)) (sym (c .before .loop-test .left)) ∙ l .loop .inv .1
 
 pub first-passing-spec : {M : Type 1} → statement M
 first-passing-spec =
