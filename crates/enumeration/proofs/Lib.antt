@@ -1,3 +1,4 @@
+pub mod ClearLaws
 pub mod StateLaws
 pub mod NextLaws
 pub mod StepLaws

@@ -42,6 +42,7 @@ undoing s c = record {
   bytes = s .bytes;
   assignment = s .assignment;
   open_true = marked-as (s .open_true) (s .length) (c .true_open);
+  clear = s .clear;
 }
 
 module _ (f : Formula) (K : Tree) (F : Follows f K) (s : State) (n : Node K (stack-in s) s) where
@@ -111,6 +112,7 @@ module _ (f : Formula) (K : Tree) (F : Follows f K) (s : State) (n : Node K (sta
           assigned = k .assigned;
           replayed = k .replayed;
           opens = o .1;
+          clears = k .clears;
           at-full = λ x. absurd (omega arith);
           at-back = λ x. (within f K F s h ne, ap (λ (d : Choice). d .variable) e, o .0);
           at-over = λ x. absurd (omega arith);

@@ -18,9 +18,10 @@ use Rattle.walk.specs.InnerTest.{byte-number, byte-value, pushed, replays}
 use Rattle.walk.proofs.ReplayLaws.{read-next}
 use Rattle.enumeration.specs.declared.State.{State}
 use Rattle.enumeration.specs.declared.Tested.{Tested}
-use Rattle.enumeration.specs.InnerState.{stack-in, Follows, Holds, Valid, pushing, marked-as}
+use Rattle.enumeration.specs.InnerState.{stack-in, Follows, Free, Holds, Valid, pushing}
 use Rattle.enumeration.specs.InnerRead.{Node, Replayed, noted}
-use Rattle.enumeration.proofs.StateLaws.{holds-held, held-stack, held-holds, held-push, held-marked, opens-next}
+use Rattle.enumeration.proofs.ClearLaws.{clears-note}
+use Rattle.enumeration.proofs.StateLaws.{holds-held, held-stack, held-holds, held-push, held-noted, opens-next}
 use Rattle.enumeration.proofs.StepLaws.{choice-at}
 use Rattle.enumeration.proofs.FormLaws.{replays-stops}
 
@@ -45,8 +46,8 @@ module _ (f : Formula) (K : Tree) (F : Follows f K) (s : State) (h : Holds K s) 
     within = let d = h .deep in let l = not-full in let q = F .size in omega arith
 
     -- the code's choice is the tree's
-    pub choice-is : (m : ℕ) (c : Choice) → m ≡ full (f .variables) → c ≡ chosen f m (s .assignment) → c ≡ K .choose (stack-in s)
-    choice-is m c e x = x ∙ ap (λ (k : ℕ). chosen f k (s .assignment)) e ∙ choice-at f K F s h not-full
+    pub choice-is : (c : Choice) → c ≡ chosen f (full (f .variables)) (s .assignment) → c ≡ K .choose (stack-in s)
+    choice-is c x = x ∙ choice-at f K F s h not-full
 
     module _ (c : Choice) (e : c ≡ K .choose (stack-in s)) where
       choice-low : c .variable < f .variables
@@ -72,13 +73,15 @@ module _ (f : Formula) (K : Tree) (F : Follows f K) (s : State) (h : Holds K s) 
           let q : eqb (c .variable) (K .choose (stack-in s) .variable) ≡ true = eq-eqb _ _ (ap (λ (d : Choice). d .variable) e) in
           rw (h .replayed, l, q) (ap (λ (d : Choice). opened d b) (sym e))
 
-      node-more : (b : Bool) → opened c b ≡ true → Node K (push (c .variable) b (stack-in s)) (pushing (noted s (c .true_open)) (c .variable) b)
-      node-more b o =
+      node-more : (b free : Bool) → (free ≡ true → Free K (stack-in s)) → opened c b ≡ true
+          → Node K (push (c .variable) b (stack-in s)) (pushing (noted s (c .true_open) free) (c .variable) b)
+      node-more b free g o =
           let t = stack-in s in
           let k = holds-held K s h in
           let x = opens-next K (s .open_true) (s .length) (c .true_open) t (c .variable) in
           let y : c .true_open ≡ K .choose t .true_open = ap (λ (d : Choice). d .true_open) e in
-          let n = held-push f K F (noted s (c .true_open)) t (held-marked K s t (marked-as (s .open_true) (s .length) (c .true_open)) k (x true (h .deep) y (h .opens)))
+          let q = held-noted K s t (c .true_open) free k (x true (h .deep) y (h .opens)) (clears-note K (s .clear) (s .length) free t (k .deep) g (h .clears)) in
+          let n = held-push f K F (noted s (c .true_open) free) t q
           (c .variable) b within (ap (λ (d : Choice). d .variable) e) (ap (λ (d : Choice). opened d b) (sym e) ∙ o) (x b (h .deep) y (h .opens)) in
           record {
             holds = held-holds f K F _ _ n;
@@ -87,9 +90,9 @@ module _ (f : Formula) (K : Tree) (F : Follows f K) (s : State) (h : Holds K s) 
           }
 
       -- so the chosen one is known if its value is open
-      pub replayed-chosen : (v : ℕ) (x b : Bool) (u : State) → v ≡ c .variable → x ≡ b → u ≡ pushing (noted s (c .true_open)) (c .variable) b
-          → Replayed K (push v x (stack-in s)) (record { known = opened c b; state = u })
-      replayed-chosen v x b u p q r = rw (p, q, r) (record { known = sym (replays-open b); node = node-more b })
+      pub replayed-chosen : (v : ℕ) (x b free : Bool) (u : State) → (free ≡ true → Free K (stack-in s)) → v ≡ c .variable → x ≡ b
+          → u ≡ pushing (noted s (c .true_open) free) (c .variable) b → Replayed K (push v x (stack-in s)) (record { known = opened c b; state = u })
+      replayed-chosen v x b free u g p q r = rw (p, q, r) (record { known = sym (replays-open b); node = node-more b free g })
 
 -- what the next call needs
 module _ (f : Formula) (s : State) (w : Valid f s) (ne : s .length ≡ f .variables → ⊥) where
@@ -98,8 +101,8 @@ module _ (f : Formula) (s : State) (w : Valid f s) (ne : s .length ≡ f .variab
   valid-short = not-full f (w .tree) (w .follows) s (w .holds) ne
 
   -- the chosen variable is one of the formula's
-  pub valid-low : (m : ℕ) (c : Choice) → m ≡ full (f .variables) → c ≡ chosen f m (s .assignment) → c .variable < f .variables
-  valid-low m c e x = choice-low f (w .tree) (w .follows) s (w .holds) ne c (choice-is f (w .tree) (w .follows) s (w .holds) ne m c e x)
+  pub valid-low : (c : Choice) → c ≡ chosen f (full (f .variables)) (s .assignment) → c .variable < f .variables
+  valid-low c x = choice-low f (w .tree) (w .follows) s (w .holds) ne c (choice-is f (w .tree) (w .follows) s (w .holds) ne c x)
 
 -- ---- the trail, byte by byte
 

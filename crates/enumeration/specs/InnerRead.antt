@@ -45,15 +45,16 @@ pub record Taken (K : Tree) (m : ℕ) (t : Stack) (x : Bool) (r : Tested) : Type
   pub holds : r .known ≡ true → Holds K (r .state)
   pub position : r .known ≡ true → position-in (r .state) ≡ position-of (K .size) m t
 
--- the node's state, with whether true is open at its depth
-abbrev pub noted : State → Bool → State
-noted s b = record {
+-- the node's state, with whether true is open at its depth, and whether no clause is left there
+abbrev pub noted : State → Bool → Bool → State
+noted s b c = record {
   place = 0;
   variable = s .variable;
   length = s .length;
   bytes = s .bytes;
   assignment = s .assignment;
   open_true = marked-as (s .open_true) (s .length) b;
+  clear = marked-as (s .clear) (s .length) c;
 }
 
 -- a call, by the test's answer

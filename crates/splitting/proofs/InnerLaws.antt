@@ -35,7 +35,7 @@ use Rattle.splitting.specs.declared.Assignment.{Assignment}
 use Rattle.splitting.specs.declared.Reduced.{Reduced}
 use Rattle.splitting.specs.declared.Trial.{Trial}
 use Rattle.splitting.specs.declared.Survey.{Survey}
-use Rattle.splitting.specs.InnerChoose.{assigned, set-to, satisfied-under, left-under, open-clauses, node, unnamed, clause-in, clauses-in, formula-in, formula-at, Small, surveys, survey-from, survey-of, some-empty, matched-node, matching-at, reduced-at, pure-of, reduce-from, reduced, tried, passing, greatest, listed-last, chosen}
+use Rattle.splitting.specs.InnerChoose.{assigned, set-to, satisfied-under, left-under, open-clauses, node, unnamed, clause-in, clauses-in, formula-in, formula-at, Small, surveys, survey-from, survey-of, some-empty, matched-node, matching-at, reduced-at, pure-of, reduce-from, reduced, tried, passing, greatest, listed-last, free-choice, chosen}
 use Rattle.splitting.specs.Choosing.{both-open, last}
 
 -- ---- one clause
@@ -442,7 +442,7 @@ greatest-member m h z =
 
 module _ (f : Formula) (settle : ℕ) (a : Assignment) (names : Survey) (n : names ≡ survey-of (node f a)) where
   -- no clause remains
-  pub chosen-free : names .any ≡ false → both-open (lowest (minus settle (assigned a))) 0 ≡ chosen f settle a
+  pub chosen-free : names .any ≡ false → free-choice settle a ≡ chosen f settle a
   unfolding chosen
   chosen-free t = rw (chosen, ← n, t)
 

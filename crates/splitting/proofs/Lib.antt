@@ -1,3 +1,4 @@
+pub mod FreeLaws
 pub mod InnerLaws
 pub mod ClauseLaws
 pub mod CountLaws

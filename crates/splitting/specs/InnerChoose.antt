@@ -1,6 +1,6 @@
 -- What the code of the choice computes over masks; proofs/MaskChoiceLaws.antt ties it to Choosing.
 use Prim.Native.Nat.{ℕ, zero, suc, _+_, _^_, _<_, _≤_}
-use mathlib.Core.Bool.{Bool, true, false, not, cond, _||_}
+use mathlib.Core.Bool.{Bool, true, false, not, cond, _&&_, _||_}
 use mathlib.Core.List.{List, [], _∷_, _++_, map}
 use lib.Bits.{bitOr, bitXor}
 use lib.Dec.{eqb}
@@ -47,6 +47,15 @@ open-clauses cs a (suc n) =
 
 abbrev pub node : Formula → Assignment → List Clause
 node f a = open-clauses (f .clauses) a (f .count)
+
+-- the first n clauses are satisfied
+unfoldable pub satisfied-first : List Clause → Assignment → ℕ → Bool
+satisfied-first cs a zero = true
+satisfied-first cs a (suc n) = satisfied-first cs a n && satisfied-under a (getD cs n no-clause)
+
+-- no clause is left at the node
+abbrev pub all-satisfied : Formula → Assignment → Bool
+all-satisfied f a = satisfied-first (f .clauses) a (f .count)
 
 -- those of the first n clauses that do not name v
 unfoldable pub unnamed : List Clause → ℕ → ℕ → List Clause
@@ -155,13 +164,17 @@ listed-last f a v = record {
 abbrev pub others-of : Formula → Assignment → ℕ
 others-of f a = minus (bitOr (survey-of (node f a) .positive) (survey-of (node f a) .negative)) (reduced f a .noted)
 
+-- where no clause is left: the lowest variable without a value
+abbrev pub free-choice : ℕ → Assignment → Choice
+free-choice settle a = both-open (lowest (minus settle (assigned a))) 0
+
 unfoldable pub chosen : Formula → ℕ → Assignment → Choice
 chosen f settle a =
     cond (survey-of (node f a) .any)
     (cond (reduced f a .survey .any)
     (passing f (reduced f a .assignment) (members (bitOr (reduced f a .survey .positive) (reduced f a .survey .negative)) 64) 0)
     (listed-last f a (cond (eqb (others-of f a) 0) (reduced f a .last) (greatest (others-of f a)))))
-    (both-open (lowest (minus settle (assigned a))) 0)
+    (free-choice settle a)
 
 -- the assignment of a trail
 unfoldable pub assign-all : Assignment → List Literal → Assignment

@@ -10,7 +10,7 @@ ghost use Rattle.lists.specs.Over.{over};
 ghost use Rattle.masks.specs.Mask.{members};
 ghost use Rattle.formula.specs.Masked.{FormulaFits, named};
 ghost use Rattle.splitting.specs.Choosing.{both-open};
-ghost use Rattle.splitting.specs.InnerChoose.{set-to, satisfied-under, left-under, node, unnamed, survey-of, some-empty, matching-at, unassigned, clause-in, clauses-in, formula-in, formula-at, Small, reduce-from, tried, passing, greatest, listed-last, chosen};
+ghost use Rattle.splitting.specs.InnerChoose.{set-to, satisfied-under, left-under, node, unnamed, survey-of, some-empty, matching-at, unassigned, clause-in, clauses-in, formula-in, formula-at, Small, reduce-from, tried, passing, greatest, listed-last, all-satisfied, free-choice, chosen};
 use formula::Clause;
 use formula::Formula;
 use matching::Matching;
@@ -398,6 +398,28 @@ fn last_listed(positives: &[u64; 96], negatives: &[u64; 96], count: usize, v: us
     }
 }
 
+// Every clause is satisfied, so that none is left at the node.
+pub fn all_satisfied(f: Formula, a: Assignment) -> bool
+    requires { ⌜ f .count ≤ 96 ⌝ }
+    ensures { λ r. ⌜ r ≡ all-satisfied f a ⌝ }
+{
+    let mut i: usize = 0;
+    while i < f.count {
+        if !is_satisfied(a, f.clauses[i]) {
+            return false;
+        }
+        i += 1;
+    }
+    true
+}
+
+// The choice where no clause is left: the lowest variable without a value.
+pub fn choose_free(settle: u64, a: Assignment) -> Choice
+    ensures { λ r. ⌜ r ≡ free-choice settle a ⌝ }
+{
+    both_open(masks::lowest(masks::minus(settle, a.trues | a.falses)), 0)
+}
+
 // The choice at the node of the assignment; `settle` has the variables that a model covers.
 pub fn choose(f: Formula, settle: u64, a: Assignment) -> Choice
     requires { ⌜ FormulaFits f ⌝ }
@@ -408,7 +430,7 @@ pub fn choose(f: Formula, settle: u64, a: Assignment) -> Choice
     let count = open_node(f, a, &mut positives, &mut negatives);
     let names = survey_clauses(&positives, &negatives, count);
     if !names.any {
-        return both_open(masks::lowest(masks::minus(settle, a.trues | a.falses)), 0);
+        return choose_free(settle, a);
     }
     let r = reduce(&positives, &negatives, count, f.variables);
     let s = r.survey;

@@ -12,63 +12,82 @@ use Rattle.enumeration.proofs.ReplayLaws.{choice-is, replayed-full, rep
 use Rattle.enumeration.proofs.replay_byte.Statement.{statement}
 use Rattle.enumeration.proofs.replay_byte.Tie as tie
 
+abbrev entry : tie.After-pick → tie.Start
+entry c = c .before .before .before .before
+
 -- the choice is the tree's
-choice : (c : tie.After-choose) (K : Tree) → Follows (c .before .before .before .before .before .before .args .f) K → Holds K (c .before .before .before .before .before .before .args .s) → c .choose .result ≡ K .choose (stack-in (c .before .before .before .before .before .before .args .s))
-choice c K F h = choice-is _ K F _ h (c .before .before .before .if1 .left) _ _ (c .before .full .ensures) (c .choose .ensures)
+choice : (c : tie.After-pick) (K : Tree) → Follows (entry c .args .f) K → Holds K (entry c .args .s) → c .pick .result .choice ≡ K .choose (stack-in (entry c .args .s))
+choice c K F h = choice-is _ K F _ h (c .before .if1 .left) _ (c .pick .ensures .0)
 
 -- there is room, and the chosen variable is low
-short : (c : tie.After-choose) → c .before .before .before .before .before .before .args .s .length < 48
-short c = let l = valid-short _ _ (c .before .before .before .before .before .before .pre .1) (c .before .before .before .if1 .left) in omega (arith, c .before .before .before .before .before .before .pre .0 .most)
+short : (c : tie.After-pick) → entry c .args .s .length < 48
+short c = let l = valid-short _ _ (entry c .pre .1) (c .before .if1 .left) in omega (arith, entry c .pre .0 .most)
 
-low : (c : tie.After-choose) → c .choose .result .variable < 48
-low c = let l = valid-low _ _ (c .before .before .before .before .before .before .pre .1) (c .before .before .before .if1 .left) _ _ (c .before .full .ensures) (c .choose .ensures) in omega (arith, c .before .before .before .before .before .before .pre .0 .most)
+low : (c : tie.After-pick) → c .pick .result .choice .variable < 48
+low c = let l = valid-low _ _ (entry c .pre .1) (c .before .if1 .left) _ (c .pick .ensures .0) in omega (arith, entry c .pre .0 .most)
 
 returns : tie.Need-returns
 returns c = λ K F h. replayed-full _ K F _ h _ _ (c .if1 .taken)
 
-full-requires : tie.Need-full-requires
-full-requires c κs = search needs
-
-choose-requires : tie.Need-choose-requires
-choose-requires c κs = search needs
+pick-requires : tie.Need-pick-requires
+pick-requires c κs =
+    let a = c .before .before .before in
+    (a .pre .0, a .pre .1, valid-short _ _ (a .pre .1) (c .if1 .left))
 
 number-of-requires : tie.Need-number-of-requires
 number-of-requires c κs = search needs
 
 add-if2 : tie.Need-add-if2
-add-if2 c = record { fits = let l = low (c .before .before) in omega arith }
+add-if2 c = record { fits = let l = low (c .before .before .before) in omega arith }
 
 returns-2 : tie.Need-returns-2
-returns-2 c = λ K F h. replayed-other _ K F _ h (c .before .before .before .before .before .before .if1 .left) _ (choice (c .before .before .before) K F h) _ _ (λ q. c .if2 .taken (let e = c .before .before .number-of .ensures in let p = c .before .before .before .before .before .before .before .before .before .pre .2 in omega arith))
+returns-2 c =
+    λ K F h.
+    let p = c .before .before .before .before in
+    replayed-other _ K F _ h (p .before .if1 .left) _ (choice p K F h) _ _
+    (λ q. c .if2 .taken (let e = c .before .before .number-of .ensures in let o = entry p .pre .2 in omega arith))
 
 note-requires : tie.Need-note-requires
-note-requires c κs = short (c .before .before .before)
+note-requires c κs = short (c .before .before .before .before)
 
 push-requires : tie.Need-push-requires
-push-requires c κs = let k = short (c .before .before .before .before .before) in let e = ap (λ (u : State). u .length) (c .before .note .ensures) in (low (c .before .before .before .before .before), omega arith)
+push-requires c κs =
+    let p = c .before .before .before .before .before .before in
+    let k = short p in
+    let e = ap (λ (u : State). u .length) (c .before .note .ensures) in
+    (low p, omega arith)
 
 returns-3 : tie.Need-returns-3
-returns-3 c = λ K F h.
-    replayed-chosen _ K F _ h (c .before .before .before .before .before .before .before .before .before .if1 .left) _ (choice (c .before .before .before .before .before .before) K F h) _ _ true _
-    (let e = c .before .before .before .before .before .number-of .ensures in let q = c .before .before .before .if2 .left in omega arith) (le-leb _ _ (c .before .if3 .taken))
-    (c .push .ensures ∙ ap (λ (u : State). pushing u (c .before .before .before .before .before .before .choose .result .variable) true) (c .before .before .note .ensures))
+returns-3 c =
+    λ K F h.
+    let n = c .before .before in
+    let p = n .before .before .before .before .before in
+    replayed-chosen _ K F _ h (p .before .if1 .left) _ (choice p K F h) _ _ true _ _ (p .pick .ensures .1 K F h)
+    (let e = n .before .before .before .number-of .ensures in let q = n .before .if2 .left in omega arith) (le-leb _ _ (c .before .if3 .taken))
+    (c .push .ensures ∙ ap (λ (u : State). pushing u (p .pick .result .choice .variable) true) (n .note .ensures))
 
 push-requires-2 : tie.Need-push-requires-2
-push-requires-2 c κs = let k = short (c .before .before .before .before .before) in let e = ap (λ (u : State). u .length) (c .before .note .ensures) in (low (c .before .before .before .before .before), omega arith)
+push-requires-2 c κs =
+    let p = c .before .before .before .before .before .before in
+    let k = short p in
+    let e = ap (λ (u : State). u .length) (c .before .note .ensures) in
+    (low p, omega arith)
 
 returns-4 : tie.Need-returns-4
-returns-4 c = λ K F h.
-    replayed-chosen _ K F _ h (c .before .before .before .before .before .before .before .before .before .if1 .left) _ (choice (c .before .before .before .before .before .before) K F h) _ _ false _
-    (let e = c .before .before .before .before .before .number-of .ensures in let q = c .before .before .before .if2 .left in omega arith) (lt-leb _ _ (c .before .if3 .left))
-    (c .push2 .ensures ∙ ap (λ (u : State). pushing u (c .before .before .before .before .before .before .choose .result .variable) false) (c .before .before .note .ensures))
+returns-4 c =
+    λ K F h.
+    let n = c .before .before in
+    let p = n .before .before .before .before .before in
+    replayed-chosen _ K F _ h (p .before .if1 .left) _ (choice p K F h) _ _ false _ _ (p .pick .ensures .1 K F h)
+    (let e = n .before .before .before .number-of .ensures in let q = n .before .if2 .left in omega arith) (lt-leb _ _ (c .before .if3 .left))
+    (c .push2 .ensures ∙ ap (λ (u : State). pushing u (p .pick .result .choice .variable) false) (n .note .ensures))
 
 pub replay-byte-spec : {M : Type 1} → statement M
 replay-byte-spec =
     tie.close
     (tie.spec
     returns
-    full-requires
-    choose-requires
+    pick-requires
     number-of-requires
     add-if2
     returns-2

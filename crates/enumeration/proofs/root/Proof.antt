@@ -1,7 +1,9 @@
 -- `enumeration::root` meets its contract: nothing is assigned.
-use mathlib.Core.Path.{refl}
+use mathlib.Core.Bool.{false≢true}
+use mathlib.Core.Path.{refl, sym, _∙_}
 use native.Mathlib.Omega.{arith}
 use Rattle.lists.specs.Padded.{padded}
+use Rattle.masks.proofs.BitLaws.{bit-none}
 use Rattle.splitting.specs.InnerChoose.{assign-all}
 use Rattle.walk.specs.InnerStack.{trail-of}
 use Rattle.walk.specs.InnerTest.{pushed, replays}
@@ -21,6 +23,7 @@ returns c = λ K small.
         assigned = refl;
         replayed = refl;
         opens = tt;
+        clears = λ e. absurd (false≢true (sym (bit-none 0) ∙ e));
         at-full = λ e. absurd (omega arith);
         at-back = λ e. absurd (omega arith);
         at-over = λ e. refl;

@@ -73,21 +73,15 @@ open-node-requires c κs = (small-of (c .before .before .args .f) (c .before .be
 survey-clauses-requires : tie.Need-survey-clauses-requires
 survey-clauses-requires c κs = held-small (c .before .before) .few
 
-minus-requires : tie.Need-minus-requires
-minus-requires c κs = search needs
-
-lowest-requires : tie.Need-lowest-requires
-lowest-requires c κs = search needs
-
-both-open-requires : tie.Need-both-open-requires
-both-open-requires c κs = search needs
+choose-free-requires : tie.Need-choose-free-requires
+choose-free-requires c κs = search needs
 
 returns : tie.Need-returns
 returns c =
-    let n = c .before .before .before .before .before .before in
+    let n = c .before .before .before in
     let o = opened n in
-    rw (c .both-open .ensures, c .before .lowest .ensures, c .before .before .minus .ensures)
-    (chosen-free (whole o) (entry o .args .settle) (entry o .args .a) (n .survey-clauses .result) (surveyed n) (not-true _ (c .before .before .before .before .if1 .taken)))
+    c .choose-free .ensures
+    ∙ chosen-free (whole o) (entry o .args .settle) (entry o .args .a) (n .survey-clauses .result) (surveyed n) (not-true _ (c .before .if1 .taken))
 
 reduce-requires : tie.Need-reduce-requires
 reduce-requires c κs =
@@ -117,8 +111,8 @@ returns-2 c =
     ∙ choice-passing (whole o) (small o) (entry o .args .settle) (entry o .args .a) (n .survey-clauses .result) (surveyed n)
     (not-false _ (r .before .before .before .if1 .left)) (r .reduce .result) (reduced r) (d .before .before .before .if2 .taken)
 
-minus-requires-2 : tie.Need-minus-requires-2
-minus-requires-2 c κs = search needs
+minus-requires : tie.Need-minus-requires
+minus-requires c κs = search needs
 
 last-listed-requires : tie.Need-last-listed-requires
 last-listed-requires c κs =
@@ -135,7 +129,7 @@ returns-3 c =
     c .last-listed .ensures
     ∙ ap (λ (g : Formula). listed-last g unassigned (r .reduce .result .last)) (o .open-node .ensures .0)
     ∙ choice-noted (whole o) (small o) (entry o .args .settle) (entry o .args .a) (n .survey-clauses .result) (surveyed n)
-    (not-false _ (r .before .before .before .if1 .left)) (r .reduce .result) (reduced r) (m .before .before .if2 .left) (m .minus2 .result) (m .minus2 .ensures) (t .if3 .taken)
+    (not-false _ (r .before .before .before .if1 .left)) (r .reduce .result) (reduced r) (m .before .before .if2 .left) (m .minus .result) (m .minus .ensures) (t .if3 .taken)
 
 highest-requires : tie.Need-highest-requires
 highest-requires c κs = search needs
@@ -143,7 +137,7 @@ highest-requires c κs = search needs
 last-listed-requires-2 : tie.Need-last-listed-requires-2
 last-listed-requires-2 c κs =
     let m = c .before .before .before .before in
-    (held-small (opened (named (m .before .before .before .before))) .few, rw (c .highest .ensures) (greatest-below (m .minus2 .result)))
+    (held-small (opened (named (m .before .before .before .before))) .few, rw (c .highest .ensures) (greatest-below (m .minus .result)))
 
 returns-4 : tie.Need-returns-4
 returns-4 c =
@@ -154,8 +148,8 @@ returns-4 c =
     let o = opened n in
     rw (c .last-listed2 .ensures, c .before .highest .ensures, o .open-node .ensures .0)
     (choice-other (whole o) (small o) (entry o .args .settle) (entry o .args .a) (n .survey-clauses .result) (surveyed n)
-    (not-false _ (r .before .before .before .if1 .left)) (r .reduce .result) (reduced r) (m .before .before .if2 .left) (m .minus2 .result) (m .minus2 .ensures)
-    (omega (arith, m .minus2 .ok)) (t .if3 .left))
+    (not-false _ (r .before .before .before .if1 .left)) (r .reduce .result) (reduced r) (m .before .before .if2 .left) (m .minus .result) (m .minus .ensures)
+    (omega (arith, m .minus .ok)) (t .if3 .left))
 
 pub choose-spec : {M : Type 1} → statement M
 choose-spec =
@@ -163,15 +157,13 @@ choose-spec =
     (tie.spec
     open-node-requires
     survey-clauses-requires
-    minus-requires
-    lowest-requires
-    both-open-requires
+    choose-free-requires
     returns
     reduce-requires
     compact-requires
     first-passing-requires
     returns-2
-    minus-requires-2
+    minus-requires
     last-listed-requires
     returns-3
     highest-requires
