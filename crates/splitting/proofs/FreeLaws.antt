@@ -1,8 +1,8 @@
 -- Nodes at which no clause is left.
 use Prim.Native.Nat.{ℕ, zero, suc, _+_, _<_}
-use mathlib.Core.Bool.{Bool, true, false, and-false}
-use mathlib.Core.List.{List, []}
-use mathlib.Core.Path.{_≡_, refl, ap, _∙_}
+use mathlib.Core.Bool.{Bool, true, false, cond, _&&_, true≢false, and-true, and-false}
+use mathlib.Core.List.{List, [], _∷_, _++_, append-nil}
+use mathlib.Core.Path.{_≡_, refl, sym, ap, _∙_}
 use native.Mathlib.Nat.{eq-or-lt-of-le, le-of-suc-le-suc}
 use native.Mathlib.Numerals.{add-one}
 use native.Mathlib.Omega.{arith}
@@ -13,7 +13,9 @@ use Rattle.formula.specs.declared.Clause.{Clause}
 use Rattle.formula.specs.declared.Formula.{Formula}
 use Rattle.formula.specs.Masked.{no-clause}
 use Rattle.splitting.specs.declared.Assignment.{Assignment}
-use Rattle.splitting.specs.InnerChoose.{set-to, satisfied-under, open-clauses, survey-from, satisfied-first, all-satisfied, free-choice, chosen}
+use Rattle.splitting.specs.declared.Survey.{Survey}
+use Rattle.splitting.specs.InnerChoose.{set-to, satisfied-under, left-under, open-clauses, node, survey-from, survey-of, satisfied-first, all-satisfied, free-choice, chosen}
+use Rattle.splitting.proofs.InnerLaws.{survey-snoc}
 use Rattle.splitting.proofs.MaskNodeLaws.{satisfied-more}
 
 module _ (cs : List Clause) (a : Assignment) where
@@ -38,6 +40,20 @@ module _ (cs : List Clause) (a : Assignment) where
   none-open zero e = refl
   none-open (suc n) e = rw (none-open n (and-left _ _ e), and-right (satisfied-first cs a n) _ e)
 
+  -- and where not all are
+  any-open : (n : ℕ) → satisfied-first cs a n ≡ false → survey-of (open-clauses cs a n) .any ≡ true
+  unfolding satisfied-first open-clauses
+  any-open zero e = absurd (true≢false e)
+  any-open (suc n) e = go (satisfied-under a c) e (any-open n)
+    where
+      c : Clause
+      c = getD cs n no-clause
+
+      go : (b : Bool) → satisfied-first cs a n && b ≡ false → (satisfied-first cs a n ≡ false → survey-of (open-clauses cs a n) .any ≡ true)
+          → survey-of (open-clauses cs a n ++ cond b [] (left-under a c ∷ [])) .any ≡ true
+      go true q h = rw append-nil (h (sym (and-true (satisfied-first cs a n)) ∙ q))
+      go false q h = ap (λ (s : Survey). s .any) (survey-snoc _ (open-clauses cs a n) (left-under a c))
+
   -- they stay so with one variable more
   first-stays : (v : ℕ) (b : Bool) (n : ℕ) → satisfied-first cs a n ≡ true → satisfied-first cs (set-to a v b) n ≡ true
   unfolding satisfied-first
@@ -54,3 +70,7 @@ module _ (f : Formula) (a : Assignment) (e : all-satisfied f a ≡ true) where
   pub chosen-satisfied : (settle : ℕ) → chosen f settle a ≡ free-choice settle a
   unfolding chosen survey-from
   chosen-satisfied settle = rw (chosen, none-open (f .clauses) a (f .count) e)
+
+-- where some clause is left
+pub some-open : (f : Formula) (a : Assignment) → all-satisfied f a ≡ false → survey-of (node f a) .any ≡ true
+some-open f a e = any-open (f .clauses) a (f .count) e

@@ -35,7 +35,7 @@ use Rattle.splitting.specs.declared.Assignment.{Assignment}
 use Rattle.splitting.specs.declared.Reduced.{Reduced}
 use Rattle.splitting.specs.declared.Trial.{Trial}
 use Rattle.splitting.specs.declared.Survey.{Survey}
-use Rattle.splitting.specs.InnerChoose.{assigned, set-to, satisfied-under, left-under, open-clauses, node, unnamed, clause-in, clauses-in, formula-in, formula-at, Small, surveys, survey-from, survey-of, some-empty, matched-node, matching-at, reduced-at, pure-of, reduce-from, reduced, tried, passing, greatest, listed-last, free-choice, chosen}
+use Rattle.splitting.specs.InnerChoose.{assigned, set-to, satisfied-under, left-under, open-clauses, node, unnamed, clause-in, clauses-in, formula-in, formula-at, Small, surveys, survey-from, survey-of, some-empty, matched-node, matching-at, reduced-at, pure-of, reduce-from, reduced, tried, passing, greatest, listed-last, chosen}
 use Rattle.splitting.specs.Choosing.{both-open, last}
 
 -- ---- one clause
@@ -134,7 +134,7 @@ unnamed-whole p q k v i l e h =
     ∙ sym (tabulated-more (clause-in p q) i)
 
 -- the survey of one clause more
-survey-snoc : (s : Survey) (l : List Clause) (c : Clause) → survey-from s (l ++ (c ∷ [])) ≡ surveys (survey-from s l) c
+pub survey-snoc : (s : Survey) (l : List Clause) (c : Clause) → survey-from s (l ++ (c ∷ [])) ≡ surveys (survey-from s l) c
 unfolding survey-from
 survey-snoc s [] c = refl
 survey-snoc s (x ∷ l) c = survey-snoc (surveys s x) l c
@@ -156,28 +156,32 @@ unfolding some-empty
 empty-snoc [] c = or-false (eqb (named c) 0)
 empty-snoc (x ∷ l) c = ap (λ (b : Bool). eqb (named x) 0 || b) (empty-snoc l c) ∙ sym (or-assoc (eqb (named x) 0) (some-empty l) (eqb (named c) 0))
 
--- a clause of which nothing is left empties the list, whatever comes after it
-module _ (cs : List Clause) (a : Assignment) where
-  empty-next : (i : ℕ) → some-empty (open-clauses cs a i) ≡ true → some-empty (open-clauses cs a (i + 1)) ≡ true
-  empty-next i e = go (satisfied-under a (getD cs i no-clause)) refl
+-- a test that one clause more does not undo
+module _ (test : List Clause → Bool) (keeps : (l : List Clause) (c : Clause) → test l ≡ true → test (l ++ (c ∷ [])) ≡ true) (cs : List Clause) (a : Assignment) where
+  holds-next : (i : ℕ) → test (open-clauses cs a i) ≡ true → test (open-clauses cs a (i + 1)) ≡ true
+  holds-next i e = go (satisfied-under a (getD cs i no-clause)) refl
     where
-      go : (b : Bool) → satisfied-under a (getD cs i no-clause) ≡ b → some-empty (open-clauses cs a (i + 1)) ≡ true
+      go : (b : Bool) → satisfied-under a (getD cs i no-clause) ≡ b → test (open-clauses cs a (i + 1)) ≡ true
       go true t = rw (open-gone cs a i (getD cs i no-clause) refl t) e
-      go false t = rw (open-more cs a i (getD cs i no-clause) refl t, empty-snoc, e)
+      go false t = rw (open-more cs a i (getD cs i no-clause) refl t) (keeps (open-clauses cs a i) (left-under a (getD cs i no-clause)) e)
 
-  empty-stays : (i d : ℕ) → some-empty (open-clauses cs a i) ≡ true → some-empty (open-clauses cs a (i + d)) ≡ true
-  empty-stays i zero e = let q : i + 0 ≡ i = omega arith in rw q e
-  empty-stays i (suc d) e = let q : i + suc d ≡ i + d + 1 = omega arith in rw q (empty-next (i + d) (empty-stays i d e))
+  holds-later : (i d : ℕ) → test (open-clauses cs a i) ≡ true → test (open-clauses cs a (i + d)) ≡ true
+  holds-later i zero e = let q : i + 0 ≡ i = omega arith in rw q e
+  holds-later i (suc d) e = let q : i + suc d ≡ i + d + 1 = omega arith in rw q (holds-next (i + d) (holds-later i d e))
 
+  -- so that it holds of all, from the clause on where it first does
+  holds-from : (i n : ℕ) → i < n → test (open-clauses cs a (i + 1)) ≡ true → test (open-clauses cs a n) ≡ true
+  holds-from i n l t = let q : n ≡ i + 1 + (n - (i + 1)) = omega arith in rw q (holds-later (i + 1) (n - (i + 1)) t)
+
+module _ (cs : List Clause) (a : Assignment) where
   module _ (i : ℕ) (c : Clause) (at : getD cs i no-clause ≡ c) (e : satisfied-under a c ≡ false) where
+    -- one of which nothing is left is empty
     pub empty-found : (n : ℕ) → i < n → named (left-under a c) ≡ 0 → some-empty (open-clauses cs a n) ≡ true
     empty-found n l z =
-        let q : n ≡ i + 1 + (n - (i + 1)) = omega arith in
-        let t : some-empty (open-clauses cs a (i + 1)) ≡ true =
-        rw (open-more cs a i c at e, empty-snoc, eq-eqb (named (left-under a c)) 0 z) (or-true (some-empty (open-clauses cs a i))) in
-        rw q (empty-stays (i + 1) (n - (i + 1)) t)
+        holds-from some-empty (λ l d t. rw (empty-snoc l d, t)) cs a i n l
+        (rw (open-more cs a i c at e, empty-snoc, eq-eqb (named (left-under a c)) 0 z) (or-true (some-empty (open-clauses cs a i))))
 
-    -- a clause of which something is left does not
+    -- one of which something is left is not
     pub empty-passed : some-empty (open-clauses cs a i) ≡ false → (named (left-under a c) ≡ 0 → ⊥) → some-empty (open-clauses cs a (i + 1)) ≡ false
     empty-passed p z = rw (open-more cs a i c at e, empty-snoc, p) (ne-eqb (named (left-under a c)) 0 z)
 
@@ -441,11 +445,6 @@ greatest-member m h z =
 -- ---- the choice
 
 module _ (f : Formula) (settle : ℕ) (a : Assignment) (names : Survey) (n : names ≡ survey-of (node f a)) where
-  -- no clause remains
-  pub chosen-free : names .any ≡ false → free-choice settle a ≡ chosen f settle a
-  unfolding chosen
-  chosen-free t = rw (chosen, ← n, t)
-
   module _ (t : names .any ≡ true) (r : Reduced) (e : r ≡ reduced f a) where
     -- stripping leaves clauses
     pub chosen-passing : r .survey .any ≡ true

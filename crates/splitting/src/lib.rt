@@ -3,8 +3,9 @@
 // open where a choice is made, so what is left of those is copied first, into an array for each side, and all else goes over
 // the arrays: stripping a pure literal drops the clauses that name it, in place.
 ghost use mathlib.Core.Path.{_≡_};
+ghost use mathlib.Core.Bool.{true};
 ghost use mathlib.Core.List.{map};
-ghost use Prim.Native.Nat.{_<_, _≤_};
+ghost use Prim.Native.Nat.{ℕ, _<_, _≤_};
 ghost use lib.ListN.{length};
 ghost use Rattle.lists.specs.Over.{over};
 ghost use Rattle.masks.specs.Mask.{members};
@@ -113,6 +114,21 @@ fn clause_at(positives: &[u64; 96], negatives: &[u64; 96], i: usize) -> Clause
         positive: positives[i],
         negative: negatives[i],
     }
+}
+
+// Every clause is satisfied, so that none is left at the node.
+pub fn all_satisfied(f: Formula, a: Assignment) -> bool
+    requires { ⌜ f .count ≤ 96 ⌝ }
+    ensures { λ r. ⌜ r ≡ all-satisfied f a ⌝ }
+{
+    let mut i: usize = 0;
+    while i < f.count {
+        if !is_satisfied(a, f.clauses[i]) {
+            return false;
+        }
+        i += 1;
+    }
+    true
 }
 
 // Writes what is left of the formula's open clauses, and gives their number.
@@ -398,19 +414,26 @@ fn last_listed(positives: &[u64; 96], negatives: &[u64; 96], count: usize, v: us
     }
 }
 
-// Every clause is satisfied, so that none is left at the node.
-pub fn all_satisfied(f: Formula, a: Assignment) -> bool
-    requires { ⌜ f .count ≤ 96 ⌝ }
-    ensures { λ r. ⌜ r ≡ all-satisfied f a ⌝ }
+// The choice where some clause is open, whichever variables a model covers.
+fn choose_open(f: Formula, a: Assignment) -> Choice
+    requires { ⌜ Small f × (survey-of (node f a) .any ≡ true) ⌝ }
+    ensures { λ r. ⌜ ((settle : ℕ) → r ≡ chosen f settle a) ⌝ }
 {
-    let mut i: usize = 0;
-    while i < f.count {
-        if !is_satisfied(a, f.clauses[i]) {
-            return false;
-        }
-        i += 1;
+    let mut positives = [0u64; 96];
+    let mut negatives = [0u64; 96];
+    let count = open_node(f, a, &mut positives, &mut negatives);
+    let names = survey_clauses(&positives, &negatives, count);
+    let r = reduce(&positives, &negatives, count, f.variables);
+    let s = r.survey;
+    if s.any {
+        let stripped = compact(&mut positives, &mut negatives, count, r.assignment);
+        return first_passing(&positives, &negatives, stripped, s.positive | s.negative);
     }
-    true
+    let others = masks::minus(names.positive | names.negative, r.noted);
+    if others == 0 {
+        return last_listed(&positives, &negatives, count, r.last);
+    }
+    last_listed(&positives, &negatives, count, highest(others))
 }
 
 // The choice where no clause is left: the lowest variable without a value.
@@ -425,22 +448,8 @@ pub fn choose(f: Formula, settle: u64, a: Assignment) -> Choice
     requires { ⌜ FormulaFits f ⌝ }
     ensures { λ r. ⌜ r ≡ chosen f settle a ⌝ }
 {
-    let mut positives = [0u64; 96];
-    let mut negatives = [0u64; 96];
-    let count = open_node(f, a, &mut positives, &mut negatives);
-    let names = survey_clauses(&positives, &negatives, count);
-    if !names.any {
+    if all_satisfied(f, a) {
         return choose_free(settle, a);
     }
-    let r = reduce(&positives, &negatives, count, f.variables);
-    let s = r.survey;
-    if s.any {
-        let stripped = compact(&mut positives, &mut negatives, count, r.assignment);
-        return first_passing(&positives, &negatives, stripped, s.positive | s.negative);
-    }
-    let others = masks::minus(names.positive | names.negative, r.noted);
-    if others == 0 {
-        return last_listed(&positives, &negatives, count, r.last);
-    }
-    last_listed(&positives, &negatives, count, highest(others))
+    choose_open(f, a)
 }

@@ -25,6 +25,7 @@ abbrev μ-loop : tie.MeasureT-loop
 μ-loop positives negatives count variables left-positives₀ left-negatives₀ left-count₀ assignment₀ noted₀ last₀ k₀ left-positives left-negatives left-count assignment noted last k =
     variables - k
 
+-- where the function begins
 abbrev entry : tie.At-loop Inv-loop μ-loop → tie.Start Inv-loop μ-loop
 entry l = l .before .before .before .before
 
