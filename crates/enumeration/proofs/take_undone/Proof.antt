@@ -11,26 +11,24 @@ use Rattle.enumeration.proofs.PlaceLaws.{taken-full, taken-true-root, t
 use Rattle.enumeration.proofs.take_undone.Statement.{statement}
 use Rattle.enumeration.proofs.take_undone.Tie as tie
 
-abbrev entry : tie.After-pick → tie.Start
-entry c = c .before .before .before .before
+abbrev entry : tie.After-pick-by-clauses → tie.Start
+entry c = c .before .before .before .before .before
 
 -- the choice is the tree's
-choice : (c : tie.After-pick) (K : Tree) → Follows (entry c .args .f) K → Holds K (entry c .args .s) → c .pick .result .choice ≡ K .choose (stack-in (entry c .args .s))
-choice c K F h = choice-is _ K F _ h (c .before .if1 .left) _ (c .pick .ensures .0)
+choice : (c : tie.After-pick-by-clauses) (K : Tree) → Follows (entry c .args .f) K → Holds K (entry c .args .s) → c .pick-by-clauses .result .choice ≡ K .choose (stack-in (entry c .args .s))
+choice c K F h = choice-is _ K F _ h (c .before .before .if1 .left) _ (c .pick-by-clauses .ensures .0)
 
 returns : tie.Need-returns
 returns c = λ K F n. taken-full _ K F _ n (c .before .before .before .args .value) (c .if1 .taken)
 
-pick-requires : tie.Need-pick-requires
-pick-requires c κs =
-    let a = c .before .before .before in
-    (a .pre .0, a .pre .1, valid-short _ _ (a .pre .1) (c .if1 .left))
+pick-by-clauses-requires : tie.Need-pick-by-clauses-requires
+pick-by-clauses-requires c κs = search needs
 
 returns-2 : tie.Need-returns-2
 returns-2 c =
     λ K F n.
     let p = c .before .before .before .before in
-    rw (c .before .before .if2 .taken) (taken-true-root _ K F _ n (p .before .if1 .left) _ (choice p K F (n .holds)) (c .if3 .taken))
+    rw (c .before .before .if2 .taken) (taken-true-root _ K F _ n (p .before .before .if1 .left) _ (choice p K F (n .holds)) (c .if3 .taken))
 
 placed-requires : tie.Need-placed-requires
 placed-requires c κs = search needs
@@ -40,28 +38,28 @@ returns-3 c =
     λ K F n.
     let p = c .before .before .before .before .before in
     rw (c .before .before .before .if2 .taken)
-    (taken-true _ K F _ n (p .before .if1 .left) _ (choice p K F (n .holds)) (c .before .if3 .left) _ (c .placed .ensures))
+    (taken-true _ K F _ n (p .before .before .if1 .left) _ (choice p K F (n .holds)) (c .before .if3 .left) _ (c .placed .ensures))
 
 returns-4 : tie.Need-returns-4
 returns-4 c =
     λ K F n.
     let p = c .before .before .before .before .before .before in
     rw (c .before .before .before .before .if2 .left)
-    (taken-false-root _ K F _ n (p .before .if1 .left) _ (choice p K F (n .holds)) (c .before .before .if4 .taken) (not-true _ (c .if5 .taken)))
+    (taken-false-root _ K F _ n (p .before .before .if1 .left) _ (choice p K F (n .holds)) (c .before .before .if4 .taken) (not-true _ (c .if5 .taken)))
 
 mark-requires : tie.Need-mark-requires
 mark-requires c κs =
-    let p = c .before .before .before .before .before .before in
-    let l = valid-short _ _ (entry p .pre .1) (p .before .if1 .left) in
+    let p = c .before .before .before .before .before in
+    let l = valid-short _ _ (entry p .pre .1) (p .before .before .if1 .left) in
     omega (arith, entry p .pre .0 .most)
 
 returns-5 : tie.Need-returns-5
 returns-5 c =
     λ K F n.
-    let j = c .before .before .before in
+    let j = c .before .before in
     let p = j .before .before .before .before in
     rw (j .before .before .if2 .left, c .mark .ensures)
-    (taken-false _ K F _ n (p .before .if1 .left) _ (choice p K F (n .holds))
+    (taken-false _ K F _ n (p .before .before .if1 .left) _ (choice p K F (n .holds))
     (λ z. ⊎-elim (λ w. not-false _ (w .2 .left)) (λ w. absurd (w .left z)) (j .if4 .came)) _ refl)
 
 pub take-undone-spec : {M : Type 1} → statement M
@@ -69,7 +67,7 @@ take-undone-spec =
     tie.close
     (tie.spec
     returns
-    pick-requires
+    pick-by-clauses-requires
     returns-2
     placed-requires
     returns-3
