@@ -1,16 +1,11 @@
 -- `push` assigns one variable more.
+use native.Mathlib.Omega.{arith}
 use borrow.Author.Needs.{needs}
 use Rattle.enumeration.proofs.push.Statement.{statement}
 use Rattle.enumeration.proofs.push.Tie as tie
 
-byte-of-requires : tie.Need-byte-of-requires
-byte-of-requires c κs = search needs
-
-array-write-bytes : tie.Need-array-write-bytes
-array-write-bytes c = search needs
-
-add-t10 : tie.Need-add-t10
-add-t10 c = search needs
+add-t6 : tie.Need-add-t6
+add-t6 c = search needs
 
 assign-requires : tie.Need-assign-requires
 assign-requires c κs = search needs
@@ -24,18 +19,22 @@ member-requires c κs = search needs
 mark-requires : tie.Need-mark-requires
 mark-requires c κs = search needs
 
+byte-of-requires : tie.Need-byte-of-requires
+byte-of-requires c κs = search needs
+
 returns : tie.Need-returns
-returns c = rw (c .mark .ensures, c .before .member .ensures, c .before .before .assign .ensures, c .before .before .before .before .byte-of .ensures)
+returns c =
+    let m = c .before in
+    (rw (c .byte-of .ensures, m .mark .ensures, m .before .member .ensures, m .before .before .assign .ensures), m .before .before .before .before .pre .1)
 
 pub push-spec : {M : Type 1} → statement M
 push-spec =
     tie.close
     (tie.spec
-    byte-of-requires
-    array-write-bytes
-    add-t10
+    add-t6
     assign-requires
     add-mark
     member-requires
     mark-requires
+    byte-of-requires
     returns)

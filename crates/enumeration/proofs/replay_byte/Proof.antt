@@ -57,14 +57,17 @@ push-requires c κs =
     let e = ap (λ (u : State). u .length) (c .before .note .ensures) in
     (low p, omega arith)
 
+apply-requires : tie.Need-apply-requires
+apply-requires c κs = c .push .ensures .1
+
 returns-3 : tie.Need-returns-3
 returns-3 c =
     λ K F h.
-    let n = c .before .before in
+    let n = c .before .before .before in
     let p = n .before .before .before .before .before in
     replayed-chosen _ K F _ h (p .before .if1 .left) _ (choice p K F h) _ _ true _ _ (p .pick .ensures .1 K F h)
-    (let e = n .before .before .before .number-of .ensures in let q = n .before .if2 .left in omega arith) (le-leb _ _ (c .before .if3 .taken))
-    (c .push .ensures ∙ ap (λ (u : State). pushing u (p .pick .result .choice .variable) true) (n .note .ensures))
+    (let e = n .before .before .before .number-of .ensures in let q = n .before .if2 .left in omega arith) (le-leb _ _ (c .before .before .if3 .taken))
+    (c .apply .ensures ∙ c .before .push .ensures .0 ∙ ap (λ (u : State). pushing u (p .pick .result .choice .variable) true) (n .note .ensures))
 
 push-requires-2 : tie.Need-push-requires-2
 push-requires-2 c κs =
@@ -73,14 +76,17 @@ push-requires-2 c κs =
     let e = ap (λ (u : State). u .length) (c .before .note .ensures) in
     (low p, omega arith)
 
+apply-requires-2 : tie.Need-apply-requires-2
+apply-requires-2 c κs = c .push2 .ensures .1
+
 returns-4 : tie.Need-returns-4
 returns-4 c =
     λ K F h.
-    let n = c .before .before in
+    let n = c .before .before .before in
     let p = n .before .before .before .before .before in
     replayed-chosen _ K F _ h (p .before .if1 .left) _ (choice p K F h) _ _ false _ _ (p .pick .ensures .1 K F h)
-    (let e = n .before .before .before .number-of .ensures in let q = n .before .if2 .left in omega arith) (lt-leb _ _ (c .before .if3 .left))
-    (c .push2 .ensures ∙ ap (λ (u : State). pushing u (p .pick .result .choice .variable) false) (n .note .ensures))
+    (let e = n .before .before .before .number-of .ensures in let q = n .before .if2 .left in omega arith) (lt-leb _ _ (c .before .before .if3 .left))
+    (c .apply2 .ensures ∙ c .before .push2 .ensures .0 ∙ ap (λ (u : State). pushing u (p .pick .result .choice .variable) false) (n .note .ensures))
 
 pub replay-byte-spec : {M : Type 1} → statement M
 replay-byte-spec =
@@ -93,6 +99,8 @@ replay-byte-spec =
     returns-2
     note-requires
     push-requires
+    apply-requires
     returns-3
     push-requires-2
+    apply-requires-2
     returns-4)
