@@ -1,7 +1,6 @@
 -- `pop` undoes the last assigned variable.
-use Prim.Native.Nat.{_-_, _≤_}
+use Prim.Native.Nat.{_≤_}
 use native.Mathlib.Omega.{arith}
-use lib.ListN.{getD}
 use borrow.Author.Needs.{needs}
 use borrow.Author.Tests.{lt-ltb, le-ltb}
 use Rattle.enumeration.proofs.StateLaws.{numbered-true, numbered-false}
@@ -9,17 +8,14 @@ use Rattle.enumeration.proofs.pop.Statement.{statement}
 use Rattle.enumeration.proofs.pop.Tie as tie
 
 -- the byte of a true variable, and of a false one
-high : (c : tie.Then1) → (let s = c .before .before .before .args .t1 in (129 ≤ getD (s .bytes) (s .length - 1) 0) × (getD (s .bytes) (s .length - 1) 0 ≤ 176))
-high c = let s = c .before .before .before .args .t1 in numbered-true (getD (s .bytes) (s .length - 1) 0) (c .before .before .before .pre .2) (c .if1 .taken)
+high : (c : tie.Then1) → (let b = c .before .before .before .args .b in (129 ≤ b) × (b ≤ 176))
+high c = numbered-true (c .before .before .before .args .b) (c .before .before .before .pre .2) (c .if1 .taken)
 
-low : (c : tie.Else1) → (let s = c .before .before .before .args .t1 in (1 ≤ getD (s .bytes) (s .length - 1) 0) × (getD (s .bytes) (s .length - 1) 0 ≤ 48))
-low c = let s = c .before .before .before .args .t1 in numbered-false (getD (s .bytes) (s .length - 1) 0) (c .before .before .before .pre .2) (c .if1 .left)
+low : (c : tie.Else1) → (let b = c .before .before .before .args .b in (1 ≤ b) × (b ≤ 48))
+low c = numbered-false (c .before .before .before .args .b) (c .before .before .before .pre .2) (c .if1 .left)
 
 sub-at : tie.Need-sub-at
 sub-at c = search needs
-
-element-copy-out-b : tie.Need-element-copy-out-b
-element-copy-out-b c = search needs
 
 sub-v : tie.Need-sub-v
 sub-v c = search needs
@@ -33,7 +29,7 @@ without-requires c κs = let k = high c in omega arith
 returns : tie.Need-returns
 returns c =
     let a = c .before .before .before .before in
-    (rw (lt-ltb 128 (getD (a .args .t1 .bytes) (a .args .t1 .length - 1) 0) (c .before .if1 .taken), c .without .ensures), omega (arith, a .pre .1))
+    (rw (lt-ltb 128 (a .args .b) (c .before .if1 .taken), c .without .ensures), omega (arith, a .pre .1))
 
 sub-v-2 : tie.Need-sub-v-2
 sub-v-2 c = let k = low c in omega arith
@@ -47,14 +43,13 @@ without-requires-2 c κs = let k = low c in omega arith
 returns-2 : tie.Need-returns-2
 returns-2 c =
     let a = c .before .before .before .before in
-    (rw (le-ltb 128 (getD (a .args .t1 .bytes) (a .args .t1 .length - 1) 0) (c .before .if1 .left), c .without2 .ensures), omega (arith, a .pre .1))
+    (rw (le-ltb 128 (a .args .b) (c .before .if1 .left), c .without2 .ensures), omega (arith, a .pre .1))
 
 pub pop-spec : {M : Type 1} → statement M
 pop-spec =
     tie.close
     (tie.spec
     sub-at
-    element-copy-out-b
     sub-v
     cast-v
     without-requires
