@@ -6,6 +6,7 @@ pub mod ExtendsLaws
 pub mod FormatLaws
 pub mod KindLaws
 pub mod LengthLaws
+pub mod LiteralLaws
 pub mod MaskedLaws
 pub mod ModelLaws
 pub mod OneTo

@@ -1,6 +1,6 @@
 -- What the reader's functions compute over masks, record by record; proofs/ReaderLaws.antt ties it to Decode.
 use Prim.Native.Nat.{ℕ, _+_, _-_, _≤_}
-use mathlib.Core.Bool.{Bool, cond}
+use mathlib.Core.Bool.{Bool, not, cond, _&&_, _||_}
 use mathlib.Core.List.{List, map}
 use mathlib.Core.Path.{_≡_}
 use lib.Dec.{eqb, ltb}
@@ -74,6 +74,21 @@ unfoldable pub record-event : List ℕ → Reader → Event
 record-event s r =
     cond (ltb (r .at) (length s)) (kind-event s r (kind-of (getD s (r .at) 0))) (Stopped (Truncated (length s)))
 
+-- the record is a literal that can be read
+abbrev pub literal-stands : List ℕ → Reader → Bool
+literal-stands s r =
+    ltb 0 (r .at) && (ltb (r .at + 1) (length s) && ((eqb (getD s (r .at) 0) 2 || eqb (getD s (r .at) 0) 3)
+    && (one-to (r .variables) (getD s (r .at + 1) 0) && not (bit (named (r .current)) (getD s (r .at + 1) 0 - 1)))))
+
+-- the reader behind it
+abbrev pub literal-read : List ℕ → Reader → Reader
+literal-read s r = record {
+  at = r .at + 2;
+  variables = r .variables;
+  count = r .count;
+  current = with-literal (r .current) (getD s (r .at + 1) 0 - 1) (eqb (getD s (r .at) 0) 2);
+}
+
 -- the reader at a reading, and the event that a step is
 abbrev pub reader-of : Reading → Reader
 reader-of g = record { at = g .at; variables = g .variables; count = length (g .ended); current = clause-of (g .current) }
@@ -90,3 +105,10 @@ pub record Reads (s : List ℕ) (r : Reader) (clauses : List Clause) : Type 0 wh
   pub fuel : ℕ
   pub enough : length s ≤ reading .at + fuel
   pub rest : records fuel (length s) reading (drop (reading .at) s) ≡ decode s
+
+-- from r to x by records after which reading goes on and no clause ends
+pub record Passes (s : List ℕ) (r x : Reader) : Type 0 where
+  pub reads : (clauses : List Clause) → Reads s r clauses → Reads s x clauses
+  pub forward : r .at ≤ x .at
+  pub inside : x .at ≤ length s
+  pub small : x .variables ≤ 48

@@ -1,14 +1,14 @@
 // Encoded formulas: the reader, its refusals, and the act check.
 ghost use mathlib.Core.Path.{_≡_};
 ghost use Prim.Native.Nat.{_+_, _<_, _≤_, _^_};
-ghost use lib.ListN.{length};
+ghost use lib.ListN.{length, getD};
 ghost use mathlib.Core.List.{[]};
 ghost use Rattle.formula.specs.Check.{values, checked};
 ghost use Rattle.formula.specs.InnerCheck.{clause-holds, clauses-hold};
 ghost use Rattle.formula.specs.Masked.{no-clause, with-literal, formula-of, held, decoded};
 ghost use Rattle.formula.specs.Decode.{refused};
 ghost use Rattle.formula.specs.Refusals.{listing};
-ghost use Rattle.formula.specs.InnerReader.{count-event, variable-event, literal-event, end-event, finish-event, record-event};
+ghost use Rattle.formula.specs.InnerReader.{count-event, variable-event, literal-event, end-event, finish-event, literal-stands, literal-read, record-event, Passes};
 
 // A clause (01: rule): the variables that it names as true (01: on) and those that it names as false.
 pub struct Clause {
@@ -244,6 +244,62 @@ fn read_record(input: &[u8], r: Reader) -> Event
     }
 }
 
+// The record is a literal that can be read.
+fn is_literal(input: &[u8], r: Reader) -> bool
+    requires { ⌜ (r .at ≤ length (now input)) × (r .variables ≤ 48) ⌝ }
+    ensures { λ x. ⌜ x ≡ literal-stands (now (input .entry)) r ⌝ }
+{
+    let at = r.at;
+    if at == 0 {
+        return false;
+    }
+    if input.len() - at < 2 {
+        return false;
+    }
+    let kind = input[at];
+    if kind != 2 {
+        if kind != 3 {
+            return false;
+        }
+    }
+    let b = input[at + 1];
+    if b == 0 {
+        return false;
+    }
+    if r.variables < b {
+        return false;
+    }
+    let current = r.current;
+    !masks::member(current.positive | current.negative, wide(b) - 1)
+}
+
+// A literal that can be read is read.
+fn take_literal(input: &[u8], r: Reader) -> Reader
+    requires { ⌜ (r .at + 1 < length (now input)) × (1 ≤ getD (now input) (r .at + 1) 0) × (getD (now input) (r .at + 1) 0 ≤ 48) ⌝ }
+    ensures { λ x. ⌜ x ≡ literal-read (now (input .entry)) r ⌝ }
+{
+    let at = r.at;
+    let current = r.current;
+    Reader {
+        variables: r.variables,
+        at: at + 2,
+        count: r.count,
+        current: add_literal(current, wide(input[at + 1]) - 1, input[at] == 2),
+    }
+}
+
+// Literals are read, as many as can be: most records are such, and this way no event is made of them.
+fn read_literals(input: &[u8], r: Reader) -> Reader
+    requires { ⌜ (r .at ≤ length (now input)) × (r .variables ≤ 48) ⌝ }
+    ensures { λ x. ⌜ Passes (now (input .entry)) r x ⌝ }
+{
+    let mut reader = r;
+    while is_literal(input, reader) {
+        reader = take_literal(input, reader);
+    }
+    reader
+}
+
 fn refuse(refusal: Refusal) -> Decoded
     ensures { λ d. ⌜ d ≡ held (refused refusal) ⌝ }
 {
@@ -271,6 +327,7 @@ pub fn decode(input: &[u8]) -> Decoded
         current: empty_clause(),
     };
     loop {
+        reader = read_literals(input, reader);
         match read_record(input, reader) {
             Event::Next(after) => {
                 if reader.count < after.count {
