@@ -69,7 +69,9 @@ impl Matching {
         self.variable_of[clause] = variable as u8;
     }
 
-    /// The search of 01, in its order: clause by clause from the front of the queue, the variables of each upward.
+    /// The search of 01, in its order: clause by clause from the front of the queue, the variables of each upward. Most clauses
+    /// need none, so that only [`Matching::add`] is inlined.
+    #[inline(never)]
     fn search(&mut self, named: &[u64], live: u64, root: usize) -> bool {
         self.queue[0] = root as u8;
         let (mut taken, mut queued) = (0, 1);
