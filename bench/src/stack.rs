@@ -4,13 +4,14 @@
 //! until something other than the paint is found. It is tested on functions of known use. What a function reserves and never writes
 //! is not seen.
 
-use crate::families::{encode, longest_input, Case, FAMILIES};
+use crate::families::{longest_input, Case, FAMILIES};
 use crate::listers::{Bytes, Lister, Proved};
 use crate::measure::{deep_checkpoint, BUDGET, START};
 use crate::table::{count_text, print_table, row};
 use norwythai::raw::{
     norwythai_check, norwythai_judge, norwythai_list, norwythai_start, norwythai_walk,
 };
+use norwythai_samples::encode;
 use std::hint::black_box;
 use std::mem::MaybeUninit;
 
