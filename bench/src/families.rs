@@ -1,7 +1,7 @@
 //! The families of formulas: those of data/families.txt, and more that are generated, the same in every run.
 
-use crate::random::Random;
 use norwythai_reference::{decode, judge};
+use norwythai_samples::{encode, stairs, Clauses, Random};
 
 /// The formulas that are kept as data.
 const KEPT: &str = include_str!("../data/families.txt");
@@ -11,9 +11,6 @@ const GENERATED: usize = 5;
 
 /// The largest number of variables.
 const LARGEST: usize = 48;
-
-/// Clauses of signed variable numbers, negative for a negative literal.
-type Clauses = Vec<Vec<i8>>;
 
 /// A matched formula.
 pub struct Case {
@@ -128,18 +125,6 @@ pub fn longest_input() -> Vec<u8> {
     input
 }
 
-pub fn encode(variables: usize, clauses: &Clauses) -> Vec<u8> {
-    let mut bytes = vec![1, variables as u8];
-    for clause in clauses {
-        for literal in clause {
-            bytes.extend([if *literal > 0 { 2 } else { 3 }, literal.unsigned_abs()]);
-        }
-        bytes.push(4);
-    }
-    bytes.push(5);
-    bytes
-}
-
 fn from_hex(digits: &str) -> Vec<u8> {
     (0..digits.len() / 2)
         .map(|i| u8::from_str_radix(&digits[2 * i..2 * i + 2], 16).expect("two digits a byte"))
@@ -212,22 +197,6 @@ fn few_clauses(random: &mut Random, variables: usize) -> Clauses {
 fn some_stairs(random: &mut Random, variables: usize) -> Clauses {
     let pairs = random.between(1, variables / 3);
     stairs(variables, pairs)
-}
-
-/// Stairs: clauses (1, .., i - 1, not i) for the steps, and for each pair of variables at the top one clause of the pair and all
-/// steps, and one of all their negations. Most trials fail.
-pub fn stairs(variables: usize, pairs: usize) -> Clauses {
-    let steps = (variables - 2 * pairs) as i8;
-    let mut clauses = Vec::new();
-    for pair in 0..pairs as i8 {
-        let top = [steps + 2 * pair + 1, steps + 2 * pair + 2];
-        clauses.push((1..=steps).chain(top).collect());
-        clauses.push((1..=steps).chain(top).map(|v| -v).collect());
-    }
-    for step in 1..=steps {
-        clauses.push((1..step).chain([-step]).collect());
-    }
-    clauses
 }
 
 #[cfg(test)]

@@ -95,18 +95,21 @@ fn exponents(points: &[Point]) -> Vec<String> {
     cells
 }
 
-fn print_times(points: &[Point]) {
-    let mut table = vec![row(&[
-        "family",
-        "n",
-        "m",
+/// A table's first row: these columns, and one for each time.
+fn head(columns: &[&str]) -> Vec<String> {
+    let times = [
         "model: proved",
         "plain",
         "tuned",
         "walk call: proved",
         "plain",
         "tuned",
-    ])];
+    ];
+    row(&[columns, &times].concat())
+}
+
+fn print_times(points: &[Point]) {
+    let mut table = vec![head(&["family", "n", "m"])];
     table.extend(points.iter().map(Point::cells));
     print_table(&table);
 }
@@ -114,15 +117,7 @@ fn print_times(points: &[Point]) {
 fn print_exponents(points: &[Point]) {
     println!("From n = 12 to n = 48 a time grows as n to the power of:");
     println!();
-    let mut table = vec![row(&[
-        "family",
-        "model: proved",
-        "plain",
-        "tuned",
-        "walk call: proved",
-        "plain",
-        "tuned",
-    ])];
+    let mut table = vec![head(&["family"])];
     table.extend(points.chunks(SIZES.len()).map(exponents));
     print_table(&table);
 }

@@ -7,7 +7,6 @@ pub mod growth;
 pub mod listers;
 pub mod measure;
 pub mod once;
-pub mod random;
 #[allow(unsafe_code)]
 pub mod stack;
 pub mod table;

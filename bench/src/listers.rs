@@ -85,12 +85,12 @@ impl Lister for Proved {
     }
 }
 
-/// The two Rust implementations have the same functions.
+/// The two Rust implementations have the same functions, but check is the plain one's alone: it has nothing to tune.
 macro_rules! rust_lister {
     ($name:ident, $module:ident) => {
         impl Lister for $name {
             fn check(&self, input: &[u8], assignment: u64) -> Result<bool, Refused> {
-                $module::check(input, assignment).map_err(|r| (r.number, r.place))
+                plain::check(input, assignment).map_err(|r| (r.number, r.place))
             }
 
             fn judge(
@@ -115,7 +115,7 @@ macro_rules! rust_lister {
                 *checkpoint = walked.checkpoint;
                 Ok(Walked {
                     model: match walked.progress.answer {
-                        $module::Answer::Model(model) => Some(model),
+                        plain::Answer::Model(model) => Some(model),
                         _ => None,
                     },
                     steps: walked.progress.steps,

@@ -132,7 +132,7 @@ fn judge_times(case: &Case) -> Times {
     times(|lister| judge(lister, case, &mut buffer))
 }
 
-/// Reads the longest input whole, and refuses the assignment by 12.
+/// Reads the longest input whole, and refuses the assignment by 12. The tuned baseline reads and checks by the plain reference.
 fn decode_times() -> Times {
     let input = longest_input();
     times(|lister| {

@@ -4,50 +4,16 @@
 //! until something other than the paint is found. It is tested on functions of known use. What a function reserves and never writes
 //! is not seen.
 
-use crate::families::{encode, longest_input, Case, FAMILIES};
+use crate::families::{longest_input, Case, FAMILIES};
 use crate::listers::{Bytes, Lister, Proved};
 use crate::measure::{deep_checkpoint, BUDGET, START};
 use crate::table::{count_text, print_table, row};
+use norwythai::raw::{
+    norwythai_check, norwythai_judge, norwythai_list, norwythai_start, norwythai_walk,
+};
+use norwythai_samples::encode;
 use std::hint::black_box;
 use std::mem::MaybeUninit;
-
-extern "C" {
-    fn norwythai_check(
-        input: *const u8,
-        input_length: usize,
-        assignment: u64,
-        results: *mut u64,
-        results_length: usize,
-    ) -> u32;
-    fn norwythai_judge(
-        input: *const u8,
-        input_length: usize,
-        buffer: *mut u8,
-        buffer_length: usize,
-        results: *mut u64,
-        results_length: usize,
-    ) -> u32;
-    fn norwythai_start(checkpoint: *mut u8, checkpoint_length: usize) -> u32;
-    fn norwythai_walk(
-        input: *const u8,
-        input_length: usize,
-        checkpoint: *mut u8,
-        checkpoint_length: usize,
-        budget: u32,
-        results: *mut u64,
-        results_length: usize,
-    ) -> u32;
-    fn norwythai_list(
-        input: *const u8,
-        input_length: usize,
-        checkpoint: *mut u8,
-        checkpoint_length: usize,
-        models: *mut u64,
-        models_length: usize,
-        results: *mut u64,
-        results_length: usize,
-    ) -> u32;
-}
 
 /// The bytes that are painted.
 const PAINTED: usize = 256 * 1024;

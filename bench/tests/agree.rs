@@ -1,4 +1,4 @@
-//! The tuned baseline and the plain reference agree: on lists, on walks with their counts, on judge and on check.
+//! The tuned baseline and the plain reference agree: on lists, on walks with their counts, and on judge.
 
 use norwythai_bench::families::{longest_input, Case, FAMILIES};
 use norwythai_bench::listers::{Bytes, Lister, Plain, Tuned};
@@ -47,25 +47,11 @@ fn same_judge(case: &Case) {
     assert_eq!(judge(&Tuned), judge(&Plain), "{}", case.name);
 }
 
-/// Each bit of the assignment turned, once.
-fn same_checks(case: &Case, assignment: u64) {
-    for bit in 0..64 {
-        let turned = assignment ^ 1 << bit;
-        assert_eq!(
-            Tuned.check(&case.input, turned),
-            Plain.check(&case.input, turned),
-            "{}",
-            case.name
-        );
-    }
-}
-
 fn same_acts(case: &Case) {
     let after = same_list(case, MODELS);
     same_walks(case, START);
     same_walks(case, after);
     same_judge(case);
-    same_checks(case, 0x5555_5555_5555);
     // A checkpoint that the walk never has is refused by both.
     let mut foreign = after;
     foreign[2] ^= 64;
@@ -91,12 +77,6 @@ fn on_smaller_formulas_of_each_family() {
 #[test]
 fn on_the_longest_input() {
     let input = longest_input();
-    for assignment in [0, 1, 1 << 63] {
-        assert_eq!(
-            Tuned.check(&input, assignment),
-            Plain.check(&input, assignment)
-        );
-    }
     let refused = Plain.judge(&input, &mut [0; 96]);
     assert_eq!(refused, Err((10, 49)));
     assert_eq!(Tuned.judge(&input, &mut [0; 96]), refused);

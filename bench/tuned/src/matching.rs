@@ -1,7 +1,7 @@
 //! Matching clauses with variables (01: pairing), and the act judge.
 
-use crate::bits::{bit, lowest, numbers};
-use crate::formula::{decode, Formula, Refusal, MAX_CLAUSES, MAX_VARIABLES};
+use norwythai_reference::bits::{bit, lowest, numbers};
+use norwythai_reference::{judge_with, Formula, Refusal, Size, MAX_CLAUSES, MAX_VARIABLES};
 
 /// A matching that grows clause by clause. What its arrays hold means something only for matched clauses and variables, so
 /// that a new matching costs no clearing.
@@ -69,7 +69,9 @@ impl Matching {
         self.variable_of[clause] = variable as u8;
     }
 
-    /// The search of 01, in its order: clause by clause from the front of the queue, the variables of each upward.
+    /// The search of 01, in its order: clause by clause from the front of the queue, the variables of each upward. Most clauses
+    /// need none, so that only [`Matching::add`] is inlined.
+    #[inline(never)]
     fn search(&mut self, named: &[u64], live: u64, root: usize) -> bool {
         self.queue[0] = root as u8;
         let (mut taken, mut queued) = (0, 1);
@@ -108,63 +110,32 @@ impl Matching {
         self.pair(variable, root);
     }
 
-    /// After a search that failed: the clauses that it took off the queue (01: the marked rules).
-    fn violator(&self) -> &[u8] {
-        &self.queue[..self.last_taken]
+    /// Matches all clauses of a formula, in their order: by clause its variable, or the violator.
+    fn match_formula(&mut self, formula: &Formula) -> Result<&[u8], &[u8]> {
+        let clauses = formula.clauses();
+        let mut named = [0; MAX_CLAUSES];
+        for (index, clause) in clauses.iter().enumerate() {
+            named[index] = clause.named();
+        }
+        self.clear();
+        if (0..clauses.len()).all(|clause| self.add(&named, !0, clause)) {
+            Ok(&self.variable_of[..clauses.len()])
+        } else {
+            Err(&self.queue[..self.last_taken])
+        }
     }
-}
-
-/// Matches all clauses of a formula in their order, or leaves the violator in `matching` and gives false.
-pub(crate) fn match_all(formula: &Formula, matching: &mut Matching) -> bool {
-    let mut named = [0; MAX_CLAUSES];
-    for (set, clause) in named.iter_mut().zip(formula.clauses()) {
-        *set = clause.named();
-    }
-    matching.clear();
-    (0..formula.clauses().len()).all(|clause| matching.add(&named, !0, clause))
 }
 
 /// Refuses an unmatched formula by 10.
 pub(crate) fn require_matched(formula: &Formula) -> Result<(), Refusal> {
     let mut matching = Matching::new();
-    if match_all(formula, &mut matching) {
-        Ok(())
-    } else {
-        Err(Refusal::new(10, matching.violator().len()))
-    }
+    let matched = matching.match_formula(formula);
+    matched.map_err(|violator| Refusal::new(10, violator.len()))?;
+    Ok(())
 }
 
-/// What judge says of a matched formula.
-#[derive(Clone, Copy, Debug, PartialEq, Eq)]
-pub struct Size {
-    /// n, the number of variables.
-    pub variables: usize,
-    /// m, the number of clauses.
-    pub clauses: usize,
-}
-
-/// The act judge, with a lent buffer (01: slate). Matched: byte i becomes the variable, from 1, of clause i (from 0).
-/// Unmatched: byte i becomes 1 if clause i is of the violator, else 0. Other bytes stay as they are.
+/// The act judge.
 pub fn judge(input: &[u8], buffer: &mut [u8]) -> Result<Size, Refusal> {
-    if buffer.len() < MAX_CLAUSES {
-        return Err(Refusal::new(1, 0));
-    }
-    let formula = decode(input)?;
-    let clauses = formula.clauses().len();
-    let written = &mut buffer[..clauses];
-    let mut matching = Matching::new();
-    if match_all(&formula, &mut matching) {
-        for (byte, variable) in written.iter_mut().zip(matching.variable_of) {
-            *byte = variable + 1;
-        }
-        return Ok(Size {
-            variables: formula.variables(),
-            clauses,
-        });
-    }
-    written.fill(0);
-    for clause in matching.violator() {
-        written[usize::from(*clause)] = 1;
-    }
-    Err(Refusal::new(10, matching.violator().len()))
+    let matching = &mut Matching::new();
+    judge_with(input, buffer, |formula| matching.match_formula(formula))
 }

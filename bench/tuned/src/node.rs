@@ -1,8 +1,8 @@
 //! Nodes of the walk (01: places), and which variable is assigned next there.
 
-use crate::bits::{bit, highest, lowest, numbers};
-use crate::formula::{Formula, MAX_VARIABLES};
 use crate::matching::Matching;
+use norwythai_reference::bits::{bit, highest, lowest, numbers};
+use norwythai_reference::{Formula, MAX_VARIABLES};
 
 /// A matched formula, with what the walk asks of it at hand. It has no more clauses than variables, so that a set of clauses
 /// is a mask, too.

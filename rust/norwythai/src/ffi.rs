@@ -1,50 +1,15 @@
-//! The C functions of the proved library, and the only unsafe code of this crate.
+//! The calls of the C functions, and the only unsafe code of this crate.
 //!
 //! Each function here lends the library only whole slices, with their own lengths, for the time of the call; the library reads
 //! and writes nothing else and keeps no pointer.
 
 use crate::checkpoint::Checkpoint;
+use crate::raw::{
+    norwythai_check, norwythai_judge, norwythai_list, norwythai_start, norwythai_walk,
+};
 
 /// What every act but start writes, by its index: the answer, a model, a refusal's number and place, and two counts.
 pub(crate) type Results = [u64; 6];
-
-extern "C" {
-    fn norwythai_check(
-        input: *const u8,
-        input_length: usize,
-        assignment: u64,
-        results: *mut u64,
-        results_length: usize,
-    ) -> u32;
-    fn norwythai_judge(
-        input: *const u8,
-        input_length: usize,
-        buffer: *mut u8,
-        buffer_length: usize,
-        results: *mut u64,
-        results_length: usize,
-    ) -> u32;
-    fn norwythai_start(checkpoint: *mut u8, checkpoint_length: usize) -> u32;
-    fn norwythai_walk(
-        input: *const u8,
-        input_length: usize,
-        checkpoint: *mut u8,
-        checkpoint_length: usize,
-        budget: u32,
-        results: *mut u64,
-        results_length: usize,
-    ) -> u32;
-    fn norwythai_list(
-        input: *const u8,
-        input_length: usize,
-        checkpoint: *mut u8,
-        checkpoint_length: usize,
-        models: *mut u64,
-        models_length: usize,
-        results: *mut u64,
-        results_length: usize,
-    ) -> u32;
-}
 
 /// The library returns 1 only for arrays of other lengths than it asks for.
 fn require(returned: u32) {

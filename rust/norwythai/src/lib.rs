@@ -11,6 +11,8 @@
 //!
 //! Variables are given by their numbers, which count from 1 as in the encoded formula.
 //!
+//! The C functions that these acts call are in [`raw`].
+//!
 //! ```
 //! use norwythai::{FormulaBuilder, Literal};
 //!
@@ -42,6 +44,7 @@ mod checkpoint;
 mod ffi;
 mod formula;
 mod models;
+pub mod raw;
 mod refusal;
 
 pub use acts::{

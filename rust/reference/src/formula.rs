@@ -18,7 +18,8 @@ pub struct Refusal {
 }
 
 impl Refusal {
-    pub(crate) fn new(number: u8, place: usize) -> Self {
+    /// The refusal of this number and place.
+    pub fn new(number: u8, place: usize) -> Self {
         Refusal { number, place }
     }
 }

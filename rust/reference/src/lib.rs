@@ -10,7 +10,7 @@
 #![forbid(unsafe_code)]
 #![deny(missing_docs)]
 
-mod bits;
+pub mod bits;
 mod choice;
 mod formula;
 mod matching;
@@ -18,7 +18,7 @@ mod printing;
 mod walking;
 
 pub use formula::{check, decode, Clause, Formula, Refusal, MAX_CLAUSES, MAX_VARIABLES};
-pub use matching::{judge, Size};
+pub use matching::{judge, judge_with, Size};
 pub use printing::print;
 pub use walking::{
     list, start_checkpoint, walk, Answer, Checkpoint, Listed, Progress, Walked, Walker,

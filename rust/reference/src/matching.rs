@@ -95,28 +95,27 @@ impl Matching {
         }
     }
 
-    /// After a search that failed: the clauses that it took off the queue (01: the marked rules).
-    fn violator(&self) -> &[u8] {
-        &self.queue[..self.taken]
+    /// Matches all clauses of a formula, in their order: by clause its variable, or, if that cannot be, the violator: the clauses
+    /// that the failed search took off its queue (01: the marked rules).
+    fn match_formula(&mut self, formula: &Formula) -> Result<&[u8], &[u8]> {
+        let mut named = [0; MAX_CLAUSES];
+        for (set, clause) in named.iter_mut().zip(formula.clauses()) {
+            *set = clause.named();
+        }
+        let clauses = formula.clauses().len();
+        if self.match_all(&named[..clauses]) {
+            Ok(&self.variable_of[..clauses])
+        } else {
+            Err(&self.queue[..self.taken])
+        }
     }
-}
-
-/// Matches all clauses of a formula, or gives false and leaves the violator in the matching.
-fn match_formula(formula: &Formula, matching: &mut Matching) -> bool {
-    let mut named = [0; MAX_CLAUSES];
-    for (set, clause) in named.iter_mut().zip(formula.clauses()) {
-        *set = clause.named();
-    }
-    matching.match_all(&named[..formula.clauses().len()])
 }
 
 /// Refuses an unmatched formula by 10.
 pub(crate) fn require_matched(formula: &Formula) -> Result<(), Refusal> {
-    let mut matching = Matching::new();
-    if match_formula(formula, &mut matching) {
-        Ok(())
-    } else {
-        Err(Refusal::new(10, matching.violator().len()))
+    match Matching::new().match_formula(formula) {
+        Ok(_) => Ok(()),
+        Err(violator) => Err(Refusal::new(10, violator.len())),
     }
 }
 
@@ -132,25 +131,39 @@ pub struct Size {
 /// The act judge, with a lent buffer (01: slate). Matched: byte i becomes the variable, from 1, of clause i (from 0).
 /// Unmatched: byte i becomes 1 if clause i is of the violator, else 0. Other bytes stay as they are.
 pub fn judge(input: &[u8], buffer: &mut [u8]) -> Result<Size, Refusal> {
+    let matching = &mut Matching::new();
+    judge_with(input, buffer, |formula| matching.match_formula(formula))
+}
+
+/// [`judge`] by any way of matching the formula's clauses: it gives the variable of each clause, both counted from 0, or the
+/// clauses of the violator.
+pub fn judge_with<'a>(
+    input: &[u8],
+    buffer: &mut [u8],
+    match_formula: impl FnOnce(&Formula) -> Result<&'a [u8], &'a [u8]>,
+) -> Result<Size, Refusal> {
     if buffer.len() < MAX_CLAUSES {
         return Err(Refusal::new(1, 0));
     }
     let formula = decode(input)?;
     let clauses = formula.clauses().len();
     let written = &mut buffer[..clauses];
-    let mut matching = Matching::new();
-    if match_formula(&formula, &mut matching) {
-        for (byte, variable) in written.iter_mut().zip(matching.variable_of) {
-            *byte = variable + 1;
+    match match_formula(&formula) {
+        Ok(variables) => {
+            for (byte, variable) in written.iter_mut().zip(variables) {
+                *byte = variable + 1;
+            }
+            Ok(Size {
+                variables: formula.variables(),
+                clauses,
+            })
         }
-        return Ok(Size {
-            variables: formula.variables(),
-            clauses,
-        });
+        Err(violator) => {
+            written.fill(0);
+            for clause in violator {
+                written[usize::from(*clause)] = 1;
+            }
+            Err(Refusal::new(10, violator.len()))
+        }
     }
-    written.fill(0);
-    for clause in matching.violator() {
-        written[usize::from(*clause)] = 1;
-    }
-    Err(Refusal::new(10, matching.violator().len()))
 }

@@ -4,25 +4,13 @@ use norwythai_reference::{
     check, decode, judge, list, print, start_checkpoint, walk, Answer, Refusal, Size, Walker,
     LIST_BUDGET,
 };
+use norwythai_samples::encode;
 
 /// 01's example: clauses (1, 2) and (not 1, not 2).
 const EXAMPLE: &[u8] = &[1, 2, 2, 1, 2, 2, 4, 3, 1, 3, 2, 4, 5];
 
 fn refusal(number: u8, place: usize) -> Refusal {
     Refusal { number, place }
-}
-
-/// An encoded formula; a literal is a variable's number, negative for a negative literal.
-fn encode(variables: u8, clauses: &[&[i8]]) -> Vec<u8> {
-    let mut bytes = vec![1, variables];
-    for clause in clauses {
-        for literal in *clause {
-            bytes.extend([if *literal > 0 { 2 } else { 3 }, literal.unsigned_abs()]);
-        }
-        bytes.push(4);
-    }
-    bytes.push(5);
-    bytes
 }
 
 #[test]
@@ -44,11 +32,11 @@ fn the_example_is_matched_and_printed() {
 #[test]
 fn walks_without_trials() {
     assert_eq!(
-        print(&encode(3, &[&[1, 2], &[1, 3], &[2, 3]])),
+        print(&encode(3, &[vec![1, 2], vec![1, 3], vec![2, 3]])),
         "switches 3 rules 3\n110 3 0\n101 6 0\n011 4 0\n111 2 0\nend 3 0\n"
     );
     assert_eq!(
-        print(&encode(2, &[&[1, 2], &[1, -2]])),
+        print(&encode(2, &[vec![1, 2], vec![1, -2]])),
         "switches 2 rules 2\n10 2 0\n11 4 0\nend 2 0\n"
     );
     assert_eq!(
@@ -81,7 +69,7 @@ fn unmatched_formulas_have_a_violator() {
     let mut buffer = [170; 96];
     assert_eq!(judge(&[1, 1, 4, 5], &mut buffer), Err(refusal(10, 1)));
     assert_eq!(buffer[..2], [1, 170]);
-    let both = encode(1, &[&[1], &[-1]]);
+    let both = encode(1, &[vec![1], vec![-1]]);
     assert_eq!(judge(&both, &mut buffer), Err(refusal(10, 2)));
     assert_eq!(buffer[..3], [1, 1, 170]);
     // The checkpoint is tested after the matching.
@@ -91,10 +79,10 @@ fn unmatched_formulas_have_a_violator() {
 
 #[test]
 fn ninety_six_clauses_and_one_more() {
-    let most = encode(1, &[&[1_i8] as &[i8]; 96]);
+    let most = encode(1, &vec![vec![1]; 96]);
     assert_eq!(check(&most, 1), Ok(true));
     assert_eq!(check(&most, 0), Ok(false));
-    let more = encode(1, &[&[1_i8] as &[i8]; 97]);
+    let more = encode(1, &vec![vec![1]; 97]);
     assert_eq!(check(&more, 1), Err(refusal(8, 292)));
 }
 
@@ -181,9 +169,24 @@ fn checkpoints_that_the_walk_never_has() {
 #[test]
 fn list_gives_every_model_once() {
     let formulas = [
-        encode(4, &[&[1, 2, 3], &[-1, -2], &[2, -3, 4], &[-4, 1]]),
-        encode(5, &[&[1, 2], &[-2, 3], &[-3, 1], &[4, -5], &[-4, 5]]),
-        encode(6, &[&[1, -2, 3], &[-1, 2, -3], &[4, 5], &[-5, -4]]),
+        encode(
+            4,
+            &[vec![1, 2, 3], vec![-1, -2], vec![2, -3, 4], vec![-4, 1]],
+        ),
+        encode(
+            5,
+            &[
+                vec![1, 2],
+                vec![-2, 3],
+                vec![-3, 1],
+                vec![4, -5],
+                vec![-4, 5],
+            ],
+        ),
+        encode(
+            6,
+            &[vec![1, -2, 3], vec![-1, 2, -3], vec![4, 5], vec![-5, -4]],
+        ),
     ];
     for input in formulas {
         let formula = decode(&input).unwrap();
@@ -217,8 +220,7 @@ fn a_walker_goes_on_where_its_checkpoint_says() {
     let clauses: Vec<Vec<i8>> = (0..12)
         .map(|i| vec![i + 1, -((i + 1) % 12 + 1), (i + 4) % 12 + 1])
         .collect();
-    let slices: Vec<&[i8]> = clauses.iter().map(Vec::as_slice).collect();
-    let input = encode(12, &slices);
+    let input = encode(12, &clauses);
     let formula = decode(&input).unwrap();
     let mut walker = Walker::start(&formula).unwrap();
     let mut expansions = 0;

@@ -1,22 +1,7 @@
 //! Inputs: encoded formulas of many kinds, damaged ones, and checkpoints that a walk may or may not have.
 
-use crate::random::Random;
 use norwythai_reference::{judge, start_checkpoint, Checkpoint};
-
-/// Clauses of signed variable numbers, negative for a negative literal.
-type Clauses = Vec<Vec<i8>>;
-
-pub fn encode(variables: usize, clauses: &Clauses) -> Vec<u8> {
-    let mut bytes = vec![1, variables as u8];
-    for clause in clauses {
-        for literal in clause {
-            bytes.extend([if *literal > 0 { 2 } else { 3 }, literal.unsigned_abs()]);
-        }
-        bytes.push(4);
-    }
-    bytes.push(5);
-    bytes
-}
+use norwythai_samples::{encode, stairs, Clauses, Random};
 
 /// Small, middle and large numbers of variables.
 fn some_variables(random: &mut Random) -> usize {
@@ -82,22 +67,6 @@ fn balanced(random: &mut Random, variables: usize, length: usize) -> Clauses {
         if !clause.contains(&literal) && !clause.contains(&-literal) {
             clause.push(literal);
         }
-    }
-    clauses
-}
-
-/// Stairs: pairs of variables at the top, with all steps or with none of them, and clauses (1, .., i - 1, not i) for the steps
-/// below. Most trials fail.
-fn stairs(variables: usize, pairs: usize) -> Clauses {
-    let steps = (variables - 2 * pairs) as i8;
-    let mut clauses = Vec::new();
-    for pair in 0..pairs as i8 {
-        let top = [steps + 2 * pair + 1, steps + 2 * pair + 2];
-        clauses.push((1..=steps).chain(top).collect());
-        clauses.push((1..=steps).chain(top).map(|v| -v).collect());
-    }
-    for step in 1..=steps {
-        clauses.push((1..step).chain([-step]).collect());
     }
     clauses
 }

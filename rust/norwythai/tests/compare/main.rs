@@ -4,7 +4,6 @@
 
 mod acts;
 mod inputs;
-mod random;
 mod raw;
 mod tally;
 
@@ -15,7 +14,7 @@ use acts::{
 use inputs::{some_budget, some_checkpoint, some_input, some_matched_formula};
 use norwythai::{Answer, Checkpoint, Models, Refusal};
 use norwythai_reference as reference;
-use random::Random;
+use norwythai_samples::Random;
 use tally::Tally;
 
 const FEWEST_CALLS: usize = 100_000;

@@ -1,44 +1,9 @@
 //! The C functions themselves, called with arrays of any length. Each array stands between guards, which no call may change.
 
+use norwythai::raw::{
+    norwythai_check, norwythai_judge, norwythai_list, norwythai_start, norwythai_walk,
+};
 use std::fmt::Debug;
-
-extern "C" {
-    fn norwythai_check(
-        input: *const u8,
-        input_length: usize,
-        assignment: u64,
-        results: *mut u64,
-        results_length: usize,
-    ) -> u32;
-    fn norwythai_judge(
-        input: *const u8,
-        input_length: usize,
-        buffer: *mut u8,
-        buffer_length: usize,
-        results: *mut u64,
-        results_length: usize,
-    ) -> u32;
-    fn norwythai_start(checkpoint: *mut u8, checkpoint_length: usize) -> u32;
-    fn norwythai_walk(
-        input: *const u8,
-        input_length: usize,
-        checkpoint: *mut u8,
-        checkpoint_length: usize,
-        budget: u32,
-        results: *mut u64,
-        results_length: usize,
-    ) -> u32;
-    fn norwythai_list(
-        input: *const u8,
-        input_length: usize,
-        checkpoint: *mut u8,
-        checkpoint_length: usize,
-        models: *mut u64,
-        models_length: usize,
-        results: *mut u64,
-        results_length: usize,
-    ) -> u32;
-}
 
 /// Items of a guard.
 const GUARD: usize = 8;
