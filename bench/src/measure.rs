@@ -19,8 +19,12 @@ pub const START: Bytes = [0; 50];
 /// A budget that always brings a model or the end.
 pub const BUDGET: u32 = 96;
 
-/// How often a time is taken, at least, at different depths of the stack; the best counts.
+/// How often a time is taken, at different depths of the stack; the best counts.
 const ROUNDS: usize = 12;
+
+/// How often at least, where that lasts longer than the most time, in milliseconds.
+const FEWEST_ROUNDS: usize = 3;
+const MOST_TIME: u128 = 2_000;
 
 /// Short acts are measured more often, until this time is over, in milliseconds: others use the machine, too.
 const LEAST_TIME: u128 = 60;
@@ -30,10 +34,7 @@ const ROUND_TIME: f64 = 40_000.0;
 
 /// The models of the short and of the long lists.
 pub const SHORT: usize = 1_000;
-const LONG: [usize; 6] = [100_000, 50_000, 20_000, 10_000, 5_000, 2_000];
-
-/// A long list should not last longer, in nanoseconds.
-const LONG_TIME: f64 = 300e6;
+const LONG: usize = 100_000;
 
 /// The bar: the largest ratio of a row, and the geometric mean of all.
 const BAR: (f64, f64) = (1.5, 1.2);
@@ -74,6 +75,11 @@ fn deeper(levels: usize, run: &mut dyn FnMut()) {
     black_box(&level);
 }
 
+/// Whether to go on after so many rounds and milliseconds.
+fn more_rounds(rounds: usize, time: u128) -> bool {
+    rounds < FEWEST_ROUNDS || (rounds < ROUNDS && time < MOST_TIME) || time < LEAST_TIME
+}
+
 /// The best times of an act. The implementations take turns, so that what disturbs one disturbs all; the first calls only warm
 /// up.
 pub fn times(mut act: impl FnMut(&dyn Lister)) -> Times {
@@ -85,7 +91,7 @@ pub fn times(mut act: impl FnMut(&dyn Lister)) -> Times {
     let mut best = [f64::INFINITY; 3];
     let start = Instant::now();
     let mut round = 0;
-    while round < ROUNDS || start.elapsed().as_millis() < LEAST_TIME {
+    while more_rounds(round, start.elapsed().as_millis()) {
         for (i, lister) in LISTERS.iter().enumerate() {
             deeper(round % ROUNDS, &mut || {
                 best[i] = best[i].min(time_of(calls[i], *lister, &mut act));
@@ -232,14 +238,6 @@ pub fn mean_times(times: &[Times]) -> Times {
     [0, 1, 2].map(|i| mean(times.iter().map(|t| t[i])))
 }
 
-/// How many models a long list of a family has: fewer where a model takes long.
-fn long_list(short: &[Times]) -> usize {
-    let slowest = short.iter().map(|times| times[0]).fold(0.0, f64::max) / SHORT as f64;
-    LONG.into_iter()
-        .find(|models| *models as f64 * slowest <= LONG_TIME)
-        .unwrap_or(SHORT)
-}
-
 /// The act's name of a list: how many models there are, if not always as many as wanted.
 fn list_name(wanted: usize, least: usize) -> String {
     if least == wanted {
@@ -288,11 +286,9 @@ fn judge_row(family: &Family, cases: &[Case]) -> Row {
 
 fn family_rows(family: &Family) -> Vec<Row> {
     let cases = family.cases();
-    let short = list_row(family, &cases, SHORT);
-    let long = list_row(family, &cases, long_list(&short.times));
     vec![
-        short,
-        long,
+        list_row(family, &cases, SHORT),
+        list_row(family, &cases, LONG),
         walk_row(family, &cases),
         judge_row(family, &cases),
     ]
@@ -383,7 +379,7 @@ pub fn print_comparison() {
     print_table(&table);
     println!();
     println!("- all three have listed the same models and given the same walk calls and matchings");
-    println!("- best of {ROUNDS} rounds or more after a warm-up; a time is the geometric mean over a family's formulas");
+    println!("- best of {ROUNDS} rounds after a warm-up, {FEWEST_ROUNDS} for the longest acts; a time is the geometric mean over a family's formulas");
     println!("- buffers were not cleared between calls; waits for a core are taken off");
     print_verdict(&rows);
     println!(
