@@ -23,8 +23,12 @@ returns-2 c = λ K F. taken-unreplayed K _ _ (sym (c .before .before .before .we
 root-requires : tie.Need-root-requires
 root-requires c κs = search needs
 
+unknown-requires : tie.Need-unknown-requires
+unknown-requires c κs = search needs
+
 returns-3 : tie.Need-returns-3
-returns-3 c = λ K F. taken-unformed K _ _ (sym (c .before .before .well-formed .ensures .0) ∙ c .before .if1 .left) refl
+returns-3 c =
+    λ K F. rw (c .unknown .ensures) (taken-unformed K _ _ (sym (c .before .before .before .well-formed .ensures .0) ∙ c .before .before .if1 .left) refl)
 
 pub read-checkpoint-spec : {M : Type 1} → statement M
 read-checkpoint-spec =
@@ -36,4 +40,5 @@ read-checkpoint-spec =
     returns
     returns-2
     root-requires
+    unknown-requires
     returns-3)

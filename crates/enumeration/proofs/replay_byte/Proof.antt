@@ -26,8 +26,11 @@ short c = let l = valid-short _ _ (entry c .pre .1) (c .before .if1 .left) in om
 low : (c : tie.After-pick) → c .pick .result .choice .variable < 48
 low c = let l = valid-low _ _ (entry c .pre .1) (c .before .if1 .left) _ (c .pick .ensures .0) in omega (arith, entry c .pre .0 .most)
 
+unknown-requires : tie.Need-unknown-requires
+unknown-requires c κs = search needs
+
 returns : tie.Need-returns
-returns c = λ K F h. replayed-full _ K F _ h _ _ (c .if1 .taken)
+returns c = λ K F h. rw (c .unknown .ensures) (replayed-full _ K F _ h _ _ (c .before .if1 .taken))
 
 pick-requires : tie.Need-pick-requires
 pick-requires c κs =
@@ -40,12 +43,17 @@ number-of-requires c κs = search needs
 add-if2 : tie.Need-add-if2
 add-if2 c = record { fits = let l = low (c .before .before .before) in omega arith }
 
+unknown-requires-2 : tie.Need-unknown-requires-2
+unknown-requires-2 c κs = search needs
+
 returns-2 : tie.Need-returns-2
 returns-2 c =
     λ K F h.
-    let p = c .before .before .before .before in
-    replayed-other _ K F _ h (p .before .if1 .left) _ (choice p K F h) _ _
-    (λ q. c .if2 .taken (let e = c .before .before .number-of .ensures in let o = entry p .pre .2 in omega arith))
+    let t = c .before in
+    let p = t .before .before .before .before in
+    rw (c .unknown2 .ensures)
+    (replayed-other _ K F _ h (p .before .if1 .left) _ (choice p K F h) _ _
+    (λ q. t .if2 .taken (let e = t .before .before .number-of .ensures in let o = entry p .pre .2 in omega arith)))
 
 note-requires : tie.Need-note-requires
 note-requires c κs = short (c .before .before .before .before)
@@ -65,7 +73,7 @@ returns-3 c =
     λ K F h.
     let n = c .before .before .before in
     let p = n .before .before .before .before .before in
-    replayed-chosen _ K F _ h (p .before .if1 .left) _ (choice p K F h) _ _ true _ _ (p .pick .ensures .1 K F h)
+    replayed-chosen _ K F _ h (p .before .if1 .left) _ (choice p K F h) _ _ true _ _ (p .pick .ensures .1 .1 K F h)
     (let e = n .before .before .before .number-of .ensures in let q = n .before .if2 .left in omega arith) (le-leb _ _ (c .before .before .if3 .taken))
     (c .apply .ensures ∙ c .before .push .ensures .0 ∙ ap (λ (u : State). pushing u (p .pick .result .choice .variable) true) (n .note .ensures))
 
@@ -84,7 +92,7 @@ returns-4 c =
     λ K F h.
     let n = c .before .before .before in
     let p = n .before .before .before .before .before in
-    replayed-chosen _ K F _ h (p .before .if1 .left) _ (choice p K F h) _ _ false _ _ (p .pick .ensures .1 K F h)
+    replayed-chosen _ K F _ h (p .before .if1 .left) _ (choice p K F h) _ _ false _ _ (p .pick .ensures .1 .1 K F h)
     (let e = n .before .before .before .number-of .ensures in let q = n .before .if2 .left in omega arith) (lt-leb _ _ (c .before .before .if3 .left))
     (c .apply2 .ensures ∙ c .before .push2 .ensures .0 ∙ ap (λ (u : State). pushing u (p .pick .result .choice .variable) false) (n .note .ensures))
 
@@ -92,10 +100,12 @@ pub replay-byte-spec : {M : Type 1} → statement M
 replay-byte-spec =
     tie.close
     (tie.spec
+    unknown-requires
     returns
     pick-requires
     number-of-requires
     add-if2
+    unknown-requires-2
     returns-2
     note-requires
     push-requires

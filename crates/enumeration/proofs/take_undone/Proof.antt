@@ -18,17 +18,25 @@ entry c = c .before .before .before .before .before
 choice : (c : tie.After-pick-by-clauses) (K : Tree) → Follows (entry c .args .f) K → Holds K (entry c .args .s) → c .pick-by-clauses .result .choice ≡ K .choose (stack-in (entry c .args .s))
 choice c K F h = choice-is _ K F _ h (c .before .before .if1 .left) _ (c .pick-by-clauses .ensures .0)
 
+unknown-requires : tie.Need-unknown-requires
+unknown-requires c κs = search needs
+
 returns : tie.Need-returns
-returns c = λ K F n. taken-full _ K F _ n (c .before .before .before .args .value) (c .if1 .taken)
+returns c = λ K F n. rw (c .unknown .ensures) (taken-full _ K F _ n (c .before .before .before .before .args .value) (c .before .if1 .taken))
 
 pick-by-clauses-requires : tie.Need-pick-by-clauses-requires
 pick-by-clauses-requires c κs = search needs
 
+unknown-requires-2 : tie.Need-unknown-requires-2
+unknown-requires-2 c κs = search needs
+
 returns-2 : tie.Need-returns-2
 returns-2 c =
     λ K F n.
-    let p = c .before .before .before .before in
-    rw (c .before .before .if2 .taken) (taken-true-root _ K F _ n (p .before .before .if1 .left) _ (choice p K F (n .holds)) (c .if3 .taken))
+    let t = c .before in
+    let p = t .before .before .before .before in
+    rw (t .before .before .if2 .taken, c .unknown2 .ensures)
+    (taken-true-root _ K F _ n (p .before .before .if1 .left) _ (choice p K F (n .holds)) (t .if3 .taken))
 
 placed-requires : tie.Need-placed-requires
 placed-requires c κs = search needs
@@ -40,12 +48,16 @@ returns-3 c =
     rw (c .before .before .before .if2 .taken)
     (taken-true _ K F _ n (p .before .before .if1 .left) _ (choice p K F (n .holds)) (c .before .if3 .left) _ (c .placed .ensures))
 
+unknown-requires-3 : tie.Need-unknown-requires-3
+unknown-requires-3 c κs = search needs
+
 returns-4 : tie.Need-returns-4
 returns-4 c =
     λ K F n.
-    let p = c .before .before .before .before .before .before in
-    rw (c .before .before .before .before .if2 .left)
-    (taken-false-root _ K F _ n (p .before .before .if1 .left) _ (choice p K F (n .holds)) (c .before .before .if4 .taken) (not-true _ (c .if5 .taken)))
+    let t = c .before in
+    let p = t .before .before .before .before .before .before in
+    rw (t .before .before .before .before .if2 .left, c .unknown3 .ensures)
+    (taken-false-root _ K F _ n (p .before .before .if1 .left) _ (choice p K F (n .holds)) (t .before .before .if4 .taken) (not-true _ (t .if5 .taken)))
 
 mark-requires : tie.Need-mark-requires
 mark-requires c κs =
@@ -66,11 +78,14 @@ pub take-undone-spec : {M : Type 1} → statement M
 take-undone-spec =
     tie.close
     (tie.spec
+    unknown-requires
     returns
     pick-by-clauses-requires
+    unknown-requires-2
     returns-2
     placed-requires
     returns-3
+    unknown-requires-3
     returns-4
     mark-requires
     returns-5)
