@@ -1,5 +1,6 @@
 // Encoded formulas: the reader, its refusals, and the act check.
 ghost use mathlib.Core.Path.{_≡_};
+ghost use mathlib.Core.Bool.{false};
 ghost use Prim.Native.Nat.{_+_, _<_, _≤_, _^_};
 ghost use lib.ListN.{length, getD};
 ghost use mathlib.Core.List.{[]};
@@ -292,6 +293,7 @@ fn take_literal(input: &[u8], r: Reader) -> Reader
 fn read_literals(input: &[u8], r: Reader) -> Reader
     requires { ⌜ (r .at ≤ length (now input)) × (r .variables ≤ 48) ⌝ }
     ensures { λ x. ⌜ Passes (now (input .entry)) r x ⌝ }
+    ensures { λ x. ⌜ literal-stands (now (input .entry)) x ≡ false ⌝ }
 {
     let mut reader = r;
     while is_literal(input, reader) {

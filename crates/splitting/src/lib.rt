@@ -8,7 +8,7 @@ ghost use mathlib.Core.List.{map};
 ghost use Prim.Native.Nat.{ℕ, _<_, _≤_};
 ghost use lib.ListN.{length};
 ghost use Rattle.lists.specs.Over.{over};
-ghost use Rattle.masks.specs.Mask.{members};
+ghost use Rattle.masks.specs.Mask.{bit, members};
 ghost use Rattle.formula.specs.Masked.{FormulaFits, named};
 ghost use Rattle.splitting.specs.Choosing.{both-open};
 ghost use Rattle.splitting.specs.InnerChoose.{set-to, satisfied-under, left-under, node, unnamed, survey-of, some-empty, matching-at, unassigned, clause-in, clauses-in, formula-in, formula-at, Small, reduce-from, tried, passing, greatest, listed-last, all-satisfied, free-choice, chosen};
@@ -187,6 +187,7 @@ fn compact(
 fn first_named(positives: &[u64; 96], negatives: &[u64; 96], count: usize, v: usize) -> usize
     requires { ⌜ (count ≤ 96) × (v < 64) ⌝ }
     ensures { λ r. ⌜ (r ≤ count) × (unnamed (clauses-in (now (positives .entry)) (now (negatives .entry)) count) v r ≡ clauses-in (now (positives .entry)) (now (negatives .entry)) r) ⌝ }
+    ensures { λ r. ⌜ (r < count → bit (named (clause-in (now (positives .entry)) (now (negatives .entry)) r)) v ≡ true) ⌝ }
 {
     let mut i: usize = 0;
     while i < count {

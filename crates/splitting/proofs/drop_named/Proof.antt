@@ -31,7 +31,7 @@ first-named-requires c κs = search needs
 loop-holds : tie.Need-loop-holds Inv-loop μ-loop
 loop-holds c =
     let s = c .before .before .before in
-    (c .first-named .ensures .0, search needs, s .pre .2, s .pre .3, sym (c .first-named .ensures .1), λ j l. refl)
+    (c .first-named .ensures .0 .0, search needs, s .pre .2, s .pre .3, sym (c .first-named .ensures .0 .1), λ j l. refl)
 
 clause-at-requires : tie.Need-clause-at-requires Inv-loop μ-loop
 clause-at-requires c κs = search needs

@@ -29,7 +29,10 @@ member-requires : tie.Need-member-requires Inv-loop μ-loop
 member-requires c κs = search needs
 
 returns : tie.Need-returns Inv-loop μ-loop
-returns c = c .before .before .before .before .before .loop .inv
+returns c =
+    let l = c .before .before .before .before .before in
+    let x = c .before .before .before .clause-at in
+    (l .loop .inv, λ h. ap (λ (d : Clause). bit (named d) (l .before .args .v)) (sym (x .ensures)) ∙ sym (c .before .member .ensures) ∙ c .if1 .taken)
 
 add-i : tie.Need-add-i Inv-loop μ-loop
 add-i c = search needs
@@ -48,7 +51,7 @@ loop-again c =
     )
 
 returns-2 : tie.Need-returns-2 Inv-loop μ-loop
-returns-2 c = c .before .loop .inv
+returns-2 c = (c .before .loop .inv, λ h. absurd (omega (arith, c .loop-test .left)))
 
 pub first-named-spec : {M : Type 1} → statement M
 first-named-spec =
