@@ -24,7 +24,7 @@ use Rattle.formula.specs.declared.Refusal.the-variants.{StrayVariable}
 use Rattle.formula.specs.Check.{said-yes, said-no, answer, refusal, checked}
 use Rattle.formula.specs.Decode.{refused, decode}
 use Rattle.formula.specs.Format.{Literal}
-use Rattle.formula.specs.InnerCheck.{clause-holds, clauses-hold}
+use Rattle.formula.specs.InnerCheck.{clause-holds, all-first, clauses-hold}
 use Rattle.formula.specs.Masked.{no-clause, with-literal, with-literals, clause-of}
 use Rattle.formula.specs.Models.{stands, holds, satisfied, stray}
 use Rattle.formula.proofs.MaskedLaws.{Accepts}
@@ -88,33 +88,33 @@ clause-holds-of a c = with-literals-holds a no-clause c
 
 -- ---- all clauses
 
--- one clause more
-pub clauses-hold-more : (a : ℕ) (cs : List Clause) (i : ℕ) → clauses-hold a cs i ≡ true → clause-holds a (getD cs i no-clause) ≡ true → clauses-hold a cs (i + 1) ≡ true
-unfolding clauses-hold
-clauses-hold-more a cs i p q = rw (add-one, clauses-hold, p, q)
+-- one clause more that passes a test
+pub all-more : (test : Clause → Bool) (cs : List Clause) (i : ℕ) → all-first test cs i ≡ true → test (getD cs i no-clause) ≡ true → all-first test cs (i + 1) ≡ true
+unfolding all-first
+all-more test cs i p q = rw (add-one, all-first, p, q)
 
--- a clause that does not hold
-pub clauses-hold-fails : (a : ℕ) (cs : List Clause) (i n : ℕ) → i < n → clause-holds a (getD cs i no-clause) ≡ false → clauses-hold a cs n ≡ false
-unfolding clauses-hold
-clauses-hold-fails a cs i zero l e = absurd (omega arith)
-clauses-hold-fails a cs i (suc n) l e = go (decLt i n) (clauses-hold-fails a cs i n)
+-- one that does not pass
+pub all-fails : (test : Clause → Bool) (cs : List Clause) (i n : ℕ) → i < n → test (getD cs i no-clause) ≡ false → all-first test cs n ≡ false
+unfolding all-first
+all-fails test cs i zero l e = absurd (omega arith)
+all-fails test cs i (suc n) l e = go (decLt i n) (all-fails test cs i n)
   where
-    go : Dec (i < n) → (i < n → clause-holds a (getD cs i no-clause) ≡ false → clauses-hold a cs n ≡ false) → clauses-hold a cs n && clause-holds a (getD cs n no-clause) ≡ false
+    go : Dec (i < n) → (i < n → test (getD cs i no-clause) ≡ false → all-first test cs n ≡ false) → all-first test cs n && test (getD cs n no-clause) ≡ false
     go (yes k) ih = rw (ih k e)
-    go (no k) ih = let q : n ≡ i = omega arith in rw (q, e) (and-false (clauses-hold a cs i))
+    go (no k) ih = let q : n ≡ i = omega arith in rw (q, e) (and-false (all-first test cs i))
 
 clauses-hold-cons : (a : ℕ) (c : Clause) (cs : List Clause) (n : ℕ) → clauses-hold a (c ∷ cs) (suc n) ≡ clause-holds a c && clauses-hold a cs n
-unfolding clauses-hold
+unfolding all-first
 clauses-hold-cons a c cs zero = sym (and-true (clause-holds a c))
 clauses-hold-cons a c cs (suc n) = ap (λ (b : Bool). b && clause-holds a (getD cs n no-clause)) (clauses-hold-cons a c cs n) ∙ and-assoc (clause-holds a c) (clauses-hold a cs n) (clause-holds a (getD cs n no-clause))
 
 clauses-hold-padded : (a k : ℕ) (cs : List Clause) (n : ℕ) → n ≤ length cs → clauses-hold a (padded k no-clause cs) n ≡ clauses-hold a cs n
-unfolding clauses-hold
+unfolding all-first
 clauses-hold-padded a k cs zero l = refl
 clauses-hold-padded a k cs (suc n) l = rw (clauses-hold-padded a k cs n (omega arith), getD-padded k no-clause cs n no-clause l)
 
 clauses-hold-map : (a : ℕ) (cs : List (List Literal)) → clauses-hold a (map clause-of cs) (length cs) ≡ satisfied a cs
-unfolding satisfied clauses-hold
+unfolding satisfied all-first
 clauses-hold-map a [] = refl
 clauses-hold-map a (c ∷ cs) = clauses-hold-cons a (clause-of c) (map clause-of cs) (length cs) ∙ rw (clause-holds-of a c, clauses-hold-map a cs)
 

@@ -12,7 +12,11 @@ use Rattle.formula.specs.Masked.{no-clause}
 abbrev pub clause-holds : ℕ → Clause → Bool
 clause-holds a c = meets (c .positive) a || not (eqb (minus (c .negative) a) 0)
 
--- the first n clauses of an array hold
-unfoldable pub clauses-hold : ℕ → List Clause → ℕ → Bool
-clauses-hold a cs zero = true
-clauses-hold a cs (suc n) = clauses-hold a cs n && clause-holds a (getD cs n no-clause)
+-- the first n clauses of an array pass a test
+unfoldable pub all-first : (Clause → Bool) → List Clause → ℕ → Bool
+all-first test cs zero = true
+all-first test cs (suc n) = all-first test cs n && test (getD cs n no-clause)
+
+-- they hold
+abbrev pub clauses-hold : ℕ → List Clause → ℕ → Bool
+clauses-hold a cs n = all-first (clause-holds a) cs n

@@ -1,6 +1,6 @@
 -- What the code of the choice computes over masks; proofs/MaskChoiceLaws.antt ties it to Choosing.
 use Prim.Native.Nat.{ℕ, zero, suc, _+_, _^_, _<_, _≤_}
-use mathlib.Core.Bool.{Bool, true, false, not, cond, _&&_, _||_}
+use mathlib.Core.Bool.{Bool, true, false, not, cond, _||_}
 use mathlib.Core.List.{List, [], _∷_, _++_, map}
 use lib.Bits.{bitOr, bitXor}
 use lib.Dec.{eqb}
@@ -13,6 +13,7 @@ use Rattle.matching.specs.Search.{Outcome, outcome, succeeds, expansions}
 use Rattle.formula.specs.declared.Clause.{Clause}
 use Rattle.formula.specs.declared.Formula.{Formula}
 use Rattle.formula.specs.Format.{Literal}
+use Rattle.formula.specs.InnerCheck.{all-first}
 use Rattle.formula.specs.Masked.{no-clause, side, named}
 use Rattle.splitting.specs.declared.Assignment.{Assignment}
 use Rattle.splitting.specs.declared.Choice.{Choice}
@@ -48,14 +49,9 @@ open-clauses cs a (suc n) =
 abbrev pub node : Formula → Assignment → List Clause
 node f a = open-clauses (f .clauses) a (f .count)
 
--- the first n clauses are satisfied
-unfoldable pub satisfied-first : List Clause → Assignment → ℕ → Bool
-satisfied-first cs a zero = true
-satisfied-first cs a (suc n) = satisfied-first cs a n && satisfied-under a (getD cs n no-clause)
-
 -- no clause is left at the node
 abbrev pub all-satisfied : Formula → Assignment → Bool
-all-satisfied f a = satisfied-first (f .clauses) a (f .count)
+all-satisfied f a = all-first (satisfied-under a) (f .clauses) (f .count)
 
 -- those of the first n clauses that do not name v
 unfoldable pub unnamed : List Clause → ℕ → ℕ → List Clause

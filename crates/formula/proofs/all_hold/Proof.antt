@@ -4,8 +4,8 @@ use native.Mathlib.Omega.{arith}
 use mathlib.Core.Bool.{true}
 use mathlib.Core.Path.{_≡_, refl, sym, _∙_}
 use borrow.Author.Tests.{not-true, not-false}
-use Rattle.formula.specs.InnerCheck.{clauses-hold}
-use Rattle.formula.proofs.CheckLaws.{clauses-hold-more, clauses-hold-fails}
+use Rattle.formula.specs.InnerCheck.{all-first, clauses-hold}
+use Rattle.formula.proofs.CheckLaws.{all-more, all-fails}
 use borrow.Author.Needs.{needs}
 use Rattle.formula.proofs.all_hold.Statement.{statement}
 use Rattle.formula.proofs.all_hold.Tie as tie
@@ -17,7 +17,7 @@ abbrev μ-loop : tie.MeasureT-loop
 μ-loop assignment f i₀ i = f .count - i
 
 loop-holds : tie.Need-loop-holds Inv-loop μ-loop
-unfolding clauses-hold
+unfolding all-first
 loop-holds c = (search needs, refl)
 
 mul-holds : tie.Need-mul-holds Inv-loop μ-loop
@@ -30,7 +30,7 @@ holds-requires : tie.Need-holds-requires Inv-loop μ-loop
 holds-requires c κs = search needs
 
 returns : tie.Need-returns Inv-loop μ-loop
-returns c = sym (clauses-hold-fails _ _ (c .before .before .before .before .loop .i) _ (c .before .before .before .loop-test .taken) (sym (c .before .holds .ensures) ∙ not-true _ (c .if1 .taken)))
+returns c = sym (all-fails _ _ (c .before .before .before .before .loop .i) _ (c .before .before .before .loop-test .taken) (sym (c .before .holds .ensures) ∙ not-true _ (c .if1 .taken)))
 
 add-i : tie.Need-add-i Inv-loop μ-loop
 add-i c = search needs
@@ -39,7 +39,7 @@ loop-less : tie.Need-loop-less Inv-loop μ-loop
 loop-less c = search needs
 
 loop-again : tie.Need-loop-again Inv-loop μ-loop
-loop-again c = (search needs, clauses-hold-more _ _ (c .before .before .before .before .loop .i) (c .before .before .before .before .loop .inv .1) (sym (c .before .holds .ensures) ∙ not-false _ (c .if1 .left)))
+loop-again c = (search needs, all-more _ _ (c .before .before .before .before .loop .i) (c .before .before .before .before .loop .inv .1) (sym (c .before .holds .ensures) ∙ not-false _ (c .if1 .left)))
 
 returns-2 : tie.Need-returns-2 Inv-loop μ-loop
 returns-2 c = let e : c .before .loop .i ≡ c .before .before .args .t1 .count = omega arith in sym (rw e at (c .before .loop .inv .1))
