@@ -1,6 +1,6 @@
 -- Literals that are read without an event: what stands there, and what it makes of the reader.
 use Prim.Native.Nat.{ℕ, _+_, _-_, _≤_, _<_}
-use mathlib.Core.Bool.{Bool, true, false, not, _&&_, _||_}
+use mathlib.Core.Bool.{true, false, _||_}
 use mathlib.Core.List.{List}
 use mathlib.Core.Logic.{⊎-elim}
 use mathlib.Core.Path.{_≡_}
@@ -10,11 +10,10 @@ use lib.ListN.{length, getD}
 use borrow.Author.Tests.{eqb-true, ne-eqb, ltb-true, lt-ltb, not-true}
 use Rattle.lists.proofs.TestLaws.{and-left, and-right, or-cases}
 use Rattle.masks.specs.Mask.{bit}
-use Rattle.formula.specs.declared.Clause.{Clause}
 use Rattle.formula.specs.declared.Event.the-variants.{Next}
 use Rattle.formula.specs.declared.Reader.{Reader}
 use Rattle.formula.specs.Decode.{one-to}
-use Rattle.formula.specs.InnerReader.{variable-event, literal-event, record-event, literal-stands, literal-read, Reads, Passes}
+use Rattle.formula.specs.InnerReader.{variable-event, literal-event, record-event, literal-stands, literal-read, Passes}
 use Rattle.formula.specs.Masked.{named}
 use Rattle.formula.proofs.OneTo.{one-to-least, one-to-most}
 use Rattle.formula.proofs.ReaderLaws.{whole, turn-next}

@@ -1,5 +1,4 @@
 -- `push` assigns one variable more.
-use native.Mathlib.Omega.{arith}
 use borrow.Author.Needs.{needs}
 use Rattle.enumeration.proofs.push.Statement.{statement}
 use Rattle.enumeration.proofs.push.Tie as tie

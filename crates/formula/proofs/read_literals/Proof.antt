@@ -4,7 +4,6 @@ use mathlib.Core.Bool.{true}
 use mathlib.Core.Path.{_≡_, sym, _∙_}
 use native.Mathlib.Omega.{arith}
 use lib.ListN.{length}
-use borrow.Author.Needs.{needs}
 use Rattle.formula.specs.InnerReader.{literal-stands, Passes}
 use Rattle.formula.proofs.LiteralLaws.{stands, stands-least, stands-most, passes-none, passes-more}
 use Rattle.formula.proofs.read_literals.Statement.{statement}

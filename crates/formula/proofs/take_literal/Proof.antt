@@ -1,5 +1,4 @@
 -- `take_literal` is the reader behind the literal.
-use mathlib.Core.Path.{ap, _∙_}
 use borrow.Author.Needs.{needs}
 use Rattle.formula.proofs.take_literal.Statement.{statement}
 use Rattle.formula.proofs.take_literal.Tie as tie
