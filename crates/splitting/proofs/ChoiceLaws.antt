@@ -9,13 +9,14 @@ use lib.ListN.{length}
 use borrow.Author.Tests.{not-true, not-false}
 use Rattle.lists.proofs.TestLaws.{clash}
 use Rattle.lists.proofs.SublistLaws.{sub-within, sub-length}
+use Rattle.masks.specs.Mask.{size}
 use Rattle.matching.specs.Matched.{Matched}
 use Rattle.formula.specs.Format.{Literal}
 use Rattle.formula.specs.Masked.{variables}
 use Rattle.splitting.specs.Nodes.{assign, named, lowest-with}
 use Rattle.splitting.specs.Stripping.{stripped}
 use Rattle.splitting.specs.Choosing.{trial, first-passing, candidates, among, listed, last, emptied, last-listed, by-left, by-remaining}
-use Rattle.splitting.specs.Terms.{Below, NonePure, Sound, Satisfies, opened}
+use Rattle.splitting.specs.Terms.{Below, NonePure, Sound, Satisfies, Covers, opened}
 use Rattle.splitting.proofs.ClauseLaws.{named-by, named-within}
 use Rattle.splitting.proofs.SearchLaws.{lowest-found}
 use Rattle.splitting.proofs.StrippingLaws.{left-sub, left-none-pure}
@@ -124,20 +125,20 @@ chosen-closed n free (c ∷ cs) b o a sat e = go (stripped n (c ∷ cs) .left) b
     go (k ∷ left) false o e = clash (first-open (k ∷ left) (candidates n (k ∷ left)) 0 .0) o
     go (k ∷ left) true o e = clash (first-open (k ∷ left) (candidates n (k ∷ left)) 0 .1) o
 
--- at most n trials of two matchings
-pub chosen-cost : (n m : ℕ) (free : ℕ → Bool) (ds : List (List Literal)) → n ≤ 64 → Below n ds → length ds ≤ m
-    → by-remaining n free ds .expansions ≤ n * (m * suc m)
+-- a trial of two matchings for each variable of the mask at most
+pub chosen-cost : (n m scope : ℕ) (free : ℕ → Bool) (ds : List (List Literal)) → n ≤ 64 → Below n ds → Covers scope ds → length ds ≤ m
+    → by-remaining n free ds .expansions ≤ size scope * (m * suc m)
 unfolding last-listed
-chosen-cost n m free [] fits low few = omega arith
-chosen-cost n m free (c ∷ cs) fits low few = go (stripped n (c ∷ cs) .left) refl
+chosen-cost n m scope free [] fits low covers few = omega arith
+chosen-cost n m scope free (c ∷ cs) fits low covers few = go (stripped n (c ∷ cs) .left) refl
   where
     go : (left : List (List Literal)) → stripped n (c ∷ cs) .left ≡ left
-        → by-left n (c ∷ cs) (stripped n (c ∷ cs) .noted) left .expansions ≤ n * (m * suc m)
+        → by-left n (c ∷ cs) (stripped n (c ∷ cs) .noted) left .expansions ≤ size scope * (m * suc m)
     go [] e = omega arith
     go (k ∷ left) e =
         let s = subst (λ (l : List (List Literal)). Sublistᴰ l (c ∷ cs)) e (left-sub n (c ∷ cs)) in
         let l = sub-length s in
-        let q = first-cost n m (k ∷ left) (candidates n (k ∷ left)) 0 fits
-        (λ v t. low v (named-within (k ∷ left) (c ∷ cs) v (sub-within s) t)) (omega arith) in
-        let p = mul-le-mul-right (m * suc m) (candidates-length n (k ∷ left)) in
+        let within : (v : ℕ) → named (k ∷ left) v ≡ true → named (c ∷ cs) v ≡ true = λ v t. named-within (k ∷ left) (c ∷ cs) v (sub-within s) t in
+        let q = first-cost n m (k ∷ left) (candidates n (k ∷ left)) 0 fits (λ v t. low v (within v t)) (omega arith) in
+        let p = mul-le-mul-right (m * suc m) (candidates-length n scope (k ∷ left) fits (λ v t. covers v (within v t))) in
         omega arith

@@ -317,14 +317,14 @@ module _ (g f : Formula) (b a : Assignment) (e : node g b ≡ node f a) where
 
 -- ---- the choice
 
-module _ (f : Formula) (small : Small f) (settle : ℕ) (a : Assignment) (names : Survey) (n : names ≡ survey-of (node f a)) (t : names .any ≡ true)
+module _ (f : Formula) (small : Small f) (scope : ℕ) (a : Assignment) (names : Survey) (n : names ≡ survey-of (node f a)) (t : names .any ≡ true)
     (r : Reduced) (e : r ≡ reduce-from (f .variables) (formula-at f a) unassigned 0 0) where
   same : Same (formula-at f a) f r (reduced f a)
   same = rw e (reduce-same (formula-at f a) f small (f .variables) unassigned a 0 0 (node-at f a))
 
   -- stripping leaves clauses
   pub choice-passing : r .survey .any ≡ true
-      → passing (formula-at (formula-at f a) (r .assignment)) unassigned (members (bitOr (r .survey .positive) (r .survey .negative)) 64) 0 ≡ chosen f settle a
+      → passing (formula-at (formula-at f a) (r .assignment)) unassigned (members (bitOr (r .survey .positive) (r .survey .negative)) 64) 0 ≡ chosen f scope a
   choice-passing s =
       let w = reduced f a in
       let m = bitOr (w .survey .positive) (w .survey .negative) in
@@ -336,22 +336,22 @@ module _ (f : Formula) (small : Small f) (settle : ℕ) (a : Assignment) (names 
       (free-none v, named-free f (w .assignment) v (rw (reduce-survey (f .variables) f a 0 0) at is))) in
       rw (same .survey)
       (passing-same (formula-at (formula-at f a) (r .assignment)) f unassigned (w .assignment) (node-at (formula-at f a) (r .assignment) ∙ same .nodes) (members m 64) 0 free
-      ∙ chosen-passing f settle a names n t w refl (rw (same .survey) at s))
+      ∙ chosen-passing f scope a names n t w refl (rw (same .survey) at s))
 
   module _ (s : r .survey .any ≡ false) (others : ℕ) (o : others ≡ minus (bitOr (names .positive) (names .negative)) (r .noted)) where
     -- it leaves none, and every variable that was named is noted
-    pub choice-noted : others ≡ 0 → listed-last (formula-at f a) unassigned (r .last) ≡ chosen f settle a
+    pub choice-noted : others ≡ 0 → listed-last (formula-at f a) unassigned (r .last) ≡ chosen f scope a
     choice-noted z =
         listed-same (formula-at f a) f unassigned a (node-at f a) (r .last) (free-none (r .last))
         (rw (same .last) (noted-free f small (f .variables) a (rw n at t) (rw (same .survey) at s)))
         ∙ ap (listed-last f a) (same .last)
-        ∙ chosen-noted f settle a names n t (reduced f a) refl (rw (same .survey) at s) others (rw (same .noted) at o) z
+        ∙ chosen-noted f scope a names n t (reduced f a) refl (rw (same .survey) at s) others (rw (same .noted) at o) z
 
     -- or another one was named
-    pub choice-other : others < 2 ^ 64 → (others ≡ 0 → ⊥) → listed-last (formula-at f a) unassigned (greatest others) ≡ chosen f settle a
+    pub choice-other : others < 2 ^ 64 → (others ≡ 0 → ⊥) → listed-last (formula-at f a) unassigned (greatest others) ≡ chosen f scope a
     choice-other l z =
         let m = greatest others in
         let is : bit (minus (bitOr (names .positive) (names .negative)) (r .noted)) m ≡ true = ap (λ (x : ℕ). bit x m) (sym o) ∙ greatest-member others l z in
         let at : bit (bitOr (names .positive) (names .negative)) m ≡ true = and-left _ _ (sym (bit-minus (bitOr (names .positive) (names .negative)) (r .noted) m) ∙ is) in
         listed-same (formula-at f a) f unassigned a (node-at f a) m (free-none m) (named-free f a m (rw n at at))
-        ∙ chosen-other f settle a names n t (reduced f a) refl (rw (same .survey) at s) others (rw (same .noted) at o) z
+        ∙ chosen-other f scope a names n t (reduced f a) refl (rw (same .survey) at s) others (rw (same .noted) at o) z

@@ -1,11 +1,16 @@
 -- Laws of counting: smaller sets, and sets that miss a number or have them all.
-use Prim.Native.Nat.{ℕ, zero, suc, _≤_, _<_}
-use mathlib.Core.Path.{_≡_, refl}
+use Prim.Native.Nat.{ℕ, zero, suc, _^_, _≤_, _<_}
+use mathlib.Core.Path.{_≡_, refl, _∙_}
 use mathlib.Core.Bool.{Bool, true, false, not}
 use mathlib.Core.Logic.{⊎-elim}
 use native.Mathlib.Omega.{arith}
 use lib.Dec.{eqb}
+use lib.Pow.{pow-pos}
+use borrow.Author.Tests.{lt-ltb}
 use Rattle.lists.proofs.TestLaws.{and-left, look, clash}
+use Rattle.masks.specs.Mask.{bit, full, size}
+use Rattle.masks.proofs.BitLaws.{bit-full, bit-below}
+use Rattle.matching.proofs.MatchedLaws.{count-members}
 use Rattle.matching.proofs.Counting.{below-cases, count, count-all, count-except, except, except-i, pigeon}
 
 -- what is in a set without a is in the set
@@ -45,6 +50,35 @@ count-full f (suc n) h i l =
     (λ (t : f n ≡ true). ⊎-elim (λ (e : i ≡ n). rw e t) (λ (k : i < n). count-full f n (let z = (rw t at h) in omega arith) i k) (below-cases l))
     (λ (e : f n ≡ false). let q = count-le f n in let z = (rw e at h) in absurd (omega arith))
     (look (f n))
+
+-- what counts less than another set misses one of it
+pub count-lacks : (f g : ℕ → Bool) (n : ℕ) → count f n < count g n → (i : ℕ) × (i < n) × (g i ≡ true) × (f i ≡ false)
+unfolding count
+count-lacks f g zero h = absurd (omega arith)
+count-lacks f g (suc n) h = at (f n) (g n) refl refl (count-lacks f g n)
+  where
+    at : (x y : Bool) → f n ≡ x → g n ≡ y → (count f n < count g n → (i : ℕ) × (i < n) × (g i ≡ true) × (f i ≡ false))
+        → (i : ℕ) × (i < suc n) × (g i ≡ true) × (f i ≡ false)
+    at false true p q ih = (n, omega arith, q, p)
+    at true true p q ih = let w = ih (let z = (rw (p, q) at h) in omega arith) in (w .0, omega (arith, w .1), w .2, w .3)
+    at x false p q ih = let w = ih (let z = (rw q at h) in omega arith) in (w .0, omega (arith, w .1), w .2, w .3)
+
+-- a mask of variables below n has as many as count there
+pub size-count : (n m : ℕ) → n ≤ 64 → m < 2 ^ n → count (bit m) n ≡ size m
+size-count n m fits h =
+    let e = count-members m 64 in
+    let less = pigeon (bit m) n (bit m) 64 (λ i. i) (λ i l t. (omega arith, t)) (λ i j _ _ _ _ e. e) in
+    let more = pigeon (bit m) 64 (bit m) n (λ i. i) (λ i l t. (bit-below n i m h t, t)) (λ i j _ _ _ _ e. e) in
+    omega arith
+
+-- all variables below n are n
+pub size-full : (n : ℕ) → n ≤ 64 → size (full n) ≡ n
+size-full n fits =
+    let e = size-count n (full n) fits (let z = pow-pos n in omega arith) in
+    let a = count-all n in
+    let c = count-le (bit (full n)) n in
+    let more = pigeon (λ _. true) n (bit (full n)) n (λ i. i) (λ i l t. (l, bit-full n i ∙ lt-ltb i n l)) (λ i j _ _ _ _ e. e) in
+    omega arith
 
 -- nothing counts nothing
 pub count-none : (f : ℕ → Bool) (n : ℕ) → ((i : ℕ) → f i ≡ false) → count f n ≡ 0

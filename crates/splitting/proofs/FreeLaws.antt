@@ -49,9 +49,9 @@ module _ (f : Formula) (a : Assignment) (e : all-satisfied f a ≡ true) where
   satisfied-stays v b = first-stays (f .clauses) a v b (f .count) e
 
   -- the choice there
-  pub chosen-satisfied : (settle : ℕ) → chosen f settle a ≡ free-choice settle a
+  pub chosen-satisfied : (scope : ℕ) → chosen f scope a ≡ free-choice scope a
   unfolding chosen survey-from
-  chosen-satisfied settle = rw (chosen, none-open (f .clauses) a (f .count) e)
+  chosen-satisfied scope = rw (chosen, none-open (f .clauses) a (f .count) e)
 
 -- where some clause is left
 pub some-open : (f : Formula) (a : Assignment) → all-satisfied f a ≡ false → survey-of (node f a) .any ≡ true

@@ -444,21 +444,21 @@ greatest-member m h z =
 
 -- ---- the choice
 
-module _ (f : Formula) (settle : ℕ) (a : Assignment) (names : Survey) (n : names ≡ survey-of (node f a)) where
+module _ (f : Formula) (scope : ℕ) (a : Assignment) (names : Survey) (n : names ≡ survey-of (node f a)) where
   module _ (t : names .any ≡ true) (r : Reduced) (e : r ≡ reduced f a) where
     -- stripping leaves clauses
     pub chosen-passing : r .survey .any ≡ true
-        → passing f (r .assignment) (members (bitOr (r .survey .positive) (r .survey .negative)) 64) 0 ≡ chosen f settle a
+        → passing f (r .assignment) (members (bitOr (r .survey .positive) (r .survey .negative)) 64) 0 ≡ chosen f scope a
     unfolding chosen
     chosen-passing s = rw (chosen, ← n, t, ← e, s)
 
     module _ (s : r .survey .any ≡ false) (others : ℕ) (o : others ≡ minus (bitOr (names .positive) (names .negative)) (r .noted)) where
       -- it leaves none, and every variable that was named is noted
-      pub chosen-noted : others ≡ 0 → listed-last f a (r .last) ≡ chosen f settle a
+      pub chosen-noted : others ≡ 0 → listed-last f a (r .last) ≡ chosen f scope a
       unfolding chosen
       chosen-noted z = rw (chosen, ← n, t, ← e, s, ← o, z)
 
       -- or another one was named
-      pub chosen-other : (others ≡ 0 → ⊥) → listed-last f a (greatest others) ≡ chosen f settle a
+      pub chosen-other : (others ≡ 0 → ⊥) → listed-last f a (greatest others) ≡ chosen f scope a
       unfolding chosen
       chosen-other z = rw (chosen, ← n, t, ← e, s, ← o, ne-eqb others 0 z)

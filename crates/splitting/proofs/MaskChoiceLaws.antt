@@ -399,20 +399,20 @@ module _ (n : ℕ) (cs : List (List Literal)) (fits : n ≤ 64) (low : Below n c
       rw (node-more t v false w l e, node-more t v true w l e, empty-emptied (assign v false (remaining t cs)), empty-emptied (assign v true (remaining t cs)))
 
   -- no clause remains
-  when-free : (t : List Literal) (settle : ℕ) → ((v : ℕ) → bit settle v ≡ true → v < n) → (v : ℕ) → unassigned-of settle t v ≡ true
-      → lowest (minus settle (assigned (assignment-of t))) ≡ lowest-with (unassigned-of settle t) n
-  when-free t settle inside v u =
-      lowest-member n (minus settle (assigned (assignment-of t))) (unassigned-of settle t) fits same (λ x h. inside x (and-left (bit settle x) (not (names t x)) h))
-      (member-some (minus settle (assigned (assignment-of t))) v (same v ∙ u)) .1
+  when-free : (t : List Literal) (scope : ℕ) → ((v : ℕ) → bit scope v ≡ true → v < n) → (v : ℕ) → unassigned-of scope t v ≡ true
+      → lowest (minus scope (assigned (assignment-of t))) ≡ lowest-with (unassigned-of scope t) n
+  when-free t scope inside v u =
+      lowest-member n (minus scope (assigned (assignment-of t))) (unassigned-of scope t) fits same (λ x h. inside x (and-left (bit scope x) (not (names t x)) h))
+      (member-some (minus scope (assigned (assignment-of t))) v (same v ∙ u)) .1
     where
-      same : (x : ℕ) → bit (minus settle (assigned (assignment-of t))) x ≡ unassigned-of settle t x
-      same x = bit-minus settle (assigned (assignment-of t)) x ∙ ap (λ (b : Bool). bit settle x && not b) (assigned-trail t x)
+      same : (x : ℕ) → bit (minus scope (assigned (assignment-of t))) x ≡ unassigned-of scope t x
+      same x = bit-minus scope (assigned (assignment-of t)) x ∙ ap (λ (b : Bool). bit scope x && not b) (assigned-trail t x)
 
   -- The choice over masks is the choice over written clauses, wherever a variable is left to assign.
-  pub chosen-choice : (t : List Literal) (settle : ℕ) → Trail n t → ((v : ℕ) → bit settle v ≡ true → v < n) → (v : ℕ) → unassigned-of settle t v ≡ true
-      → chosen f settle (assignment-of t) ≡ choice n settle cs t
+  pub chosen-choice : (t : List Literal) (scope : ℕ) → Trail n t → ((v : ℕ) → bit scope v ≡ true → v < n) → (v : ℕ) → unassigned-of scope t v ≡ true
+      → chosen f scope (assignment-of t) ≡ choice n scope cs t
   unfolding chosen choice survey-from
-  chosen-choice t settle w inside v u = go (remaining t cs) refl
+  chosen-choice t scope w inside v u = go (remaining t cs) refl
     where
       h : Reduces t n 0 0 (reduced f (assignment-of t))
       h = reduces n t 0 0 w
@@ -424,7 +424,7 @@ module _ (n : ℕ) (cs : List (List Literal)) (fits : n ≤ 64) (low : Below n c
       left-any ds e = ap (λ (s : Survey). s .any) (h .surveyed) ∙ ap (λ (d : List (List Literal)). survey-of (map clause-of d) .any) e
 
       remains : (d : List Literal) (ds left : List (List Literal)) → remaining t cs ≡ d ∷ ds → stripped n (remaining t cs) .left ≡ left
-          → chosen f settle (assignment-of t) ≡ by-left n (remaining t cs) (stripped n (remaining t cs) .noted) left
+          → chosen f scope (assignment-of t) ≡ by-left n (remaining t cs) (stripped n (remaining t cs) .noted) left
       remains d ds [] e q =
           let x = last (listed n (remaining t cs) (stripped n (remaining t cs) .noted)) in
           let is : nodes.named (remaining t cs) x ≡ true = last-listed-named n (remaining t cs) (below-node t) (rw e (omega arith)) q in
@@ -434,8 +434,8 @@ module _ (n : ℕ) (cs : List (List Literal)) (fits : n ≤ 64) (low : Below n c
           rw (any-of (d ∷ ds) e, any-some d ds, left-any (c ∷ left) q, any-some c left)
           (when-left t w (reduced f (assignment-of t)) h ∙ ap (λ (l : List (List Literal)). first-passing l (candidates n l) 0) q)
 
-      go : (ds : List (List Literal)) → remaining t cs ≡ ds → chosen f settle (assignment-of t) ≡ by-remaining n (unassigned-of settle t) ds
-      go [] e = rw (any-of [] e) (ap (λ (x : ℕ). both-open x 0) (when-free t settle inside v u))
+      go : (ds : List (List Literal)) → remaining t cs ≡ ds → chosen f scope (assignment-of t) ≡ by-remaining n (unassigned-of scope t) ds
+      go [] e = rw (any-of [] e) (ap (λ (x : ℕ). both-open x 0) (when-free t scope inside v u))
       go (d ∷ ds) e =
           remains d ds (stripped n (remaining t cs) .left) e refl
           ∙ ap (λ (l : List (List Literal)). by-left n l (stripped n l .noted) (stripped n l .left)) e

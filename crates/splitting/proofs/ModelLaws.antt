@@ -67,7 +67,7 @@ remaining-satisfies a (l ∷ t) cs sat g =
     (g l (List·Memᴰ·head refl))
 
 -- only the named variables matter
-satisfies-same : (a b : ℕ → Bool) (cs : List (List Literal)) → ((v : ℕ) → named cs v ≡ true → a v ≡ b v) → Satisfies a cs → Satisfies b cs
+pub satisfies-same : (a b : ℕ → Bool) (cs : List (List Literal)) → ((v : ℕ) → named cs v ≡ true → a v ≡ b v) → Satisfies a cs → Satisfies b cs
 satisfies-same a b cs same sat c m =
     let w = sat c m in
     (w .0, subst (λ s. names-as c (w .0) s ≡ true) (same (w .0) (named-in cs (w .0) (a (w .0)) (occurs-in cs c (w .0) (a (w .0)) m (w .1)))) (w .1))
@@ -188,7 +188,8 @@ unfoldable pub mask : ℕ → (ℕ → Bool) → ℕ
 mask zero a = 0
 mask (suc n) a = cond (a n) (with (mask n a) n) (mask n a)
 
-mask-above : (n : ℕ) (a : ℕ → Bool) (v : ℕ) → n ≤ v → bit (mask n a) v ≡ false
+-- it has none from n on
+pub mask-above : (n : ℕ) (a : ℕ → Bool) (v : ℕ) → n ≤ v → bit (mask n a) v ≡ false
 unfolding mask
 mask-above zero a v l = bit-none v
 mask-above (suc n) a v l = go (a n) (mask-above n a v (omega arith))

@@ -10,6 +10,7 @@ use lib.ListN.{length}
 use lib.Dec.{eqb, ltb}
 use borrow.Author.Tests.{eqb-true, eq-eqb, ltb-true, ltb-false}
 use Rattle.lists.proofs.TestLaws.{or-cases, look, clash, or-left, or-right}
+use Rattle.matching.proofs.Counting.{count}
 use Rattle.splitting.specs.Nodes.{first-from, lowest-with, upward-from, upward}
 use Rattle.splitting.specs.Choosing.{among, last}
 
@@ -129,12 +130,13 @@ upward-from-in f v (suc k) x p q t =
     ⊎-elim (λ (h : f v ≡ true). rw h (among-more x v (upward-from f (suc v) k) u)) (λ (h : f v ≡ false). rw h u) (look (f v)))
     (eq-or-lt-of-le p)
 
-upward-from-length : (f : ℕ → Bool) (v k : ℕ) → length (upward-from f v k) ≤ k
-unfolding upward-from
-upward-from-length f v zero = omega arith
+upward-from-length : (f : ℕ → Bool) (v k : ℕ) → length (upward-from f v k) + count f v ≡ count f (v + k)
+unfolding upward-from count
+upward-from-length f v zero = let e : v + 0 ≡ v = omega arith in rw e (omega arith)
 upward-from-length f v (suc k) =
     let i = upward-from-length f (suc v) k in
-    ⊎-elim (λ (h : f v ≡ true). rw h (omega arith)) (λ (h : f v ≡ false). rw h (omega arith)) (look (f v))
+    let e : suc v + k ≡ v + suc k = omega arith in
+    ⊎-elim (λ (h : f v ≡ true). rw (h, ← e) (omega (arith, (rw h at i)))) (λ (h : f v ≡ false). rw (h, ← e) (omega (arith, (rw h at i)))) (look (f v))
 
 -- the list has the variables below n that the test holds of, and no others
 pub upward-of : (f : ℕ → Bool) (n x : ℕ) → among (upward f n) x ≡ true → (x < n) × (f x ≡ true)
@@ -143,6 +145,7 @@ upward-of f n x t = let w = upward-from-of f 0 n x t in (omega (arith, w .1), w 
 pub upward-in : (f : ℕ → Bool) (n x : ℕ) → x < n → f x ≡ true → among (upward f n) x ≡ true
 upward-in f n x l t = upward-from-in f 0 n x (omega arith) (omega arith) t
 
--- it has at most n
-pub upward-length : (f : ℕ → Bool) (n : ℕ) → length (upward f n) ≤ n
-upward-length f n = upward-from-length f 0 n
+-- it has as many as the test holds of
+pub upward-length : (f : ℕ → Bool) (n : ℕ) → length (upward f n) ≡ count f n
+unfolding count
+upward-length f n = let e = upward-from-length f 0 n in let z : 0 + n ≡ n = omega arith in omega (arith, (rw z at e))

@@ -1,5 +1,5 @@
 -- What is proved of the choice of the next variable (01, 'Which switch is settled next'), over lists of clauses. The words are in Terms.
-use Prim.Native.Nat.{ℕ, suc, _*_, _≤_, _<_}
+use Prim.Native.Nat.{ℕ, suc, _*_, _^_, _≤_, _<_}
 use mathlib.Core.Path.{_≡_, refl}
 use mathlib.Core.Bool.{Bool, true, false}
 use mathlib.Core.List.{List, [], _∷_, _++_, map, List·Memᴰ·head, List·Memᴰ·not-nil, Sublistᴰ}
@@ -7,7 +7,7 @@ use mathlib.Core.Logic.{_↔_}
 use native.Mathlib.Omega.{arith}
 use lib.ListN.{length}
 use Rattle.lists.specs.Every.{Every}
-use Rattle.masks.specs.Mask.{bit, full}
+use Rattle.masks.specs.Mask.{bit, size}
 use Rattle.matching.specs.Matched.{Matched}
 use Rattle.formula.specs.Format.{Literal, names, ClauseOver}
 use Rattle.formula.specs.Models.{Model}
@@ -15,7 +15,7 @@ use Rattle.formula.specs.Masked.{variables}
 use Rattle.splitting.specs.Nodes.{assign, remaining, named}
 use Rattle.splitting.specs.Stripping.{stripped}
 use Rattle.splitting.specs.Choosing.{trial, first-passing, candidates, among, listed, last, emptied, unassigned-of, choice}
-use Rattle.splitting.specs.Terms.{Below, NonePure, Sound, Trail, Agrees, opened}
+use Rattle.splitting.specs.Terms.{Below, NonePure, Sound, Trail, Agrees, Covers, ModelAt, Unassigned, Assigns, opened}
 use Rattle.splitting.proofs.ClauseLaws.{named-by}
 use Rattle.splitting.proofs.StrippingLaws as stripping
 use Rattle.splitting.proofs.NodeLaws as nodes
@@ -53,12 +53,13 @@ pub trial-decides : (n : ℕ) (cs : List (List Literal)) (v : ℕ) → n ≤ 64 
     → (trial cs v .passes ≡ true) ↔ ((b : Bool) → Matched (map variables (assign v b cs)))
 trial-decides n cs v fits low = (trials.passes-matched n cs v fits low, trials.matched-passes n cs v fits low)
 
--- 'try its switches': the candidates are exactly the variables named in what is left, and at most n.
+-- 'try its switches': the candidates are exactly the variables named in what is left.
 pub candidates-are : (n : ℕ) (left : List (List Literal)) → Below n left → (v : ℕ) → (among (candidates n left) v ≡ true) ↔ (named left v ≡ true)
 candidates-are n left low v = (trials.candidates-named n left v, trials.named-candidates n left low v)
 
-pub candidates-few : (n : ℕ) (left : List (List Literal)) → length (candidates n left) ≤ n
-candidates-few n left = trials.candidates-length n left
+-- They are at most as many as a mask has that has them all.
+pub candidates-few : (n scope : ℕ) (left : List (List Literal)) → n ≤ 64 → Covers scope left → length (candidates n left) ≤ size scope
+candidates-few n scope left fits covers = trials.candidates-length n scope left fits covers
 
 -- 'The first switch for which both succeed is chosen.' One exists: the chosen variable is a candidate, and its trial passes.
 pub chosen-passes : (n : ℕ) (cs : List (List Literal)) → n ≤ 64 → Below n cs → Sound n cs → 0 < length (stripped n cs .left)
@@ -98,14 +99,16 @@ pub matched-sound : (n : ℕ) (cs : List (List Literal)) → Matched (map variab
 matched-sound n cs M = sound.matched-sound n cs M
 
 -- Every open value keeps it, in all three cases of the choice.
-pub open-sound : (n settle : ℕ) (cs : List (List Literal)) (t : List Literal) → n ≤ 64 → Below n cs → Sound n (remaining t cs)
-    → (b : Bool) → opened (choice n settle cs t) b ≡ true → Sound n (assign (choice n settle cs t .variable) b (remaining t cs))
+pub open-sound : (n scope : ℕ) (cs : List (List Literal)) (t : List Literal) → n ≤ 64 → Below n cs → Sound n (remaining t cs)
+    → (b : Bool) → opened (choice n scope cs t) b ≡ true → Sound n (assign (choice n scope cs t .variable) b (remaining t cs))
 unfolding choice
-open-sound n settle cs t fits low S = choices.chosen-open n (unassigned-of settle t) (remaining t cs) fits (nodes.below-remaining n t cs low) S
+open-sound n scope cs t fits low S = choices.chosen-open n (unassigned-of scope t) (remaining t cs) fits (nodes.below-remaining n t cs low) S
 
--- A formula with it has a model.
-pub sound-model : (n : ℕ) (cs : List (List Literal)) → Below n cs → Sound n cs → (a : ℕ) × Model n cs a
-sound-model n cs low S = let w = sound.sound-satisfies n cs S in (models.mask n (w .0), models.mask-model n (w .0) cs low (w .1))
+-- A node with it has a model: one that agrees with the trail and has no variable true but the trail's and those of a mask that has the
+-- variables named there.
+pub sound-model : (n scope : ℕ) (cs : List (List Literal)) (t : List Literal) → Below n cs → Covers scope (remaining t cs) → Trail n t → Sound n (remaining t cs)
+    → (a : ℕ) × ModelAt n scope cs t a
+sound-model n scope cs t low covers T S = opens.sound-agrees n scope cs t low covers T S
 
 -- ── Nodes ────────────────────────────────────────────────────────────────────────────────────────────────────────────
 
@@ -117,38 +120,52 @@ formula-below n cs over = nodes.clauses-below n cs over
 pub remaining-snoc : (t : List Literal) (l : Literal) (cs : List (List Literal)) → remaining (t ++ (l ∷ [])) cs ≡ assign (l .variable) (l .positive) (remaining t cs)
 remaining-snoc t l cs = nodes.remaining-snoc t l cs
 
--- Where all n variables are assigned, no clause remains,
-pub full-none : (n : ℕ) (cs : List (List Literal)) (t : List Literal) → Below n cs → Trail n t → length t ≡ n → Sound n (remaining t cs) → remaining t cs ≡ []
-full-none n cs t low T h S = trails.full-none n t cs low T h S
+-- A trail of fewer variables than a mask has lacks one of them,
+pub trail-lacks : (n scope : ℕ) (t : List Literal) → n ≤ 64 → scope < 2 ^ n → Trail n t → length t < size scope → Unassigned n scope t
+trail-lacks n scope t fits below T = trails.trail-lacks n scope fits below t T
+
+-- and one of the mask's variables, as many as it has, has them all.
+pub trail-full : (n scope : ℕ) (t : List Literal) → n ≤ 64 → scope < 2 ^ n → Trail n t → ((v : ℕ) → names t v ≡ true → bit scope v ≡ true)
+    → length t ≡ size scope → Assigns scope t
+trail-full n scope t fits below T = trails.trail-full n scope fits below t T
+
+-- Where every variable of a mask is assigned that has the variables named there, no clause remains,
+pub full-none : (n scope : ℕ) (cs : List (List Literal)) (t : List Literal) → Covers scope (remaining t cs) → Assigns scope t → Sound n (remaining t cs)
+    → remaining t cs ≡ []
+full-none n scope cs t covers all S = trails.full-none n scope t cs covers all S
 
 -- and the trail's assignment is a model.
-pub full-model : (n : ℕ) (cs : List (List Literal)) (t : List Literal) → Below n cs → Trail n t → length t ≡ n → Sound n (remaining t cs)
+pub full-model : (n scope : ℕ) (cs : List (List Literal)) (t : List Literal) → Covers scope (remaining t cs) → Assigns scope t → Sound n (remaining t cs)
     → (a : ℕ) → Agrees (bit a) t → ((v : ℕ) → n ≤ v → bit a v ≡ false) → Model n cs a
-full-model n cs t low T h S a g above =
+full-model n scope cs t covers all S a g above =
     models.satisfies-model n cs a
-    (models.remaining-satisfies (bit a) t cs (rw (trails.full-none n t cs low T h S) (λ c m. absurd (List·Memᴰ·not-nil m))) g)
+    (models.remaining-satisfies (bit a) t cs (rw (trails.full-none n scope t cs covers all S) (λ c m. absurd (List·Memᴰ·not-nil m))) g)
     above
 
 -- ── The choice ───────────────────────────────────────────────────────────────────────────────────────────────────────
 
--- 'Open means that some permitted set-up agrees with everything settled so far.' At a sound node that is not full the chosen variable is
--- one of the n and not yet assigned, and a value of it is open exactly if some model agrees with the trail and has it.
-pub open-means : (n : ℕ) (cs : List (List Literal)) (t : List Literal) → n ≤ 64 → Every (ClauseOver n) cs → Trail n t → length t < n → Sound n (remaining t cs)
-    → (choice n (full n) cs t .variable < n)
-    × (names t (choice n (full n) cs t .variable) ≡ false)
-    × ((b : Bool) → (opened (choice n (full n) cs t) b ≡ true) ↔ ((a : ℕ) × Model n cs a × Agrees (bit a) t × (bit a (choice n (full n) cs t .variable) ≡ b)))
-open-means n cs t fits over T short S =
+-- 'Open means that some permitted set-up agrees with everything settled so far.' At a sound node at which a variable of the mask is
+-- not assigned, and the mask has the variables named there, the chosen variable is such a one, and a value of it is open exactly if some
+-- model agrees with the trail and has it; and then one with no variable true but the mask's and the trail's.
+pub open-means : (n scope : ℕ) (cs : List (List Literal)) (t : List Literal) → n ≤ 64 → Every (ClauseOver n) cs → Covers scope (remaining t cs) → Trail n t
+    → Unassigned n scope t → Sound n (remaining t cs)
+    → (choice n scope cs t .variable < n)
+    × (bit scope (choice n scope cs t .variable) ≡ true)
+    × (names t (choice n scope cs t .variable) ≡ false)
+    × ((b : Bool) → opened (choice n scope cs t) b ≡ true → (a : ℕ) × ModelAt n scope cs t a × (bit a (choice n scope cs t .variable) ≡ b))
+    × ((b : Bool) (a : ℕ) → Model n cs a → Agrees (bit a) t → bit a (choice n scope cs t .variable) ≡ b → opened (choice n scope cs t) b ≡ true)
+open-means n scope cs t fits over covers T lacks S =
     let low = nodes.clauses-below n cs over in
-    let w = opens.full-new n cs t fits low S T short in
-    (w .0, w .1, λ b. (opens.open-model n (full n) cs t fits low S T w b, λ m. opens.model-open n (full n) cs t b (m .0) (m .1) (m .2) (m .3)))
+    let w = opens.choice-new n scope cs t fits low covers T S lacks in
+    (w .0, w .1, w .2, opens.open-model n scope cs t fits low covers T S w, opens.model-open n scope cs t)
 
 -- So some value is open at every sound node.
-pub some-open : (n settle : ℕ) (cs : List (List Literal)) (t : List Literal) → Sound n (remaining t cs) → (b : Bool) × (opened (choice n settle cs t) b ≡ true)
-some-open n settle cs t S = opens.some-open n settle cs t S
+pub some-open : (n scope : ℕ) (cs : List (List Literal)) (t : List Literal) → Sound n (remaining t cs) → (b : Bool) × (opened (choice n scope cs t) b ≡ true)
+some-open n scope cs t S = opens.some-open n scope cs t S
 
--- One choice makes at most n × m × (m + 1) expansions, m the formula's clauses.
-pub choice-cost : (n settle : ℕ) (cs : List (List Literal)) (t : List Literal) → n ≤ 64 → Below n cs
-    → choice n settle cs t .expansions ≤ n * (length cs * suc (length cs))
+-- One choice makes at most s × m × (m + 1) expansions, s the variables of the mask, m the formula's clauses.
+pub choice-cost : (n scope : ℕ) (cs : List (List Literal)) (t : List Literal) → n ≤ 64 → Below n cs → Covers scope (remaining t cs)
+    → choice n scope cs t .expansions ≤ size scope * (length cs * suc (length cs))
 unfolding choice
-choice-cost n settle cs t fits low =
-    choices.chosen-cost n (length cs) (unassigned-of settle t) (remaining t cs) fits (nodes.below-remaining n t cs low) (nodes.length-remaining t cs)
+choice-cost n scope cs t fits low covers =
+    choices.chosen-cost n (length cs) scope (unassigned-of scope t) (remaining t cs) fits (nodes.below-remaining n t cs low) covers (nodes.length-remaining t cs)

@@ -1,6 +1,6 @@
 -- Laws of trails: how many variables they have, and what satisfies the clauses at their nodes.
-use Prim.Native.Nat.{ℕ, _<_}
-use mathlib.Core.Path.{_≡_, refl, sym, _∙_}
+use Prim.Native.Nat.{ℕ, _^_, _≤_, _<_}
+use mathlib.Core.Path.{_≡_, refl, sym}
 use mathlib.Core.Bool.{true, false}
 use mathlib.Core.List.{List, [], _∷_}
 use mathlib.Core.Logic.{⊎-elim}
@@ -9,16 +9,18 @@ use lib.ListN.{length}
 use lib.Dec.{eqb}
 use borrow.Author.Tests.{eqb-true, eq-eqb}
 use Rattle.lists.proofs.SublistLaws.{no-elements}
-use Rattle.lists.proofs.TestLaws.{or-cases, clash, or-left, or-right}
+use Rattle.lists.proofs.TestLaws.{or-cases, look, clash, or-left, or-right}
+use Rattle.masks.specs.Mask.{bit, size}
+use Rattle.masks.proofs.BitLaws.{bit-below}
 use Rattle.matching.proofs.Counting.{count, count-except, except, except-i, except-ne}
 use Rattle.formula.specs.Format.{Literal, names}
 use Rattle.formula.proofs.ClauseLaws.{named-as}
 use Rattle.formula.proofs.FormatLaws.{distinct-rest}
 use Rattle.splitting.specs.Nodes.{remaining, less}
-use Rattle.splitting.specs.Terms.{Below, Sound, Trail}
+use Rattle.splitting.specs.Terms.{Sound, Trail, Covers, Unassigned, Assigns}
 use Rattle.splitting.proofs.ClauseLaws.{named-by}
-use Rattle.splitting.proofs.CountLaws.{except-of, count-sub, count-missing, count-full, count-none}
-use Rattle.splitting.proofs.NodeLaws.{named-remaining, below-remaining}
+use Rattle.splitting.proofs.CountLaws.{except-of, count-sub, count-drop, count-lacks, count-none, size-count}
+use Rattle.splitting.proofs.NodeLaws.{named-remaining}
 use Rattle.splitting.proofs.SoundLaws.{sound-satisfies}
 
 -- a trail has as many variables as literals
@@ -39,19 +41,31 @@ trail-count n (l ∷ t) T =
     except-i (names (l ∷ t)) x i (or-right (eqb x i) (names t i) h) (λ e. clash h (rw e (r .0)))) in
     omega (arith, rest, less, more, count-except (names (l ∷ t)) x n (T .below .0) here)
 
--- a trail of fewer than n variables lacks one
-pub trail-free : (n : ℕ) (t : List Literal) → Trail n t → length t < n → (v : ℕ) × (v < n) × (names t v ≡ false)
-trail-free n t T h = let e = trail-count n t T in count-missing (names t) n (omega arith)
+module _ (n scope : ℕ) (fits : n ≤ 64) (below : scope < 2 ^ n) (t : List Literal) (T : Trail n t) where
+  -- a trail of fewer variables than the mask has lacks one of them
+  pub trail-lacks : length t < size scope → Unassigned n scope t
+  trail-lacks h =
+      let e = trail-count n t T in
+      let s = size-count n scope fits below in
+      count-lacks (names t) (bit scope) n (omega arith)
 
--- a trail of n variables has them all
-trail-full : (n : ℕ) (t : List Literal) → Trail n t → length t ≡ n → (v : ℕ) → v < n → names t v ≡ true
-trail-full n t T h = count-full (names t) n (trail-count n t T ∙ h)
+  -- a trail of the mask's variables, as many as it has, has them all
+  pub trail-full : ((v : ℕ) → names t v ≡ true → bit scope v ≡ true) → length t ≡ size scope → Assigns scope t
+  trail-full inside h v b = ⊎-elim (λ e. e) (λ e. absurd (short v b e)) (look (names t v))
+    where
+      short : (v : ℕ) → bit scope v ≡ true → names t v ≡ false → ⊥
+      short v b e =
+          let d = count-drop (names t) (bit scope) n v inside (bit-below n v scope below b) b e in
+          let c = trail-count n t T in
+          let s = size-count n scope fits below in
+          omega arith
 
--- no clause remains at a sound node where all variables are assigned
-pub full-none : (n : ℕ) (t : List Literal) (cs : List (List Literal)) → Below n cs → Trail n t → length t ≡ n → Sound n (remaining t cs) → remaining t cs ≡ []
-full-none n t cs low T h S =
+-- no clause remains at a sound node where every variable of the mask is assigned, and the mask has the named ones
+pub full-none : (n scope : ℕ) (t : List Literal) (cs : List (List Literal)) → Covers scope (remaining t cs) → Assigns scope t → Sound n (remaining t cs)
+    → remaining t cs ≡ []
+full-none n scope t cs covers all S =
     let w = sound-satisfies n (remaining t cs) S in
     no-elements (remaining t cs) (λ c m.
     let x = w .1 c m in
     let nm = named-by (remaining t cs) c (x .0) m (named-as c (x .0) (w .0 (x .0)) (x .1)) in
-    clash (trail-full n t T h (x .0) (below-remaining n t cs low (x .0) nm)) (named-remaining t cs (x .0) nm .1))
+    clash (all (x .0) (covers (x .0) nm)) (named-remaining t cs (x .0) nm .1))

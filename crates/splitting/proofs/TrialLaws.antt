@@ -10,6 +10,7 @@ use lib.ListN.{length, getD, length-map}
 use Rattle.lists.proofs.TestLaws.{clash}
 use Rattle.lists.proofs.SublistLaws.{getD-element}
 use Rattle.lists.proofs.EveryLaws.{every-of}
+use Rattle.masks.specs.Mask.{bit, size}
 use Rattle.matching.specs.Matched.{Matched, Words}
 use Rattle.matching.specs.Search.{succeeds, expansions}
 use Rattle.formula.specs.Format.{Literal}
@@ -18,11 +19,13 @@ use Rattle.formula.proofs.ClauseLaws.{variables-lt, named-as}
 use Rattle.splitting.specs.declared.Choice.{Choice}
 use Rattle.splitting.specs.Nodes.{assign, named}
 use Rattle.splitting.specs.Choosing.{matched, Trial, trial, both-open, first-passing, candidates, among}
-use Rattle.splitting.specs.Terms.{Below}
+use Rattle.splitting.specs.Terms.{Below, Covers}
 use Rattle.splitting.proofs.ClauseLaws.{named-by, literal-names}
 use Rattle.splitting.proofs.SearchLaws.{among-here, among-more, among-cases, among-none, upward-of, upward-in, upward-length}
 use Rattle.splitting.proofs.NodeLaws.{below-assign, length-assign}
 use Rattle.splitting.proofs.MatchedLaws.{variables-at}
+use Rattle.matching.proofs.Counting.{pigeon}
+use Rattle.matching.proofs.MatchedLaws.{count-members}
 use Rattle.matching.proofs.Theorems as theorems
 
 -- ── One matching ─────────────────────────────────────────────────────────────────────────────────────────────────────
@@ -115,10 +118,13 @@ pub named-candidates : (n : ℕ) (left : List (List Literal)) → Below n left �
 unfolding candidates
 named-candidates n left low v h = upward-in (named left) n v (low v h) h
 
--- They are at most n.
-pub candidates-length : (n : ℕ) (left : List (List Literal)) → length (candidates n left) ≤ n
+-- They are at most as many as a mask has that has them all.
+pub candidates-length : (n scope : ℕ) (left : List (List Literal)) → n ≤ 64 → Covers scope left → length (candidates n left) ≤ size scope
 unfolding candidates
-candidates-length n left = upward-length (named left) n
+candidates-length n scope left fits covers =
+    let e = count-members scope 64 in
+    let k = pigeon (named left) n (bit scope) 64 (λ i. i) (λ i l t. (omega arith, covers i t)) (λ i j _ _ _ _ e. e) in
+    omega (arith, upward-length (named left) n)
 
 -- ── The first that passes ────────────────────────────────────────────────────────────────────────────────────────────
 

@@ -88,8 +88,8 @@ by-remaining n unassigned (c ∷ cs) = by-left n (c ∷ cs) (stripped n (c ∷ c
 
 -- the variables of the mask that are to be assigned and that the trail has not
 abbrev pub unassigned-of : ℕ → List Literal → ℕ → Bool
-unassigned-of settle t v = bit settle v && not (names t v)
+unassigned-of scope t v = bit scope v && not (names t v)
 
--- the choice at the node of the trail t; `settle` has the variables that a model covers
+-- the choice at the node of the trail t; `scope` has the variables that a model covers
 unfoldable pub choice : ℕ → ℕ → List (List Literal) → List Literal → Choice
-choice n settle cs t = by-remaining n (unassigned-of settle t) (remaining t cs)
+choice n scope cs t = by-remaining n (unassigned-of scope t) (remaining t cs)

@@ -162,15 +162,15 @@ others-of f a = minus (bitOr (survey-of (node f a) .positive) (survey-of (node f
 
 -- where no clause is left: the lowest variable without a value
 abbrev pub free-choice : ℕ → Assignment → Choice
-free-choice settle a = both-open (lowest (minus settle (assigned a))) 0
+free-choice scope a = both-open (lowest (minus scope (assigned a))) 0
 
 unfoldable pub chosen : Formula → ℕ → Assignment → Choice
-chosen f settle a =
+chosen f scope a =
     cond (survey-of (node f a) .any)
     (cond (reduced f a .survey .any)
     (passing f (reduced f a .assignment) (members (bitOr (reduced f a .survey .positive) (reduced f a .survey .negative)) 64) 0)
     (listed-last f a (cond (eqb (others-of f a) 0) (reduced f a .last) (greatest (others-of f a)))))
-    (free-choice settle a)
+    (free-choice scope a)
 
 -- the assignment of a trail
 unfoldable pub assign-all : Assignment → List Literal → Assignment

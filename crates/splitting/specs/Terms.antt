@@ -3,9 +3,12 @@ use Prim.Native.Nat.{ℕ, _<_}
 use mathlib.Core.Path.{_≡_}
 use mathlib.Core.Bool.{Bool, true, false}
 use mathlib.Core.List.{List, map, List·Memᴰ}
+use mathlib.Core.Logic.{_⊎_}
+use Rattle.masks.specs.Mask.{bit}
 use Rattle.matching.specs.Matched.{Matched}
-use Rattle.formula.specs.Format.{Literal, names-as, ClauseOver}
+use Rattle.formula.specs.Format.{Literal, names, names-as, ClauseOver}
 use Rattle.formula.specs.Masked.{variables}
+use Rattle.formula.specs.Models.{Model}
 use Rattle.splitting.specs.declared.Choice.{Choice}
 use Rattle.splitting.specs.Nodes.{named}
 use Rattle.splitting.specs.Stripping.{pure, stripped}
@@ -33,6 +36,28 @@ Trail n t = ClauseOver n t
 -- every literal of the trail stands (01: 'agrees with everything settled so far')
 abbrev pub Agrees : (ℕ → Bool) → List Literal → Type 0
 Agrees a t = (l : Literal) → List·Memᴰ l t → a (l .variable) ≡ l .positive
+
+-- the mask has every variable that the clauses name
+abbrev pub Covers : ℕ → List (List Literal) → Type 0
+Covers scope cs = (v : ℕ) → named cs v ≡ true → bit scope v ≡ true
+
+-- no variable is true that neither the mask nor the trail has
+abbrev pub Within : ℕ → List Literal → (ℕ → Bool) → Type 0
+Within scope t a = (v : ℕ) → a v ≡ true → (bit scope v ≡ true) ⊎ (names t v ≡ true)
+
+-- a model that agrees with the trail, and has no variable true but those of the mask and the trail
+pub record ModelAt (n scope : ℕ) (cs : List (List Literal)) (t : List Literal) (a : ℕ) : Type 0 where
+  pub model : Model n cs a
+  pub agrees : Agrees (bit a) t
+  pub within : Within scope t (bit a)
+
+-- a variable of the mask that the trail has not
+abbrev pub Unassigned : ℕ → ℕ → List Literal → Type 0
+Unassigned n scope t = (v : ℕ) × (v < n) × (bit scope v ≡ true) × (names t v ≡ false)
+
+-- the trail has every variable of the mask
+abbrev pub Assigns : ℕ → List Literal → Type 0
+Assigns scope t = (v : ℕ) → bit scope v ≡ true → names t v ≡ true
 
 -- the value b is open
 abbrev pub opened : Choice → Bool → Bool

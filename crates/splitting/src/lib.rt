@@ -418,7 +418,7 @@ fn last_listed(positives: &[u64; 96], negatives: &[u64; 96], count: usize, v: us
 // The choice where some clause is open, whichever variables a model covers.
 fn choose_open(f: Formula, a: Assignment) -> Choice
     requires { ⌜ Small f × (survey-of (node f a) .any ≡ true) ⌝ }
-    ensures { λ r. ⌜ ((settle : ℕ) → r ≡ chosen f settle a) ⌝ }
+    ensures { λ r. ⌜ ((scope : ℕ) → r ≡ chosen f scope a) ⌝ }
 {
     let mut positives = [0u64; 96];
     let mut negatives = [0u64; 96];
@@ -438,19 +438,19 @@ fn choose_open(f: Formula, a: Assignment) -> Choice
 }
 
 // The choice where no clause is left: the lowest variable without a value.
-pub fn choose_free(settle: u64, a: Assignment) -> Choice
-    ensures { λ r. ⌜ r ≡ free-choice settle a ⌝ }
+pub fn choose_free(scope: u64, a: Assignment) -> Choice
+    ensures { λ r. ⌜ r ≡ free-choice scope a ⌝ }
 {
-    both_open(masks::lowest(masks::minus(settle, a.trues | a.falses)), 0)
+    both_open(masks::lowest(masks::minus(scope, a.trues | a.falses)), 0)
 }
 
-// The choice at the node of the assignment; `settle` has the variables that a model covers.
-pub fn choose(f: Formula, settle: u64, a: Assignment) -> Choice
+// The choice at the node of the assignment; `scope` has the variables that a model covers.
+pub fn choose(f: Formula, scope: u64, a: Assignment) -> Choice
     requires { ⌜ FormulaFits f ⌝ }
-    ensures { λ r. ⌜ r ≡ chosen f settle a ⌝ }
+    ensures { λ r. ⌜ r ≡ chosen f scope a ⌝ }
 {
     if all_satisfied(f, a) {
-        return choose_free(settle, a);
+        return choose_free(scope, a);
     }
     choose_open(f, a)
 }

@@ -16,7 +16,7 @@ returns : tie.Need-returns
 returns c =
     let t = c .before in
     let s = t .before .before .args in
-    c .choose-free .ensures ∙ sym (chosen-satisfied (s .f) (s .a) (sym (t .before .all-satisfied .ensures) ∙ t .if1 .taken) (s .settle))
+    c .choose-free .ensures ∙ sym (chosen-satisfied (s .f) (s .a) (sym (t .before .all-satisfied .ensures) ∙ t .if1 .taken) (s .scope))
 
 choose-open-requires : tie.Need-choose-open-requires
 choose-open-requires c κs =
@@ -24,7 +24,7 @@ choose-open-requires c κs =
     (small-of (s .args .f) (s .pre), some-open (s .args .f) (s .args .a) (sym (c .before .all-satisfied .ensures) ∙ c .if1 .left))
 
 returns-2 : tie.Need-returns-2
-returns-2 c = c .choose-open .ensures (c .before .before .before .args .settle)
+returns-2 c = c .choose-open .ensures (c .before .before .before .args .scope)
 
 pub choose-spec : {M : Type 1} → statement M
 choose-spec =

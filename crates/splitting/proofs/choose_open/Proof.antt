@@ -89,7 +89,7 @@ first-passing-requires c κs =
     rw (left d) (small-at (formula-at (whole o) (entry o .args .a)) (node-small o) (stripped d .reduce .result .assignment))
 
 returns : tie.Need-returns
-returns c settle =
+returns c scope =
     let d = c .before .before .before .before in
     let r = stripped d in
     let n = named r in
@@ -97,7 +97,7 @@ returns c settle =
     let s = r .reduce .result .survey in
     c .first-passing .ensures
     ∙ ap (λ (g : Formula). passing g unassigned (members (bitOr (s .positive) (s .negative)) 64) 0) (left d)
-    ∙ choice-passing (whole o) (small o) settle (entry o .args .a) (n .survey-clauses .result) (surveyed n)
+    ∙ choice-passing (whole o) (small o) scope (entry o .args .a) (n .survey-clauses .result) (surveyed n)
     (rw (surveyed n) (entry o .pre .1)) (r .reduce .result) (reduced r) (d .before .before .before .if1 .taken)
 
 minus-requires : tie.Need-minus-requires
@@ -109,7 +109,7 @@ last-listed-requires c κs =
     (held-small (opened (named r)) .few, last-below r)
 
 returns-2 : tie.Need-returns-2
-returns-2 c settle =
+returns-2 c scope =
     let t = c .before .before .before in
     let m = t .before in
     let r = m .before .before .before .before in
@@ -117,7 +117,7 @@ returns-2 c settle =
     let o = opened n in
     c .last-listed .ensures
     ∙ ap (λ (g : Formula). listed-last g unassigned (r .reduce .result .last)) (o .open-node .ensures .0)
-    ∙ choice-noted (whole o) (small o) settle (entry o .args .a) (n .survey-clauses .result) (surveyed n)
+    ∙ choice-noted (whole o) (small o) scope (entry o .args .a) (n .survey-clauses .result) (surveyed n)
     (rw (surveyed n) (entry o .pre .1)) (r .reduce .result) (reduced r) (m .before .before .if1 .left) (m .minus .result) (m .minus .ensures) (t .if2 .taken)
 
 highest-requires : tie.Need-highest-requires
@@ -129,14 +129,14 @@ last-listed-requires-2 c κs =
     (held-small (opened (named (m .before .before .before .before))) .few, rw (c .highest .ensures) (greatest-below (m .minus .result)))
 
 returns-3 : tie.Need-returns-3
-returns-3 c settle =
+returns-3 c scope =
     let t = c .before .before .before .before in
     let m = t .before in
     let r = m .before .before .before .before in
     let n = named r in
     let o = opened n in
     rw (c .last-listed2 .ensures, c .before .highest .ensures, o .open-node .ensures .0)
-    (choice-other (whole o) (small o) settle (entry o .args .a) (n .survey-clauses .result) (surveyed n)
+    (choice-other (whole o) (small o) scope (entry o .args .a) (n .survey-clauses .result) (surveyed n)
     (rw (surveyed n) (entry o .pre .1)) (r .reduce .result) (reduced r) (m .before .before .if1 .left) (m .minus .result) (m .minus .ensures)
     (omega (arith, m .minus .ok)) (t .if2 .left))
 
