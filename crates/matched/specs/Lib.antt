@@ -1,3 +1,4 @@
+pub mod Acceptance
 pub mod InnerGather
 pub mod Judge
 pub mod Pairing

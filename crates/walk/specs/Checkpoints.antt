@@ -5,6 +5,8 @@ use mathlib.Core.List.{List, [], _∷_, _++_, map}
 use lib.ListN.{length, take}
 use Rattle.lists.specs.Padded.{padded}
 use Rattle.formula.specs.Format.{Literal}
+use Rattle.limits.specs.Limits.{max-variables}
+use Rattle.walk.specs.Task.{Task}
 use Rattle.walk.specs.Plain.{Entry, assign, undo, model, end, plain-walk}
 
 -- 'A marker has a mode, a length and 48 bytes'
@@ -19,7 +21,7 @@ byte l = cond (l .positive) (l .variable + 1 + 128) (l .variable + 1)
 
 -- 'one per settled switch in order [..], the rest 0'
 unfoldable pub checkpoint-of : ℕ → List Literal → Checkpoint
-checkpoint-of mode t = record { mode = mode; length = length t; bytes = padded 48 0 (map byte t) }
+checkpoint-of mode t = record { mode = mode; length = length t; bytes = padded max-variables 0 (map byte t) }
 
 -- the start checkpoint (01: start marker)
 unfoldable pub start : Checkpoint
@@ -47,11 +49,12 @@ abbrev pub undone-mode : Bool → ℕ
 undone-mode false = 2
 undone-mode true = 3
 
--- one entry more: '1 just settled', '4 ended, length 0'; a model changes nothing
+-- one entry more: '1 just settled', '4 ended, length 0'. A model leaves the trail as it is, and mode 1, which it has already where
+-- something was assigned
 abbrev pub past : Behind → Entry → Behind
 past p (assign l e) = record { mode = 1; trail = p .trail ++ (l ∷ []) }
 past p undo = record { mode = undone-mode (last-value (p .trail)); trail = without-last (p .trail) }
-past p (model a) = p
+past p (model a) = record { mode = 1; trail = p .trail }
 past p end = record { mode = 4; trail = [] }
 
 -- some entries more
@@ -60,9 +63,9 @@ past-all p [] = p
 past-all p (e ∷ es) = past-all (past p e) es
 
 -- behind the first k entries of the plain walk: '0 start, length 0'
-unfoldable pub behind : ℕ → List (List Literal) → ℕ → Behind
-behind n cs k = past-all (record { mode = 0; trail = [] }) (take k (plain-walk n cs))
+unfoldable pub behind : Task → ℕ → Behind
+behind T k = past-all (record { mode = 0; trail = [] }) (take k (plain-walk T))
 
 -- 'The marker returned is the one described above for the entries now behind.'
-unfoldable pub checkpoint-after : ℕ → List (List Literal) → ℕ → Checkpoint
-checkpoint-after n cs k = checkpoint-of (behind n cs k .mode) (behind n cs k .trail)
+unfoldable pub checkpoint-after : Task → ℕ → Checkpoint
+checkpoint-after T k = checkpoint-of (behind T k .mode) (behind T k .trail)

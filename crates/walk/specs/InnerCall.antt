@@ -1,11 +1,11 @@
 -- A walk call as the code makes it: the checkpoint is tested, and the resumable machine goes on from its position.
 use Prim.Native.Nat.{ℕ}
 use mathlib.Core.Bool.{cond}
-use lib.ListN.{length}
-use Rattle.formula.specs.declared.Refusal.the-variants.{Unmatched, ForeignCheckpoint}
-use Rattle.matching.specs.Search.{Outcome, success, failure}
+use Rattle.formula.specs.declared.Refusal.the-variants.{ForeignCheckpoint}
+use Rattle.matched.specs.Acceptance.{Acceptance, accepted, declined}
+use Rattle.walk.specs.Task.{whole}
 use Rattle.walk.specs.Checkpoints.{Checkpoint}
-use Rattle.walk.specs.InnerStack.{Tree}
+use Rattle.walk.specs.InnerStack.{Tree, tree}
 use Rattle.walk.specs.InnerMachine.{Resumed, resume}
 use Rattle.walk.specs.InnerTest.{shown, read, position-of, accepts}
 use Rattle.walk.specs.WalkCall.{Result, answered, refusing}
@@ -18,7 +18,11 @@ resumed-result r = answered (r .answer) (r .steps) (r .expansions) (shown (r .po
 abbrev pub call-from : Tree → Checkpoint → ℕ → Result
 call-from K c b = resumed-result (resume K b (position-of (K .size) (c .mode) (read c)))
 
--- matched: 11 where the test fails; not matched: 10 with the number of marked clauses
-abbrev pub resumed-call : Tree → Outcome → Checkpoint → ℕ → Result
-resumed-call K (success vs e) c b = cond (accepts K c) (call-from K c b) (refusing (ForeignCheckpoint 0) c)
-resumed-call K (failure taken e) c b = refusing (Unmatched (length taken)) c
+-- 11 where the test fails
+abbrev pub resumed-call : Tree → Checkpoint → ℕ → Result
+resumed-call K c b = cond (accepts K c) (call-from K c b) (refusing (ForeignCheckpoint 0) c)
+
+-- on an input: its refusal, or a call on its tree
+abbrev pub resumed-acceptance : Acceptance → Checkpoint → ℕ → Result
+resumed-acceptance (accepted n cs row) c b = resumed-call (tree (whole n cs)) c b
+resumed-acceptance (declined r row) c b = refusing r c

@@ -4,6 +4,7 @@ use mathlib.Core.Bool.{Bool, true, false, cond, not, _&&_, _||_}
 use mathlib.Core.List.{List, [], _∷_}
 use lib.Dec.{eqb, leb, ltb}
 use lib.ListN.{take, drop}
+use Rattle.limits.specs.Limits.{max-variables}
 use Rattle.splitting.specs.Terms.{opened}
 use Rattle.walk.specs.Checkpoints.{Checkpoint, checkpoint-of, undone-mode}
 use Rattle.walk.specs.InnerStack.{Stack, empty, push, depth, trail-of, Tree}
@@ -65,7 +66,7 @@ zeros (x ∷ xs) = eqb x 0 && zeros xs
 
 -- a mode up to 4, a length up to 48, numbers before it, 0 behind it
 unfoldable pub formed : Checkpoint → Bool
-formed c = leb (c .mode) 4 && (leb (c .length) 48 && (numbered (take (c .length) (c .bytes)) && zeros (drop (c .length) (c .bytes))))
+formed c = leb (c .mode) 4 && (leb (c .length) max-variables && (numbered (take (c .length) (c .bytes)) && zeros (drop (c .length) (c .bytes))))
 
 -- nothing is assigned
 abbrev pub is-empty : Stack → Bool
@@ -81,7 +82,7 @@ module _ (K : Tree) where
   -- the mode's own condition
   unfoldable pub fits : ℕ → Stack → Bool
   fits zero t = is-empty t
-  fits (suc zero) t = not (is-empty t) && replays t
+  fits (suc zero) t = (not (is-empty t) || eqb (K .size) 0) && replays t
   fits (suc (suc zero)) t = replays t && (ltb (depth t) (K .size) && (K .choose t .false_open && (not (is-empty t) || K .choose t .true_open)))
   fits (suc (suc (suc zero))) t = replays t && (ltb (depth t) (K .size) && (K .choose t .true_open && not (is-empty t)))
   fits (suc (suc (suc (suc m)))) t = is-empty t

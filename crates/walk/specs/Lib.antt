@@ -1,3 +1,4 @@
+pub mod Task
 pub mod Plain
 pub mod Checkpoints
 pub mod PlainMachine

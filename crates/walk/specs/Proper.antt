@@ -1,42 +1,37 @@
--- 01, 'Moves and markers': which checkpoints a formula's walk has, told by themselves.
+-- 01, 'Moves and markers': which checkpoints a walk has, told by themselves.
 use Prim.Native.Nat.{ℕ, zero, suc, _<_, _≤_}
 use mathlib.Core.Bool.{true}
 use mathlib.Core.List.{List, [], _∷_, _++_}
 use mathlib.Core.Logic.{_⊎_}
 use mathlib.Core.Path.{_≡_}
 use lib.ListN.{length}
-use Rattle.masks.specs.Mask.{full}
 use Rattle.formula.specs.Format.{Literal}
-use Rattle.splitting.specs.declared.Choice.{Choice}
-use Rattle.splitting.specs.Choosing.{choice}
 use Rattle.splitting.specs.Terms.{opened}
+use Rattle.walk.specs.Task.{Task, to-assign, choice-at}
 use Rattle.walk.specs.Checkpoints.{Checkpoint, checkpoint-of}
 
-module _ (n : ℕ) (cs : List (List Literal)) where
-  -- the choice at the node of a trail
-  abbrev pub at-node : List Literal → Choice
-  at-node t = choice n (full n) cs t
-
+module _ (T : Task) where
   -- after the trail u each variable of t was chosen in its turn, and its value open
   abbrev pub ByChoice : List Literal → List Literal → Type 0
   ByChoice u [] = Unit {0}
-  ByChoice u (l ∷ t) = (l .variable ≡ at-node u .variable) × (opened (at-node u) (l .positive) ≡ true) × ByChoice (u ++ (l ∷ [])) t
+  ByChoice u (l ∷ t) = (l .variable ≡ choice-at T u .variable) × (opened (choice-at T u) (l .positive) ≡ true) × ByChoice (u ++ (l ∷ [])) t
 
-  -- '0 start, length 0; 1 just settled; 2 an off was just taken back; 3 an on was just taken back; 4 ended, length 0'. A value was
-  -- undone only where it is open, at a node that is not full. At length 0 mode 3 is never had, and mode 2 only where true is open: else
-  -- the end follows in the same call.
+  -- '0 start, length 0; 1 just settled; 2 an off was just taken back; 3 an on was just taken back; 4 ended, length 0'. Mode 1 is had at
+  -- length 0 only where nothing is to be assigned. A value was undone only where it is open, at a node that is not full. At length 0
+  -- mode 3 is never had, and mode 2 only where true is open: else the end follows in the same call.
   abbrev pub ModeFits : ℕ → List Literal → Type 0
   ModeFits zero t = length t ≡ 0
-  ModeFits (suc zero) t = 0 < length t
-  ModeFits (suc (suc zero)) t = (length t < n) × (at-node t .false_open ≡ true) × ((0 < length t) ⊎ (at-node t .true_open ≡ true))
-  ModeFits (suc (suc (suc zero))) t = (length t < n) × (at-node t .true_open ≡ true) × (0 < length t)
+  ModeFits (suc zero) t = (0 < length t) ⊎ (to-assign T ≡ 0)
+  ModeFits (suc (suc zero)) t = (length t < to-assign T) × (choice-at T t .false_open ≡ true) × ((0 < length t) ⊎ (choice-at T t .true_open ≡ true))
+  ModeFits (suc (suc (suc zero))) t = (length t < to-assign T) × (choice-at T t .true_open ≡ true) × (0 < length t)
   ModeFits (suc (suc (suc (suc zero)))) t = length t ≡ 0
   ModeFits (suc (suc (suc (suc (suc m))))) t = ⊥
 
-  -- a trail of at most n variables by choice, the mode's own condition, and the bytes of that trail with 0 behind them
+  -- a trail by choice, no longer than there are variables to assign, the mode's own condition, and the bytes of that trail with 0 behind
+  -- them
   pub record Proper (c : Checkpoint) : Type 0 where
     pub trail : List Literal
-    pub short : length trail ≤ n
+    pub short : length trail ≤ to-assign T
     pub by-choice : ByChoice [] trail
     pub mode-fits : ModeFits (c .mode) trail
     pub written : c ≡ checkpoint-of (c .mode) trail

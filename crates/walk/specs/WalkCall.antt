@@ -1,16 +1,14 @@
 -- 01: the act walk, one call on bytes: 'A walk call takes a sheet, a marker and a budget.' Told over the plain machine alone.
 use Prim.Native.Nat.{ℕ, zero, suc}
 use mathlib.Core.Bool.{Bool, true, false, cond, _&&_}
-use mathlib.Core.List.{List, [], _∷_, map}
+use mathlib.Core.List.{List, [], _∷_}
 use lib.Dec.{eqb}
 use lib.ListN.{length}
 use Rattle.formula.specs.declared.Refusal.{Refusal}
-use Rattle.formula.specs.declared.Refusal.the-variants.{Unmatched, ForeignCheckpoint}
-use Rattle.formula.specs.Decode.{Decoding, readable, refused, decode}
-use Rattle.formula.specs.Format.{Literal}
-use Rattle.formula.specs.Masked.{variables}
+use Rattle.formula.specs.declared.Refusal.the-variants.{ForeignCheckpoint}
 use Rattle.formula.specs.Refusals.{listing}
-use Rattle.matching.specs.Search.{Outcome, success, failure, outcome}
+use Rattle.matched.specs.Acceptance.{Acceptance, accepted, declined, acceptance}
+use Rattle.walk.specs.Task.{Task, whole}
 use Rattle.walk.specs.Plain.{plain-walk}
 use Rattle.walk.specs.Checkpoints.{Checkpoint, checkpoint-after}
 use Rattle.walk.specs.PlainMachine.{Answer, found, spent, ended, Call, plain-call}
@@ -54,8 +52,8 @@ refusing r c =
     record { kind = says-refused; model = 0; number = listing r .number; place = listing r .place; steps = 0; expansions = 0; checkpoint = c }
 
 -- what the plain machine gives, as a result
-abbrev pub plain-result : ℕ → List (List Literal) → Call → Result
-plain-result n cs p = answered (p .answer) (p .steps) (p .expansions) (checkpoint-after n cs (p .behind))
+abbrev pub plain-result : Task → Call → Result
+plain-result T p = answered (p .answer) (p .steps) (p .expansions) (checkpoint-after T (p .behind))
 
 -- ---- the state of a checkpoint
 
@@ -75,37 +73,36 @@ pub data Located : Type 0 where
   at-state : ℕ → Located
   nowhere : Located
 
-module _ (n : ℕ) (cs : List (List Literal)) (c : Checkpoint) where
+module _ (T : Task) (c : Checkpoint) where
   -- the first state with this checkpoint, from k on, by at most f calls of budget 1
   unfoldable pub locate-from : ℕ → ℕ → Located
-  locate-from zero k = cond (same (checkpoint-after n cs k) c) (at-state k) nowhere
-  locate-from (suc f) k = cond (same (checkpoint-after n cs k) c) (at-state k) (locate-from f (plain-call n cs 1 k .behind))
+  locate-from zero k = cond (same (checkpoint-after T k) c) (at-state k) nowhere
+  locate-from (suc f) k = cond (same (checkpoint-after T k) c) (at-state k) (locate-from f (plain-call T 1 k .behind))
 
   -- 'A sheet's walk has the start marker and those so returned on some list of budgets, and no others.' Calls of budget 1 stop wherever
   -- calls stop, and each leaves an entry more behind while one is ahead: as many calls as there are entries come to the end.
   unfoldable pub located : Located
-  located = locate-from (length (plain-walk n cs)) 0
+  located = locate-from (length (plain-walk T)) 0
 
   -- a call from there; 11 where 'the walk of this sheet never has this marker'
   abbrev pub by-state : Located → ℕ → Result
-  by-state (at-state k) b = plain-result n cs (plain-call n cs b k)
+  by-state (at-state k) b = plain-result T (plain-call T b k)
   by-state nowhere b = refusing (ForeignCheckpoint 0) c
 
 -- ---- the call
 
--- matched: by the checkpoint's state; not matched: 10 with the number of marked clauses
-abbrev pub by-outcome : ℕ → List (List Literal) → Outcome → Checkpoint → ℕ → Result
-by-outcome n cs (success vs e) c b = by-state n cs c (located n cs c) b
-by-outcome n cs (failure taken e) c b = refusing (Unmatched (length taken)) c
+-- a call on a task, from a checkpoint
+unfoldable pub task-call : Task → Checkpoint → ℕ → Result
+task-call T c b = by-state T c (located T c) b
 
--- first 2 to 9, then 10, then 11
-abbrev pub by-decoding : Decoding → Checkpoint → ℕ → Result
-by-decoding (readable n cs) c b = by-outcome n cs (outcome (map variables cs)) c b
-by-decoding (refused r) c b = refusing r c
+-- an accepted input is walked, all its variables to assign; the others get their refusal
+abbrev pub by-acceptance : Acceptance → Checkpoint → ℕ → Result
+by-acceptance (accepted n cs row) c b = task-call (whole n cs) c b
+by-acceptance (declined r row) c b = refusing r c
 
--- a walk call: the input, the checkpoint and the budget
+-- a walk call: the input, the checkpoint and the budget. First 2 to 9, then 10, then 11.
 unfoldable pub walk-call : List ℕ → Checkpoint → ℕ → Result
-walk-call s c b = by-decoding (decode s) c b
+walk-call s c b = by-acceptance (acceptance s) c b
 
 -- a list of walk calls on an input, each given the checkpoint that the last one returned
 unfoldable pub walk-calls : List ℕ → Checkpoint → List ℕ → List Result
