@@ -137,11 +137,16 @@ emptied-none ((l ∷ d) ∷ cs) f c m =
 
 -- ── Trails ───────────────────────────────────────────────────────────────────────────────────────────────────────────
 
+-- a trail after another
+pub remaining-append : (s t : List Literal) (cs : List (List Literal)) → remaining (s ++ t) cs ≡ remaining t (remaining s cs)
+unfolding remaining
+remaining-append [] t cs = refl
+remaining-append (l ∷ s) t cs = remaining-append s t (assign (l .variable) (l .positive) cs)
+
 -- one more assignment
 pub remaining-snoc : (t : List Literal) (l : Literal) (cs : List (List Literal)) → remaining (t ++ (l ∷ [])) cs ≡ assign (l .variable) (l .positive) (remaining t cs)
 unfolding remaining
-remaining-snoc [] l cs = refl
-remaining-snoc (k ∷ t) l cs = remaining-snoc t l (assign (k .variable) (k .positive) cs)
+remaining-snoc t l cs = remaining-append t (l ∷ []) cs
 
 -- what is named at a node is named in the formula and not assigned
 pub named-remaining : (t : List Literal) (cs : List (List Literal)) (w : ℕ) → named (remaining t cs) w ≡ true → (named cs w ≡ true) × (names t w ≡ false)

@@ -5,13 +5,14 @@ use mathlib.Core.Bool.{true, false}
 use mathlib.Core.Path.{_≡_, refl, ap, ap₂, _∙_, subst}
 use native.Mathlib.Omega.{arith}
 use lib.ListN.{length}
+use Rattle.limits.specs.Limits.{max-variables}
 use Rattle.lists.proofs.TestLaws.{and-left, and-right, and-both}
 use Rattle.walk.specs.Checkpoints.{Checkpoint, checkpoint-of}
 use Rattle.walk.specs.InnerStack.{Stack, empty, push, trail-of, Tree}
 use Rattle.walk.specs.InnerMachine.{Position, down, full, back, over, next, resume}
 use Rattle.walk.specs.InnerTest.{mode-of, stack-of, shown, read, position-of, formed, fits, accepts}
 use Rattle.walk.specs.InnerCall.{resumed-result, call-from}
-use Rattle.walk.proofs.RestLaws.{Quiet, Replayed, replayed-depth, Ok, Live}
+use Rattle.walk.proofs.RestLaws.{Stops, Replayed, replayed-depth, Ok, Live}
 use Rattle.walk.proofs.PositionLaws.{position-back}
 use Rattle.walk.proofs.TestLaws.{fits-stop, stop-fits}
 use Rattle.walk.proofs.ByteLaws.{Below, read-written, written-formed, formed-written, formed-mode}
@@ -33,40 +34,40 @@ module _ (K : Tree) where
   stack-replayed (back b t) o = o .0
   stack-replayed over o = tt
 
-module _ (K : Tree) (L : Live K) (small : K .size ≤ 48) (low : (t : Stack) → Replayed K t → Below (K .size) t) where
+module _ (K : Tree) (L : Live K) (small : K .size ≤ max-variables) (low : (t : Stack) → Replayed K t → Below max-variables t) where
   shown-mode : (p : Position) → shown p .mode ≡ mode-of p
   unfolding checkpoint-of
   shown-mode p = refl
 
   shown-read : (p : Position) → Ok K p → read (shown p) ≡ stack-of p
-  shown-read p o = read-written (K .size) (mode-of p) (stack-of p) small (low (stack-of p) (stack-replayed K p o))
+  shown-read p o = read-written (mode-of p) (stack-of p) (low (stack-of p) (stack-replayed K p o))
 
   -- where a call can stop, the checkpoint passes the test
-  pub shown-accepted : (p : Position) → Ok K p → Quiet (next K p) → accepts K (shown p) ≡ true
+  pub shown-accepted : (p : Position) → Ok K p → Stops K p → accepts K (shown p) ≡ true
   unfolding accepts
   shown-accepted p o q =
       let r = stack-replayed K p o in
       let d = replayed-depth K (stack-of p) r in
-      and-both _ _ (written-formed (K .size) (mode-of p) (stack-of p) small (mode-le p) (omega arith) (low (stack-of p) r))
+      and-both _ _ (written-formed (mode-of p) (stack-of p) (mode-le p) (omega arith) (low (stack-of p) r))
       (ap₂ (fits K) (shown-mode p) (shown-read p o) ∙ stop-fits K L p o q)
 
   -- and gives the position back
-  pub shown-position : (p : Position) → Ok K p → Quiet (next K p) → position-of (K .size) (shown p .mode) (read (shown p)) ≡ p
+  pub shown-position : (p : Position) → Ok K p → Stops K p → position-of (K .size) (shown p .mode) (read (shown p)) ≡ p
   shown-position p o q = ap₂ (position-of (K .size)) (shown-mode p) (shown-read p o) ∙ position-back K p o q
 
   -- so a call from it goes on from the position
-  pub call-shown : (b : ℕ) (p : Position) → Ok K p → Quiet (next K p) → call-from K (shown p) b ≡ resumed-result (resume K b p)
+  pub call-shown : (b : ℕ) (p : Position) → Ok K p → Stops K p → call-from K (shown p) b ≡ resumed-result (resume K b p)
   call-shown b p o q = ap (λ (x : Position). resumed-result (resume K b x)) (shown-position p o q)
 
   -- a checkpoint that passes is one of a position at which a call can stop
   pub record Stopped (c : Checkpoint) : Type 0 where
     pub position : Position
     pub fine : Ok K position
-    pub quiet : Quiet (next K position)
+    pub stops : Stops K position
     pub shows : shown position ≡ c
 
   -- the position of a checkpoint that passes
-  pub accepted-stopped : (c : Checkpoint) → length (c .bytes) ≡ 48 → accepts K c ≡ true → Stopped c
+  pub accepted-stopped : (c : Checkpoint) → length (c .bytes) ≡ max-variables → accepts K c ≡ true → Stopped c
   unfolding accepts
   accepted-stopped c h e =
       let f = and-left (formed c) _ e in
@@ -74,10 +75,10 @@ module _ (K : Tree) (L : Live K) (small : K .size ≤ 48) (low : (t : Stack) →
       record {
         position = s .position;
         fine = s .fine;
-        quiet = s .quiet;
+        stops = s .stops;
         shows = ap₂ (λ (m : ℕ) (t : Stack). checkpoint-of m (trail-of t)) (s .mode) (s .stack) ∙ formed-written c h f;
       }
 
   -- and each of them passes
   pub stopped-accepted : (c : Checkpoint) → Stopped c → accepts K c ≡ true
-  stopped-accepted c s = subst (λ (x : Checkpoint). accepts K x ≡ true) (s .shows) (shown-accepted (s .position) (s .fine) (s .quiet))
+  stopped-accepted c s = subst (λ (x : Checkpoint). accepts K x ≡ true) (s .shows) (shown-accepted (s .position) (s .fine) (s .stops))

@@ -1,5 +1,5 @@
 -- The resumable machine agrees with the plain one: k entries behind, and standing at p. Over any tree.
-use Prim.Native.Nat.{ℕ, zero, suc, _+_, _<_}
+use Prim.Native.Nat.{ℕ, zero, suc, _+_}
 use mathlib.Core.List.{List, [], _∷_, _++_}
 use mathlib.Core.Logic.{_⊎_, inl, inr}
 use mathlib.Core.Path.{_≡_, refl, ap, _∙_, subst}
@@ -11,7 +11,7 @@ use Rattle.walk.specs.Checkpoints.{Behind, past, past-all}
 use Rattle.walk.specs.PlainMachine.{Answer, found, spent, ended, Call, at-once, after-step, go-on}
 use Rattle.walk.specs.InnerStack.{empty, trail-of, Tree}
 use Rattle.walk.specs.InnerMachine.{Position, down, over, steps, next, Resumed, halted, stepped, resume}
-use Rattle.walk.proofs.RestLaws.{seen, Quiet, walk, node, up, rest, Ok, Live, Goes, Step, step}
+use Rattle.walk.proofs.RestLaws.{seen, Stops, walk, node, up, rest, Ok, Live, Goes, Step, step}
 use Rattle.walk.proofs.PositionLaws.{behind-of, past-next, Lands, lands}
 
 past-append : (p : Behind) (a b : List Entry) → past-all p (a ++ b) ≡ past-all (past-all p a) b
@@ -36,12 +36,12 @@ module _ (K : Tree) where
   at-start = record { ahead = rw sub-zero; shown = refl; fine = tt }
 
   -- one entry more
-  pub at-next : {k : ℕ} {p q : Position} {e : Entry} → 0 < K .size → At k p → Goes K p e q → At (suc k) q
+  pub at-next : {k : ℕ} {p q : Position} {e : Entry} → At k p → Goes K p e q → At (suc k) q
   unfolding behind-after past-all
-  at-next {k} {p} {q} {e} z a g = record {
+  at-next {k} {p} {q} {e} a g = record {
     ahead = drop-next k (walk K) (a .ahead ∙ g .ahead);
     shown = ap (past-all (record { mode = 0; trail = [] })) (take-next k (walk K) (a .ahead ∙ g .ahead))
-        ∙ past-append (record { mode = 0; trail = [] }) (take k (walk K)) (e ∷ []) ∙ ap (λ (b : Behind). past b e) (a .shown) ∙ past-next K z (g .kind);
+        ∙ past-append (record { mode = 0; trail = [] }) (take k (walk K)) (e ∷ []) ∙ ap (λ (b : Behind). past b e) (a .shown) ∙ past-next K (g .kind);
     fine = g .fine;
   }
 
@@ -60,7 +60,7 @@ module _ (K : Tree) where
     where
       at : (p : Position) → At k p → (p ≡ over) ⊎ Step K p → (q : Position) × At (suc k) q
       at p a (inl e) = (over, at-over (subst (λ (q : Position). At k q) e a))
-      at p a (inr s) = (s .1, at-next (L .positive) a (s .2))
+      at p a (inr s) = (s .1, at-next a (s .2))
 
       on : (p : Position) × At k p → (q : Position) × At (suc k) q
       on x = at (x .0) (x .1) (step K L (x .0) (x .1 .fine))
@@ -71,19 +71,19 @@ module _ (K : Tree) where
     pub steps : c .steps ≡ r .steps
     pub expansions : c .expansions ≡ r .expansions
     pub at : At (c .behind) (r .position)
-    pub quiet : Quiet (next K (r .position))
+    pub stops : Stops K (r .position)
 
   same-step : (e : ℕ) (c : Call) (r : Resumed) → Same c r → Same (after-step e c) (stepped e r)
-  same-step e c r s = record { answer = s .answer; steps = ap suc (s .steps); expansions = ap (λ (x : ℕ). e + x) (s .expansions); at = s .at; quiet = s .quiet }
+  same-step e c r s = record { answer = s .answer; steps = ap suc (s .steps); expansions = ap (λ (x : ℕ). e + x) (s .expansions); at = s .at; stops = s .stops }
 
-  same-once : (a : Answer) (k : ℕ) (p : Position) → At k p → Quiet (next K p) → Same (at-once a k) (halted a p)
-  same-once a k p i q = record { answer = refl; steps = refl; expansions = refl; at = i; quiet = q }
+  same-once : (a : Answer) (k : ℕ) (p : Position) → At k p → Stops K p → Same (at-once a k) (halted a p)
+  same-once a k p i q = record { answer = refl; steps = refl; expansions = refl; at = i; stops = q }
 
   same-zero : (k : ℕ) (p : Position) (e : Entry) (q : Position) (l : List Entry) → At k p → At (suc k) q → next K p ≡ seen e q → Lands K e q
       → Same (go-on (e ∷ l) 0 k) (resume K 0 p)
   unfolding go-on resume
-  same-zero k p (assign x c) q l a n s d = rw s (same-once spent k p a (rw s tt))
-  same-zero k p undo q l a n s d = rw s (same-once spent k p a (rw s tt))
+  same-zero k p (assign x c) q l a n s d = rw s (same-once spent k p a (inr (rw s tt)))
+  same-zero k p undo q l a n s d = rw s (same-once spent k p a (inr (rw s tt)))
   same-zero k p (model m) q l a n s d = rw s (same-once (found m) (suc k) q n d)
   same-zero k p end q l a n s d = rw s (same-once ended (suc k) q n d)
 
@@ -97,8 +97,8 @@ module _ (K : Tree) where
 
   same-over : (b k : ℕ) → At k over → Same (go-on [] b k) (resume K b over)
   unfolding go-on resume next
-  same-over zero k a = same-once ended k over a tt
-  same-over (suc b) k a = same-once ended k over a tt
+  same-over zero k a = same-once ended k over a (inr tt)
+  same-over (suc b) k a = same-once ended k over a (inr tt)
 
   call-over : (b k : ℕ) (p : Position) → At k p → p ≡ over → Same (go-on (drop k (walk K)) b k) (resume K b p)
   unfolding rest
@@ -112,7 +112,7 @@ module _ (K : Tree) where
       go (inl e) = call-over 0 k p a e
       go (inr s) =
           let g = s .2 in
-          rw (a .ahead ∙ g .ahead) (same-zero k p (s .0) (s .1) _ a (at-next (L .positive) a g) (g .shows) (lands K (L .positive) (g .kind)))
+          rw (a .ahead ∙ g .ahead) (same-zero k p (s .0) (s .1) _ a (at-next a g) (g .shows) (lands K (g .kind)))
   call-same L (suc b) k p a = go (step K L p (a .fine)) (λ q i. call-same L b (suc k) q i)
     where
       go : (p ≡ over) ⊎ Step K p → ((q : Position) → At (suc k) q → Same (go-on (drop (suc k) (walk K)) b (suc k)) (resume K b q))
@@ -120,5 +120,5 @@ module _ (K : Tree) where
       go (inl e) ih = call-over (suc b) k p a e
       go (inr s) ih =
           let g = s .2 in
-          let n = at-next (L .positive) a g in
-          rw (a .ahead ∙ g .ahead) (same-suc b k p (s .0) (s .1) _ a n (g .shows) (lands K (L .positive) (g .kind)) (rw (n .ahead) at (ih (s .1) n)))
+          let n = at-next a g in
+          rw (a .ahead ∙ g .ahead) (same-suc b k p (s .0) (s .1) _ a n (g .shows) (lands K (g .kind)) (rw (n .ahead) at (ih (s .1) n)))

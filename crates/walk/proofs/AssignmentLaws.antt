@@ -7,7 +7,6 @@ use mathlib.Core.Path.{_≡_, refl, sym, ap, _∙_, subst}
 use native.Mathlib.Nat.{div-lt-iff-lt-mul}
 use native.Mathlib.Omega.{arith}
 use lib.Dec.{eqb}
-use lib.ListN.{length, length-append}
 use lib.Pow.{pow-pos}
 use borrow.Author.Tests.{eqb-true, eqb-false, eq-eqb, not-false}
 use Rattle.lists.specs.Every.{Every}
@@ -16,8 +15,7 @@ use Rattle.masks.specs.Mask.{bit, with}
 use Rattle.masks.proofs.BitLaws.{bit-none, bit-with-same, bit-with-other, mask-ext, with-lt}
 use Rattle.formula.specs.Format.{Literal, names, distinct}
 use Rattle.formula.specs.Models.{Model}
-use Rattle.formula.proofs.FormatLaws.{distinct-rest, clause-more}
-use Rattle.formula.proofs.LengthLaws.{clause-le}
+use Rattle.formula.proofs.FormatLaws.{distinct-rest}
 use Rattle.formula.proofs.ModelLaws.{model-tests}
 use Rattle.splitting.specs.Terms.{Trail, Agrees}
 use Rattle.walk.specs.Plain.{assignment}
@@ -41,17 +39,6 @@ named-element (k ∷ t) v e =
     (λ (x : eqb (k .variable) v ≡ true). (k, List·Memᴰ·head refl, eqb-true (k .variable) v x))
     (λ (x : names t v ≡ true). let w = named-element t v x in (w .0, List·Memᴰ·tail (w .1), w .2))
     (or-cases (eqb (k .variable) v) (names t v) e)
-
--- n variables of n are all of them
-pub full-names : (n : ℕ) (t : List Literal) → Trail n t → length t ≡ n → (v : ℕ) → v < n → names t v ≡ true
-full-names n t T h v l = at (names t v) refl
-  where
-    at : (x : Bool) → names t v ≡ x → names t v ≡ true
-    at true e = e
-    at false e =
-        let k = clause-le (clause-more (record { variable = v; positive = true }) T l e) in
-        let q = length-append t (record { variable = v; positive = true } ∷ []) in
-        absurd (omega arith)
 
 -- what one literal more changes
 pub bit-other : (p : Bool) (m k v : ℕ) → (v ≡ k → ⊥) → bit (cond p (with m k) m) v ≡ bit m v
@@ -107,7 +94,13 @@ model-lt n cs a M =
     let w = div-lt-iff-lt-mul (pow-pos n) .0 (let q : a / 2 ^ n < 1 = omega arith in q) in
     omega arith
 
--- two assignments that agree with a full trail are equal
-pub full-same : (n : ℕ) (t : List Literal) → Trail n t → length t ≡ n → (a b : ℕ) → a < 2 ^ n → b < 2 ^ n → Agrees (bit a) t → Agrees (bit b) t → a ≡ b
-full-same n t T h a b p q g k =
-    mask-ext n a b p q (λ i l. let w = named-element t i (full-names n t T h i l) in subst (λ (v : ℕ). bit a v ≡ bit b v) (w .2) (g (w .0) (w .1) ∙ sym (k (w .0) (w .1))))
+-- an assignment that agrees with the trail and has no other variable true is the trail's
+pub same-assignment : (n : ℕ) (t : List Literal) → Trail n t → (a : ℕ) → a < 2 ^ n → Agrees (bit a) t → ((v : ℕ) → names t v ≡ false → bit a v ≡ false)
+    → a ≡ assignment t
+same-assignment n t T a p g f = mask-ext n a (assignment t) p (assignment-lt n t (T .below)) (λ i l. at i (names t i) refl)
+  where
+    at : (i : ℕ) (x : Bool) → names t i ≡ x → bit a i ≡ bit (assignment t) i
+    at i true e =
+        let w = named-element t i e in
+        subst (λ (v : ℕ). bit a v ≡ bit (assignment t) v) (w .2) (g (w .0) (w .1) ∙ sym (assignment-agrees n t T (w .0) (w .1)))
+    at i false e = f i e ∙ sym (assignment-none t i e)

@@ -7,6 +7,7 @@ use native.Mathlib.Omega.{arith}
 use lib.Dec.{eqb, leb}
 use lib.ListN.{length, take, drop, replicate, length-take, length-drop, length-map, take-append-drop}
 use borrow.Author.Tests.{eqb-true, eqb-false, ne-eqb, leb-true, le-leb, lt-leb, not-true}
+use Rattle.limits.specs.Limits.{max-variables}
 use Rattle.lists.specs.Padded.{padded}
 use Rattle.lists.proofs.PaddedLaws.{take-padded, drop-padded}
 use Rattle.lists.proofs.TestLaws.{and-left, and-right, and-both}
@@ -27,7 +28,7 @@ pushed-append [] ys t = refl
 pushed-append (x ∷ xs) ys t = pushed-append xs ys (push (byte-number x - 1) (byte-value x) t)
 
 -- a byte's variable and value
-pub byte-back : (v : ℕ) (b : Bool) (t : Stack) → v < 48 → push (byte-number (byte (record { variable = v; positive = b })) - 1) (byte-value (byte (record { variable = v; positive = b }))) t ≡ push v b t
+pub byte-back : (v : ℕ) (b : Bool) (t : Stack) → v < max-variables → push (byte-number (byte (record { variable = v; positive = b })) - 1) (byte-value (byte (record { variable = v; positive = b }))) t ≡ push v b t
 byte-back v false t h =
     let e : leb 128 (v + 1) ≡ false = lt-leb 128 (v + 1) (omega arith) in
     let f : v + 1 - 1 ≡ v = omega arith in
@@ -37,22 +38,22 @@ byte-back v true t h =
     let f : v + 1 + 128 - 128 - 1 ≡ v = omega arith in
     rw (e, f)
 
-pushed-bytes : (n : ℕ) (t : Stack) → n ≤ 48 → Below n t → pushed empty (map byte (trail-of t)) ≡ t
+pushed-bytes : (t : Stack) → Below max-variables t → pushed empty (map byte (trail-of t)) ≡ t
 unfolding trail-of pushed
-pushed-bytes n empty h w = refl
-pushed-bytes n (push v b t) h w =
+pushed-bytes empty w = refl
+pushed-bytes (push v b t) w =
     ap (pushed empty) (map-append byte (trail-of t) (record { variable = v; positive = b } ∷ []))
     ∙ pushed-append (map byte (trail-of t)) (byte (record { variable = v; positive = b }) ∷ []) empty
     ∙ ap (λ (u : Stack). push (byte-number (byte (record { variable = v; positive = b })) - 1) (byte-value (byte (record { variable = v; positive = b }))) u)
-    (pushed-bytes n t h (w .1))
-    ∙ byte-back v b t (let q = w .0 in omega arith)
+    (pushed-bytes t (w .1))
+    ∙ byte-back v b t (w .0)
 
 -- what is written is read back
-pub read-written : (n m : ℕ) (t : Stack) → n ≤ 48 → Below n t → read (checkpoint-of m (trail-of t)) ≡ t
+pub read-written : (m : ℕ) (t : Stack) → Below max-variables t → read (checkpoint-of m (trail-of t)) ≡ t
 unfolding checkpoint-of
-read-written n m t h w =
-    ap (pushed empty) (ap (λ (k : ℕ). take k (padded 48 0 (map byte (trail-of t)))) (sym (length-map (trail-of t) byte)) ∙ take-padded 48 0 (map byte (trail-of t)))
-    ∙ pushed-bytes n t h w
+read-written m t w =
+    ap (pushed empty) (ap (λ (k : ℕ). take k (padded max-variables 0 (map byte (trail-of t)))) (sym (length-map (trail-of t) byte)) ∙ take-padded max-variables 0 (map byte (trail-of t)))
+    ∙ pushed-bytes t w
 
 zeros-replicate : (k : ℕ) → zeros (replicate k 0) ≡ true
 unfolding zeros
@@ -64,7 +65,7 @@ unfolding zeros
 zeros-are [] e = refl
 zeros-are (x ∷ l) e = ap₂ {C = List ℕ} (λ y r. y ∷ r) (eqb-true x 0 (and-left (eqb x 0) (zeros l) e)) (zeros-are l (and-right (eqb x 0) (zeros l) e))
 
-byte-numbered : (v : ℕ) (b : Bool) → v < 48 → not (eqb (byte-number (byte (record { variable = v; positive = b }))) 0) ≡ true
+byte-numbered : (v : ℕ) (b : Bool) → v < max-variables → not (eqb (byte-number (byte (record { variable = v; positive = b }))) 0) ≡ true
 byte-numbered v false h =
     let e : leb 128 (v + 1) ≡ false = lt-leb 128 (v + 1) (omega arith) in
     let f : eqb (v + 1) 0 ≡ false = ne-eqb (v + 1) 0 (λ q. omega arith) in
@@ -80,24 +81,24 @@ numbered-append [] ys h k = k
 numbered-append (x ∷ xs) ys h k =
     and-both _ _ (and-left (not (eqb (byte-number x) 0)) (numbered xs) h) (numbered-append xs ys (and-right (not (eqb (byte-number x) 0)) (numbered xs) h) k)
 
-numbered-bytes : (n : ℕ) (t : Stack) → n ≤ 48 → Below n t → numbered (map byte (trail-of t)) ≡ true
+numbered-bytes : (t : Stack) → Below max-variables t → numbered (map byte (trail-of t)) ≡ true
 unfolding trail-of numbered
-numbered-bytes n empty h w = refl
-numbered-bytes n (push v b t) h w =
-    rw map-append (numbered-append (map byte (trail-of t)) (byte (record { variable = v; positive = b }) ∷ []) (numbered-bytes n t h (w .1))
-    (and-both _ _ (byte-numbered v b (let q = w .0 in omega arith)) refl))
+numbered-bytes empty w = refl
+numbered-bytes (push v b t) w =
+    rw map-append (numbered-append (map byte (trail-of t)) (byte (record { variable = v; positive = b }) ∷ []) (numbered-bytes t (w .1))
+    (and-both _ _ (byte-numbered v b (w .0)) refl))
 
 -- what is written is well formed
-pub written-formed : (n m : ℕ) (t : Stack) → n ≤ 48 → m ≤ 4 → depth t ≤ 48 → Below n t → formed (checkpoint-of m (trail-of t)) ≡ true
+pub written-formed : (m : ℕ) (t : Stack) → m ≤ 4 → depth t ≤ max-variables → Below max-variables t → formed (checkpoint-of m (trail-of t)) ≡ true
 unfolding formed checkpoint-of
-written-formed n m t h k d w =
+written-formed m t k d w =
     let l : length (map byte (trail-of t)) ≡ length (trail-of t) = length-map (trail-of t) byte in
     let e : length (trail-of t) ≡ depth t = length-trail t in
-    let p : take (length (trail-of t)) (padded 48 0 (map byte (trail-of t))) ≡ map byte (trail-of t) = rw (← l) (take-padded 48 0 (map byte (trail-of t))) in
-    let q : drop (length (trail-of t)) (padded 48 0 (map byte (trail-of t))) ≡ replicate (48 - length (map byte (trail-of t))) 0 =
-    ap (λ (k : ℕ). drop k (padded 48 0 (map byte (trail-of t)))) (sym l) ∙ drop-padded 48 0 (map byte (trail-of t)) in
-    let s : length (trail-of t) ≤ 48 = omega arith in
-    rw (le-leb m 4 k, le-leb (length (trail-of t)) 48 s, p, q) (and-both _ _ (numbered-bytes n t h w) (zeros-replicate (48 - length (map byte (trail-of t)))))
+    let p : take (length (trail-of t)) (padded max-variables 0 (map byte (trail-of t))) ≡ map byte (trail-of t) = rw (← l) (take-padded max-variables 0 (map byte (trail-of t))) in
+    let q : drop (length (trail-of t)) (padded max-variables 0 (map byte (trail-of t))) ≡ replicate (max-variables - length (map byte (trail-of t))) 0 =
+    ap (λ (k : ℕ). drop k (padded max-variables 0 (map byte (trail-of t)))) (sym l) ∙ drop-padded max-variables 0 (map byte (trail-of t)) in
+    let s : length (trail-of t) ≤ max-variables = omega arith in
+    rw (le-leb m 4 k, le-leb (length (trail-of t)) max-variables s, p, q) (and-both _ _ (numbered-bytes t w) (zeros-replicate (max-variables - length (map byte (trail-of t)))))
 
 -- one variable for each byte
 pub pushed-depth : (xs : List ℕ) (t : Stack) → depth (pushed t xs) ≡ depth t + length xs
@@ -120,21 +121,21 @@ bytes-pushed (x ∷ xs) t h =
     bytes-pushed xs (push (byte-number x - 1) (byte-value x) t) (and-right (not (eqb (byte-number x) 0)) (numbered xs) h)
     ∙ simp (map-append, append-assoc) (ap (λ (y : ℕ). map byte (trail-of t) ++ (y ∷ xs)) (byte-forth x (and-left (not (eqb (byte-number x) 0)) (numbered xs) h)))
 
-refilled : (k : ℕ) (l : List ℕ) → length l ≡ 48 → k ≤ 48 → numbered (take k l) ≡ true → zeros (drop k l) ≡ true
-    → padded 48 0 (map byte (trail-of (pushed empty (take k l)))) ≡ l
+refilled : (k : ℕ) (l : List ℕ) → length l ≡ max-variables → k ≤ max-variables → numbered (take k l) ≡ true → zeros (drop k l) ≡ true
+    → padded max-variables 0 (map byte (trail-of (pushed empty (take k l)))) ≡ l
 unfolding padded trail-of
 refilled k l h w num z =
     let e : map byte (trail-of (pushed empty (take k l))) ≡ take k l = bytes-pushed (take k l) empty num in
-    let q : 48 - length (take k l) ≡ length (drop k l) = omega (arith, length-take k l, length-drop k l) in
+    let q : max-variables - length (take k l) ≡ length (drop k l) = omega (arith, length-take k l, length-drop k l) in
     rw (e, q, ← (zeros-are (drop k l) z)) (take-append-drop k l)
 
 -- what is well formed is what was written
-pub formed-written : (c : Checkpoint) → length (c .bytes) ≡ 48 → formed c ≡ true → checkpoint-of (c .mode) (trail-of (read c)) ≡ c
+pub formed-written : (c : Checkpoint) → length (c .bytes) ≡ max-variables → formed c ≡ true → checkpoint-of (c .mode) (trail-of (read c)) ≡ c
 unfolding formed checkpoint-of
 formed-written c h f =
     let a = and-right (leb (c .mode) 4) _ f in
-    let b = and-right (leb (c .length) 48) _ a in
-    let l : c .length ≤ 48 = leb-true (c .length) 48 (and-left (leb (c .length) 48) _ a) in
+    let b = and-right (leb (c .length) max-variables) _ a in
+    let l : c .length ≤ max-variables = leb-true (c .length) max-variables (and-left (leb (c .length) max-variables) _ a) in
     let d : length (trail-of (read c)) ≡ c .length =
     length-trail (read c) ∙ pushed-depth (take (c .length) (c .bytes)) empty ∙ omega (arith, length-take (c .length) (c .bytes)) in
     let num = and-left (numbered (take (c .length) (c .bytes))) _ b in

@@ -13,8 +13,10 @@ use Rattle.formula.specs.Decode.{read-record, records, decode}
 use Rattle.splitting.specs.Nodes.{less, assign, remaining, occurs, named, first-from, upward-from}
 use Rattle.splitting.specs.Stripping.{pure, not-naming, strip}
 use Rattle.splitting.specs.Choosing.{matched, trial, first-passing, candidates, among, listed, last, emptied, last-listed, choice}
+use Rattle.matched.specs.Acceptance.{acceptance}
+use Rattle.walk.specs.Task.{whole}
 use Rattle.walk.specs.Plain.{assignment, node-walk, plain-walk}
-use Rattle.walk.specs.WalkCall.{Kind, says-model, says-spent, says-ended, Result, same-bytes, same, locate-from, located, walk-call, walk-calls}
+use Rattle.walk.specs.WalkCall.{Kind, says-model, says-spent, says-ended, Result, same-bytes, same, locate-from, located, task-call, walk-call, walk-calls}
 use Rattle.walk.specs.Checkpoints.{start, Checkpoint, checkpoint-of, without-last, last-value, past-all, behind, checkpoint-after}
 use Rattle.walk.specs.PlainMachine.{Answer, found, spent, ended, Call, go-on, plain-call, plain-calls}
 
@@ -24,13 +26,12 @@ on v = record { variable = v; positive = true }
 abbrev off : ℕ → Literal
 off v = record { variable = v; positive = false }
 
--- the answer, the steps and the expansions of a call
 -- the answer, the steps and the checkpoint of a call on the first formula
 abbrev stop : Call → Answer × ℕ × Checkpoint
-stop c = (c .answer, c .steps, checkpoint-after 2 ((on 0 ∷ on 1 ∷ []) ∷ (off 0 ∷ off 1 ∷ []) ∷ []) (c .behind))
+stop c = (c .answer, c .steps, checkpoint-after (whole 2 ((on 0 ∷ on 1 ∷ []) ∷ (off 0 ∷ off 1 ∷ []) ∷ [])) (c .behind))
 
 -- the first formula with smaller budgets: checkpoints of all modes, and a call past the end
-pub small-budgets : map stop (plain-calls 2 ((on 0 ∷ on 1 ∷ []) ∷ (off 0 ∷ off 1 ∷ []) ∷ []) 0 (0 ∷ 1 ∷ 96 ∷ 1 ∷ 1 ∷ 96 ∷ 2 ∷ 5 ∷ []))
+pub small-budgets : map stop (plain-calls (whole 2 ((on 0 ∷ on 1 ∷ []) ∷ (off 0 ∷ off 1 ∷ []) ∷ [])) 0 (0 ∷ 1 ∷ 96 ∷ 1 ∷ 1 ∷ 96 ∷ 2 ∷ 5 ∷ []))
     ≡ (spent, 0, checkpoint-of 0 []) ∷ (spent, 1, checkpoint-of 1 (off 0 ∷ [])) ∷ (found 2, 1, checkpoint-of 1 (off 0 ∷ on 1 ∷ []))
     ∷ (spent, 1, checkpoint-of 3 (off 0 ∷ [])) ∷ (spent, 1, checkpoint-of 2 []) ∷ (found 1, 2, checkpoint-of 1 (on 0 ∷ off 1 ∷ []))
     ∷ (ended, 2, checkpoint-of 4 []) ∷ (ended, 0, checkpoint-of 4 []) ∷ []
@@ -49,7 +50,7 @@ values r = (r .kind, r .model, r .number, r .steps, r .expansions)
 -- the first formula from its bytes, each call given the checkpoint that the last one returned
 pub from-bytes : map values (walk-calls (1 ∷ 2 ∷ 2 ∷ 1 ∷ 2 ∷ 2 ∷ 4 ∷ 3 ∷ 1 ∷ 3 ∷ 2 ∷ 4 ∷ 5 ∷ []) start (1 ∷ 0 ∷ 96 ∷ 3 ∷ 96 ∷ 96 ∷ 0 ∷ []))
     ≡ (says-spent, 0, 0, 1, 2) ∷ (says-spent, 0, 0, 0, 0) ∷ (says-model, 2, 0, 1, 0) ∷ (says-spent, 0, 0, 3, 0) ∷ (says-model, 1, 0, 1, 0) ∷ (says-ended, 0, 0, 2, 0) ∷ (says-ended, 0, 0, 0, 0) ∷ []
-unfolding plain-calls plain-call go-on plain-walk node-walk assignment choice remaining assign less names names-as occurs named first-from upward-from pure not-naming strip variables matched trial first-passing candidates among listed last emptied last-listed outcome match-rest search-from expand take-front scan see begin no-links owner rematch-from bit members xor walk-calls walk-call start checkpoint-of padded decode records read-record located locate-from same same-bytes checkpoint-after behind past-all without-last last-value
+unfolding plain-calls plain-call go-on plain-walk node-walk assignment choice remaining assign less names names-as occurs named first-from upward-from pure not-naming strip variables matched trial first-passing candidates among listed last emptied last-listed outcome match-rest search-from expand take-front scan see begin no-links owner rematch-from bit members xor walk-calls walk-call task-call acceptance start checkpoint-of padded decode records read-record located locate-from same same-bytes checkpoint-after behind past-all without-last last-value
 from-bytes = refl
 
 -- the refusal's number and place
@@ -58,30 +59,30 @@ refusal r = (r .number, r .place)
 
 -- (¬1): true is closed at the root, so that the end follows the undoing of false in the same call, and mode 2 at length 0 is never had
 pub closed-root : refusal (walk-call (1 ∷ 1 ∷ 3 ∷ 1 ∷ 4 ∷ 5 ∷ []) (checkpoint-of 2 []) 96) ≡ (11, 0)
-unfolding plain-calls plain-call go-on plain-walk node-walk assignment choice remaining assign less names names-as occurs named first-from upward-from pure not-naming strip variables matched trial first-passing candidates among listed last emptied last-listed outcome match-rest search-from expand take-front scan see begin no-links owner rematch-from bit members xor walk-calls walk-call start checkpoint-of padded decode records read-record located locate-from same same-bytes checkpoint-after behind past-all without-last last-value
+unfolding plain-calls plain-call go-on plain-walk node-walk assignment choice remaining assign less names names-as occurs named first-from upward-from pure not-naming strip variables matched trial first-passing candidates among listed last emptied last-listed outcome match-rest search-from expand take-front scan see begin no-links owner rematch-from bit members xor walk-calls walk-call task-call acceptance start checkpoint-of padded decode records read-record located locate-from same same-bytes checkpoint-after behind past-all without-last last-value
 closed-root = refl
 
 -- on the first formula mode 2 is had at length 0
 pub open-root : refusal (walk-call (1 ∷ 2 ∷ 2 ∷ 1 ∷ 2 ∷ 2 ∷ 4 ∷ 3 ∷ 1 ∷ 3 ∷ 2 ∷ 4 ∷ 5 ∷ []) (checkpoint-of 2 []) 96) ≡ (0, 0)
-unfolding plain-calls plain-call go-on plain-walk node-walk assignment choice remaining assign less names names-as occurs named first-from upward-from pure not-naming strip variables matched trial first-passing candidates among listed last emptied last-listed outcome match-rest search-from expand take-front scan see begin no-links owner rematch-from bit members xor walk-calls walk-call start checkpoint-of padded decode records read-record located locate-from same same-bytes checkpoint-after behind past-all without-last last-value
+unfolding plain-calls plain-call go-on plain-walk node-walk assignment choice remaining assign less names names-as occurs named first-from upward-from pure not-naming strip variables matched trial first-passing candidates among listed last emptied last-listed outcome match-rest search-from expand take-front scan see begin no-links owner rematch-from bit members xor walk-calls walk-call task-call acceptance start checkpoint-of padded decode records read-record located locate-from same same-bytes checkpoint-after behind past-all without-last last-value
 open-root = refl
 
 -- mode 3 is never had there
 pub never-three : refusal (walk-call (1 ∷ 2 ∷ 2 ∷ 1 ∷ 2 ∷ 2 ∷ 4 ∷ 3 ∷ 1 ∷ 3 ∷ 2 ∷ 4 ∷ 5 ∷ []) (checkpoint-of 3 []) 96) ≡ (11, 0)
-unfolding plain-calls plain-call go-on plain-walk node-walk assignment choice remaining assign less names names-as occurs named first-from upward-from pure not-naming strip variables matched trial first-passing candidates among listed last emptied last-listed outcome match-rest search-from expand take-front scan see begin no-links owner rematch-from bit members xor walk-calls walk-call start checkpoint-of padded decode records read-record located locate-from same same-bytes checkpoint-after behind past-all without-last last-value
+unfolding plain-calls plain-call go-on plain-walk node-walk assignment choice remaining assign less names names-as occurs named first-from upward-from pure not-naming strip variables matched trial first-passing candidates among listed last emptied last-listed outcome match-rest search-from expand take-front scan see begin no-links owner rematch-from bit members xor walk-calls walk-call task-call acceptance start checkpoint-of padded decode records read-record located locate-from same same-bytes checkpoint-after behind past-all without-last last-value
 never-three = refl
 
 -- 10 before 11, with the number of marked clauses
 pub empty-clause : refusal (walk-call (1 ∷ 1 ∷ 4 ∷ 5 ∷ []) (checkpoint-of 3 []) 96) ≡ (10, 1)
-unfolding plain-calls plain-call go-on plain-walk node-walk assignment choice remaining assign less names names-as occurs named first-from upward-from pure not-naming strip variables matched trial first-passing candidates among listed last emptied last-listed outcome match-rest search-from expand take-front scan see begin no-links owner rematch-from bit members xor walk-calls walk-call start checkpoint-of padded decode records read-record located locate-from same same-bytes checkpoint-after behind past-all without-last last-value
+unfolding plain-calls plain-call go-on plain-walk node-walk assignment choice remaining assign less names names-as occurs named first-from upward-from pure not-naming strip variables matched trial first-passing candidates among listed last emptied last-listed outcome match-rest search-from expand take-front scan see begin no-links owner rematch-from bit members xor walk-calls walk-call task-call acceptance start checkpoint-of padded decode records read-record located locate-from same same-bytes checkpoint-after behind past-all without-last last-value
 empty-clause = refl
 
 -- and two of them
 pub two-marked : refusal (walk-call (1 ∷ 1 ∷ 2 ∷ 1 ∷ 4 ∷ 3 ∷ 1 ∷ 4 ∷ 5 ∷ []) start 0) ≡ (10, 2)
-unfolding plain-calls plain-call go-on plain-walk node-walk assignment choice remaining assign less names names-as occurs named first-from upward-from pure not-naming strip variables matched trial first-passing candidates among listed last emptied last-listed outcome match-rest search-from expand take-front scan see begin no-links owner rematch-from bit members xor walk-calls walk-call start checkpoint-of padded decode records read-record located locate-from same same-bytes checkpoint-after behind past-all without-last last-value
+unfolding plain-calls plain-call go-on plain-walk node-walk assignment choice remaining assign less names names-as occurs named first-from upward-from pure not-naming strip variables matched trial first-passing candidates among listed last emptied last-listed outcome match-rest search-from expand take-front scan see begin no-links owner rematch-from bit members xor walk-calls walk-call task-call acceptance start checkpoint-of padded decode records read-record located locate-from same same-bytes checkpoint-after behind past-all without-last last-value
 two-marked = refl
 
 -- 2 before both
 pub no-bytes : refusal (walk-call [] (checkpoint-of 3 []) 96) ≡ (2, 0)
-unfolding plain-calls plain-call go-on plain-walk node-walk assignment choice remaining assign less names names-as occurs named first-from upward-from pure not-naming strip variables matched trial first-passing candidates among listed last emptied last-listed outcome match-rest search-from expand take-front scan see begin no-links owner rematch-from bit members xor walk-calls walk-call start checkpoint-of padded decode records read-record located locate-from same same-bytes checkpoint-after behind past-all without-last last-value
+unfolding plain-calls plain-call go-on plain-walk node-walk assignment choice remaining assign less names names-as occurs named first-from upward-from pure not-naming strip variables matched trial first-passing candidates among listed last emptied last-listed outcome match-rest search-from expand take-front scan see begin no-links owner rematch-from bit members xor walk-calls walk-call task-call acceptance start checkpoint-of padded decode records read-record located locate-from same same-bytes checkpoint-after behind past-all without-last last-value
 no-bytes = refl

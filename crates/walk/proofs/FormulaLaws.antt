@@ -1,188 +1,174 @@
--- The walk calls on a readable, matched input: no call is refused, and the calls are those of the plain machine.
-use Prim.Native.Nat.{ℕ, _+_, _*_, _-_, _≤_}
-use mathlib.Core.Bool.{Bool, true, false, cond, true≢false}
+-- The walk calls on an input that is walked as a task: no call is refused, and the calls are those of the plain machine.
+use Prim.Native.Nat.{ℕ, _-_, _≤_, _<_}
+use mathlib.Core.Bool.{Bool, true, false, cond}
 use mathlib.Core.List.{List, [], _∷_, _++_, map, List·Memᴰ}
 use mathlib.Core.Logic.{_⊎_, inl, inr, _↔_}
 use mathlib.Core.Path.{_≡_, refl, sym, ap, ap₂, _∙_, subst}
 use native.Mathlib.Nat.{sub-zero}
 use native.Mathlib.Omega.{arith}
 use lib.ListN.{length, take, length-map}
+use Rattle.limits.specs.Limits.{max-variables}
 use Rattle.lists.specs.Distinct.{Distinct}
 use Rattle.lists.specs.Every.{Every}
 use Rattle.lists.proofs.PaddedLaws.{length-padded}
 use Rattle.lists.proofs.TestLaws.{clash}
 use Rattle.masks.specs.Mask.{bit}
-use Rattle.matching.specs.Matched.{Matched}
-use Rattle.matching.specs.Search.{Outcome, success, failure, outcome, succeeds}
-use Rattle.matching.proofs.Theorems.{matched-succeeds}
+use Rattle.masks.proofs.SizeLaws.{size-le}
 use Rattle.formula.specs.declared.Refusal.the-variants.{ForeignCheckpoint}
-use Rattle.formula.specs.Decode.{readable, decode}
-use Rattle.formula.specs.Format.{Literal, Sized}
-use Rattle.formula.specs.Masked.{variables}
-use Rattle.formula.specs.Models.{Model}
-use Rattle.formula.proofs.Demands.{accepted-only}
-use Rattle.matched.proofs.PairingLaws.{masks-words}
+use Rattle.formula.specs.Format.{Literal}
 use Rattle.splitting.specs.Terms as terms
+use Rattle.splitting.specs.Terms.{opened}
+use Rattle.walk.specs.Task.{Task, to-assign, choice-at, ModelFor, Posed}
 use Rattle.walk.specs.Plain.{Entry, assign, plain-walk, models-of, listing}
 use Rattle.walk.specs.Checkpoints.{Checkpoint, Behind, byte, checkpoint-of, start, past-all, behind, checkpoint-after}
 use Rattle.walk.specs.PlainMachine.{Answer, found, spent, ended, Call, plain-call, plain-calls, state-after, Has}
-use Rattle.walk.specs.WalkCall.{says-model, says-spent, says-ended, says-refused, Result, kind-of, answered, refusing, plain-result, Located, at-state, nowhere, located, by-state, walk-call, walk-calls, last-checkpoint}
-use Rattle.walk.specs.Gaps.{brought, SaysEnded, gaps, Paced}
+use Rattle.walk.specs.WalkCall.{says-model, says-spent, says-ended, says-refused, Result, kind-of, answered, refusing, plain-result, Located, at-state, nowhere, located, by-state, task-call, walk-call, walk-calls, last-checkpoint}
+use Rattle.walk.specs.Gaps.{brought, SaysEnded, gaps, Paced, step-bound, ample-budget}
 use Rattle.walk.specs.Proper.{Proper}
 use Rattle.walk.specs.InnerStack.{Stack, empty, depth, trail-of, tree}
 use Rattle.walk.specs.InnerMachine.{Position, down, over, next, resume}
 use Rattle.walk.specs.InnerTest.{stack-of, shown, read, position-of, accepts}
 use Rattle.walk.specs.InnerCall.{resumed-result, call-from}
 use Rattle.walk.proofs.LocateLaws.{located-stands, has-located}
-use Rattle.walk.proofs.RestLaws.{Quiet, walk, node, up, rest, Replayed, replayed-depth, Ok, Live}
+use Rattle.walk.proofs.RestLaws.{Stops, walk, node, up, rest, Replayed, replayed-depth, Ok, Live}
 use Rattle.walk.proofs.PositionLaws.{behind-of, length-trail}
 use Rattle.walk.proofs.AgreeLaws.{behind-after, At, at-start, at-every, Same, call-same}
-use Rattle.walk.proofs.ListingLaws.{Agrees, walk-lists, walk-distinct, node-model}
-use Rattle.walk.proofs.CallLaws.{call-effect, resumes, last-position, results, brought-first, brought-all, never-spent, over-quiet, steps-within, spent-all}
+use Rattle.walk.proofs.ListingLaws.{walk-lists, walk-distinct, node-model}
+use Rattle.walk.proofs.CallLaws.{call-effect, resumes, last-position, results, brought-first, brought-all, never-spent, over-stops, steps-within, spent-all}
 use Rattle.walk.proofs.LoopLaws.{loop-over}
 use Rattle.walk.proofs.CostLaws.{walk-cheap}
 use Rattle.walk.proofs.PaceLaws.{pace}
-use Rattle.walk.proofs.MetLaws.{down-quiet, down-spent, all-got}
+use Rattle.walk.proofs.MetLaws.{start-stops, down-spent, all-got}
 use Rattle.walk.proofs.AcceptLaws.{stack-replayed, shown-position, call-shown, accepted-stopped, stopped-accepted}
 use Rattle.walk.proofs.ProperLaws.{stop-proper, proper-stop}
 use Rattle.walk.proofs.ByteLaws.{Below}
-use Rattle.walk.proofs.TreeLaws.{walk-same, agrees-trail, trail-below, live, splits, cheap}
+use Rattle.walk.proofs.TreeLaws.{walk-same, trail-agrees, agrees-trail, trail-below, live, open-model, model-open, splits, cheap}
 
--- the matching succeeds
-matched-success : {n : ℕ} {cs : List (List Literal)} → Sized n cs → Matched (map variables cs) → (vs : List ℕ) × (e : ℕ) × (outcome (map variables cs) ≡ success vs e)
-matched-success {n} {cs} Z M = at (outcome (map variables cs)) refl (matched-succeeds (map variables cs) (masks-words Z) M)
-  where
-    at : (o : Outcome) → outcome (map variables cs) ≡ o → succeeds (outcome (map variables cs)) ≡ true → (vs : List ℕ) × (e : ℕ) × (outcome (map variables cs) ≡ success vs e)
-    at (success vs e) q t = (vs, e, q)
-    at (failure taken e) q t = absurd (true≢false (sym t ∙ ap succeeds q))
-
-module _ (n : ℕ) (cs : List (List Literal)) where
+module _ (T : Task) where
   -- the mode and the trail behind k entries, and their checkpoint, are those of the position
-  at-behind : {k : ℕ} {p : Position} → At (tree n cs) k p → behind n cs k ≡ behind-of p
+  at-behind : {k : ℕ} {p : Position} → At (tree T) k p → behind T k ≡ behind-of p
   unfolding behind behind-after
-  at-behind {k} a = ap (λ (l : List Entry). past-all (record { mode = 0; trail = [] }) (take k l)) (walk-same n cs) ∙ a .shown
+  at-behind {k} a = ap (λ (l : List Entry). past-all (record { mode = 0; trail = [] }) (take k l)) (walk-same T) ∙ a .shown
 
-  at-checkpoint : {k : ℕ} {p : Position} → At (tree n cs) k p → checkpoint-after n cs k ≡ shown p
+  at-checkpoint : {k : ℕ} {p : Position} → At (tree T) k p → checkpoint-after T k ≡ shown p
   unfolding checkpoint-after
   at-checkpoint a = ap (λ (b : Behind). checkpoint-of (b .mode) (b .trail)) (at-behind a)
 
-  rest-start : rest (tree n cs) (down empty) ≡ plain-walk n cs
+  rest-start : rest (tree T) (down empty) ≡ plain-walk T
   unfolding rest node up walk
-  rest-start = rw sub-zero (sym (walk-same n cs))
+  rest-start = rw sub-zero (sym (walk-same T))
 
-module _ (s : List ℕ) (n : ℕ) (cs : List (List Literal)) (reads : decode s ≡ readable n cs) (M : Matched (map variables cs)) where
-  abbrev sized : Sized n cs
-  sized = accepted-only s n cs reads .sized
+-- an input whose walk calls are those on a task
+module _ (s : List ℕ) (T : Task) (P : Posed T) (walks : (c : Checkpoint) (b : ℕ) → walk-call s c b ≡ task-call T c b) where
+  abbrev alive : Live (tree T)
+  alive = live T P
 
-  abbrev alive : Live (tree n cs)
-  alive = live n cs sized M
+  small : to-assign T ≤ max-variables
+  small = omega (arith, size-le (T .variables) (T .scope) (P .below), P .most)
 
-  small : n ≤ 48
-  small = sized .most
-
-  low : (t : Stack) → Replayed (tree n cs) t → Below n t
-  low = trail-below n cs sized M
+  low : (t : Stack) → Replayed (tree T) t → Below max-variables t
+  low = trail-below T P
 
   start-shown : start ≡ shown (down empty)
   unfolding start trail-of
   start-shown = refl
 
-  start-quiet : Quiet (next (tree n cs) (down empty))
-  start-quiet = down-quiet (tree n cs) alive empty (sized .some)
+  start-stop : Stops (tree T) (down empty)
+  start-stop = start-stops (tree T) alive
 
   -- one call of the plain machine
-  plain-same : (b k : ℕ) (p : Position) → At (tree n cs) k p → Same (tree n cs) (plain-call n cs b k) (resume (tree n cs) b p)
+  plain-same : (b k : ℕ) (p : Position) → At (tree T) k p → Same (tree T) (plain-call T b k) (resume (tree T) b p)
   unfolding plain-call
-  plain-same b k p a = rw (walk-same n cs) (call-same (tree n cs) alive b k p a)
+  plain-same b k p a = rw (walk-same T) (call-same (tree T) alive b k p a)
 
-  plain-resumed : (b k : ℕ) (p : Position) → At (tree n cs) k p → plain-result n cs (plain-call n cs b k) ≡ resumed-result (resume (tree n cs) b p)
+  plain-resumed : (b k : ℕ) (p : Position) → At (tree T) k p → plain-result T (plain-call T b k) ≡ resumed-result (resume (tree T) b p)
   plain-resumed b k p a =
       let w = plain-same b k p a in
-      let c = at-checkpoint n cs (w .at) in
+      let c = at-checkpoint T (w .at) in
       rw (w .answer, w .steps, w .expansions, c)
 
-  plain-results : (bs : List ℕ) (k : ℕ) (p : Position) → At (tree n cs) k p → map (plain-result n cs) (plain-calls n cs k bs) ≡ results (tree n cs) alive p bs
+  plain-results : (bs : List ℕ) (k : ℕ) (p : Position) → At (tree T) k p → map (plain-result T) (plain-calls T k bs) ≡ results (tree T) alive p bs
   unfolding plain-calls resumes
   plain-results [] k p a = refl
   plain-results (b ∷ bs) k p a =
       ap₂ {C = List Result} (λ x y. x ∷ y) (plain-resumed b k p a)
-      (plain-results bs (plain-call n cs b k .behind) (resume (tree n cs) b p .position) (plain-same b k p a .at))
+      (plain-results bs (plain-call T b k .behind) (resume (tree T) b p .position) (plain-same b k p a .at))
 
   -- where the plain machine stands after a list of calls
-  state-at : (bs : List ℕ) (k : ℕ) (p : Position) → At (tree n cs) k p → At (tree n cs) (state-after n cs k bs) (last-position (tree n cs) alive p bs)
+  state-at : (bs : List ℕ) (k : ℕ) (p : Position) → At (tree T) k p → At (tree T) (state-after T k bs) (last-position (tree T) alive p bs)
   unfolding state-after last-position
   state-at [] k p a = a
-  state-at (b ∷ bs) k p a = state-at bs (plain-call n cs b k .behind) (resume (tree n cs) b p .position) (plain-same b k p a .at)
+  state-at (b ∷ bs) k p a = state-at bs (plain-call T b k .behind) (resume (tree T) b p .position) (plain-same b k p a .at)
 
-  state-quiet : (bs : List ℕ) (p : Position) → Ok (tree n cs) p → Quiet (next (tree n cs) p) → Quiet (next (tree n cs) (last-position (tree n cs) alive p bs))
+  state-stops : (bs : List ℕ) (p : Position) → Ok (tree T) p → Stops (tree T) p → Stops (tree T) (last-position (tree T) alive p bs)
   unfolding last-position
-  state-quiet [] p o q = q
-  state-quiet (b ∷ bs) p o q = let e = call-effect (tree n cs) alive b p o in state-quiet bs (resume (tree n cs) b p .position) (e .fine) (e .quiet)
+  state-stops [] p o q = q
+  state-stops (b ∷ bs) p o q = let e = call-effect (tree T) alive b p o in state-stops bs (resume (tree T) b p .position) (e .fine) (e .stops)
 
   -- the position of a checkpoint that the walk has
   abbrev standing : List ℕ → Position
-  standing bs = last-position (tree n cs) alive (down empty) bs
+  standing bs = last-position (tree T) alive (down empty) bs
 
-  standing-at : (bs : List ℕ) → At (tree n cs) (state-after n cs 0 bs) (standing bs)
-  standing-at bs = state-at bs 0 (down empty) (at-start (tree n cs))
+  standing-at : (bs : List ℕ) → At (tree T) (state-after T 0 bs) (standing bs)
+  standing-at bs = state-at bs 0 (down empty) (at-start (tree T))
 
-  standing-quiet : (bs : List ℕ) → Quiet (next (tree n cs) (standing bs))
-  standing-quiet bs = state-quiet bs (down empty) tt start-quiet
+  standing-stops : (bs : List ℕ) → Stops (tree T) (standing bs)
+  standing-stops bs = state-stops bs (down empty) tt start-stop
 
   -- ---- a call
 
-  -- a call on a matched input goes on from the checkpoint's state, or is refused by 11
-  pub call-is : (c : Checkpoint) (b : ℕ) (x : Located) → located n cs c ≡ x → walk-call s c b ≡ by-state n cs c x b
-  unfolding walk-call
-  call-is c b x e = let w = matched-success sized M in rw (reads, w .2, e)
+  -- a call goes on from the checkpoint's state, or is refused by 11
+  pub call-is : (c : Checkpoint) (b : ℕ) (x : Located) → located T c ≡ x → walk-call s c b ≡ by-state T c x b
+  unfolding task-call
+  call-is c b x e = walks c b ∙ rw e refl
 
   -- the checkpoint of a position at which a call can stop is no other's
-  shown-one : (p q : Position) → Ok (tree n cs) p → Quiet (next (tree n cs) p) → Ok (tree n cs) q → Quiet (next (tree n cs) q) → shown p ≡ shown q → p ≡ q
+  shown-one : (p q : Position) → Ok (tree T) p → Stops (tree T) p → Ok (tree T) q → Stops (tree T) q → shown p ≡ shown q → p ≡ q
   shown-one p q o h r k e =
-      sym (shown-position (tree n cs) alive small low p o h)
-      ∙ ap (λ (c : Checkpoint). position-of n (c .mode) (read c)) e
-      ∙ shown-position (tree n cs) alive small low q r k
+      sym (shown-position (tree T) alive small low p o h)
+      ∙ ap (λ (c : Checkpoint). position-of (to-assign T) (c .mode) (read c)) e
+      ∙ shown-position (tree T) alive small low q r k
 
   -- and the walk has it
-  stopped-has : (p : Position) → Ok (tree n cs) p → Quiet (next (tree n cs) p) → Has n cs (shown p)
-  stopped-has p o q = let g = all-got (tree n cs) alive p o q in (g .0, at-checkpoint n cs (standing-at (g .0)) ∙ ap shown (g .1))
+  stopped-has : (p : Position) → Ok (tree T) p → Stops (tree T) p → Has T (shown p)
+  stopped-has p o q = let g = all-got (tree T) alive p o q in (g .0, at-checkpoint T (standing-at (g .0)) ∙ ap shown (g .1))
 
   -- from it a call goes on from the position
-  call-goes : (b : ℕ) (p : Position) → Ok (tree n cs) p → Quiet (next (tree n cs) p) → walk-call s (shown p) b ≡ resumed-result (resume (tree n cs) b p)
-  call-goes b p o q = at (located n cs (shown p)) refl
+  call-goes : (b : ℕ) (p : Position) → Ok (tree T) p → Stops (tree T) p → walk-call s (shown p) b ≡ resumed-result (resume (tree T) b p)
+  call-goes b p o q = at (located T (shown p)) refl
     where
-      at : (x : Located) → located n cs (shown p) ≡ x → walk-call s (shown p) b ≡ resumed-result (resume (tree n cs) b p)
+      at : (x : Located) → located T (shown p) ≡ x → walk-call s (shown p) b ≡ resumed-result (resume (tree T) b p)
       at (at-state k) e =
-          let w = located-stands n cs (shown p) k e in
+          let w = located-stands T (shown p) k e in
           let a = standing-at (w .0) in
-          let one = shown-one (standing (w .0)) p (a .fine) (standing-quiet (w .0)) o q (sym (at-checkpoint n cs a) ∙ ap (checkpoint-after n cs) (w .1) ∙ w .2) in
+          let one = shown-one (standing (w .0)) p (a .fine) (standing-stops (w .0)) o q (sym (at-checkpoint T a) ∙ ap (checkpoint-after T) (w .1) ∙ w .2) in
           call-is (shown p) b (at-state k) e
-          ∙ ap (λ (j : ℕ). plain-result n cs (plain-call n cs b j)) (sym (w .1))
-          ∙ plain-resumed b (state-after n cs 0 (w .0)) (standing (w .0)) a
-          ∙ ap (λ (x : Position). resumed-result (resume (tree n cs) b x)) one
-      at nowhere e = absurd (has-located n cs (shown p) (stopped-has p o q) e)
+          ∙ ap (λ (j : ℕ). plain-result T (plain-call T b j)) (sym (w .1))
+          ∙ plain-resumed b (state-after T 0 (w .0)) (standing (w .0)) a
+          ∙ ap (λ (x : Position). resumed-result (resume (tree T) b x)) one
+      at nowhere e = absurd (has-located T (shown p) (stopped-has p o q) e)
 
-  calls-go : (bs : List ℕ) (p : Position) → Ok (tree n cs) p → Quiet (next (tree n cs) p) → walk-calls s (shown p) bs ≡ results (tree n cs) alive p bs
+  calls-go : (bs : List ℕ) (p : Position) → Ok (tree T) p → Stops (tree T) p → walk-calls s (shown p) bs ≡ results (tree T) alive p bs
   unfolding walk-calls resumes
   calls-go [] p o q = refl
   calls-go (b ∷ bs) p o q =
-      let e = call-effect (tree n cs) alive b p o in
-      rw (call-goes b p o q) (ap {B = List Result} (λ l. resumed-result (resume (tree n cs) b p) ∷ l) (calls-go bs (resume (tree n cs) b p .position) (e .fine) (e .quiet)))
+      let e = call-effect (tree T) alive b p o in
+      rw (call-goes b p o q) (ap {B = List Result} (λ l. resumed-result (resume (tree T) b p) ∷ l) (calls-go bs (resume (tree T) b p .position) (e .fine) (e .stops)))
 
-  last-goes : (bs : List ℕ) (p : Position) → Ok (tree n cs) p → Quiet (next (tree n cs) p) → last-checkpoint s (shown p) bs ≡ shown (last-position (tree n cs) alive p bs)
+  last-goes : (bs : List ℕ) (p : Position) → Ok (tree T) p → Stops (tree T) p → last-checkpoint s (shown p) bs ≡ shown (last-position (tree T) alive p bs)
   unfolding last-checkpoint last-position
   last-goes [] p o q = refl
   last-goes (b ∷ bs) p o q =
-      let e = call-effect (tree n cs) alive b p o in
-      rw (call-goes b p o q) (last-goes bs (resume (tree n cs) b p .position) (e .fine) (e .quiet))
+      let e = call-effect (tree T) alive b p o in
+      rw (call-goes b p o q) (last-goes bs (resume (tree T) b p .position) (e .fine) (e .stops))
 
   -- the calls from the start are those of the resumable machine
-  pub calls-results : (bs : List ℕ) → walk-calls s start bs ≡ results (tree n cs) alive (down empty) bs
-  calls-results bs = rw start-shown (calls-go bs (down empty) tt start-quiet)
+  pub calls-results : (bs : List ℕ) → walk-calls s start bs ≡ results (tree T) alive (down empty) bs
+  calls-results bs = rw start-shown (calls-go bs (down empty) tt start-stop)
 
   -- the walk's calls are the plain machine's
-  pub calls-plain : (bs : List ℕ) → walk-calls s start bs ≡ map (plain-result n cs) (plain-calls n cs 0 bs)
-  calls-plain bs = calls-results bs ∙ sym (plain-results bs 0 (down empty) (at-start (tree n cs)))
+  pub calls-plain : (bs : List ℕ) → walk-calls s start bs ≡ map (plain-result T) (plain-calls T 0 bs)
+  calls-plain bs = calls-results bs ∙ sym (plain-results bs 0 (down empty) (at-start (tree T)))
 
   -- none is refused
   plain-kind : (a : Answer) → kind-of a ≡ says-refused → ⊥
@@ -190,155 +176,170 @@ module _ (s : List ℕ) (n : ℕ) (cs : List (List Literal)) (reads : decode s �
   plain-kind spent e = let z : _≡_ {A = ℕ} 0 1 = cc in omega arith
   plain-kind ended e = let z : _≡_ {A = ℕ} 0 1 = cc in omega arith
 
-  none-refused : (l : List Call) → Every (λ r. r .kind ≡ says-refused → ⊥) (map (plain-result n cs) l)
+  none-refused : (l : List Call) → Every (λ r. r .kind ≡ says-refused → ⊥) (map (plain-result T) l)
   none-refused [] = tt
   none-refused (c ∷ l) = (plain-kind (c .answer), none-refused l)
 
   -- so no call is refused
   pub calls-unrefused : (bs : List ℕ) → Every (λ r. r .kind ≡ says-refused → ⊥) (walk-calls s start bs)
-  calls-unrefused bs = rw (calls-plain bs) (none-refused (plain-calls n cs 0 bs))
+  calls-unrefused bs = rw (calls-plain bs) (none-refused (plain-calls T 0 bs))
 
   -- from a checkpoint that the walk has, a call gives what the plain machine gives from there
-  pub call-plain : (bs : List ℕ) (b : ℕ) → walk-call s (checkpoint-after n cs (state-after n cs 0 bs)) b ≡ plain-result n cs (plain-call n cs b (state-after n cs 0 bs))
+  pub call-plain : (bs : List ℕ) (b : ℕ) → walk-call s (checkpoint-after T (state-after T 0 bs)) b ≡ plain-result T (plain-call T b (state-after T 0 bs))
   call-plain bs b =
       let a = standing-at bs in
-      rw (at-checkpoint n cs a) (call-goes b (standing bs) (a .fine) (standing-quiet bs))
-      ∙ sym (plain-resumed b (state-after n cs 0 bs) (standing bs) a)
+      rw (at-checkpoint T a) (call-goes b (standing bs) (a .fine) (standing-stops bs))
+      ∙ sym (plain-resumed b (state-after T 0 bs) (standing bs) a)
 
   -- the checkpoint that the last call returned is the plain machine's
-  pub last-plain : (bs : List ℕ) → last-checkpoint s start bs ≡ checkpoint-after n cs (state-after n cs 0 bs)
-  last-plain bs = rw start-shown (last-goes bs (down empty) tt start-quiet) ∙ sym (at-checkpoint n cs (standing-at bs))
+  pub last-plain : (bs : List ℕ) → last-checkpoint s start bs ≡ checkpoint-after T (state-after T 0 bs)
+  last-plain bs = rw start-shown (last-goes bs (down empty) tt start-stop) ∙ sym (at-checkpoint T (standing-at bs))
 
   -- the models that the calls bring
-  pub calls-first : (bs : List ℕ) → (l : List ℕ) × (listing n cs ≡ brought (walk-calls s start bs) ++ l)
+  pub calls-first : (bs : List ℕ) → (l : List ℕ) × (listing T ≡ brought (walk-calls s start bs) ++ l)
   unfolding listing
   calls-first bs = (
-    models-of (rest (tree n cs) (standing bs)),
-    rw (calls-results bs) (ap models-of (sym (rest-start n cs)) ∙ brought-first (tree n cs) alive bs (down empty) tt),
+    models-of (rest (tree T) (standing bs)),
+    rw (calls-results bs) (ap models-of (sym (rest-start T)) ∙ brought-first (tree T) alive bs (down empty) tt),
   )
 
   -- and all of them
-  pub calls-all : (bs : List ℕ) → SaysEnded (walk-calls s start bs) → brought (walk-calls s start bs) ≡ listing n cs
+  pub calls-all : (bs : List ℕ) → SaysEnded (walk-calls s start bs) → brought (walk-calls s start bs) ≡ listing T
   unfolding listing
   calls-all bs h =
-      rw (calls-results bs) (brought-all (tree n cs) alive bs (down empty) tt (rw (calls-results bs) at h) ∙ ap models-of (rest-start n cs))
+      rw (calls-results bs) (brought-all (tree T) alive bs (down empty) tt (rw (calls-results bs) at h) ∙ ap models-of (rest-start T))
 
   -- the listing
-  pub listing-models : (a : ℕ) → List·Memᴰ a (listing n cs) ↔ Model n cs a
+  pub listing-models : (a : ℕ) → List·Memᴰ a (listing T) ↔ ModelFor T a
   unfolding listing
-  listing-models a = rw (walk-same n cs) (walk-lists (tree n cs) (Model n cs) (splits n cs sized M) a)
+  listing-models a = rw (walk-same T) (walk-lists (tree T) (ModelFor T) (splits T P) a)
 
   -- each once
-  pub listing-distinct : Distinct (listing n cs)
+  pub listing-distinct : Distinct (listing T)
   unfolding listing
-  listing-distinct = rw (walk-same n cs) (walk-distinct (tree n cs) (Model n cs) (splits n cs sized M))
+  listing-distinct = rw (walk-same T) (walk-distinct (tree T) (ModelFor T) (splits T P))
 
   -- behind every entry the assigned variables stand as in some model
-  pub behind-model : (k : ℕ) → (a : ℕ) × Model n cs a × terms.Agrees (bit a) (behind n cs k .trail)
+  pub behind-model : (k : ℕ) → (a : ℕ) × ModelFor T a × terms.Agrees (bit a) (behind T k .trail)
   behind-model k =
-      let x = at-every (tree n cs) alive k in
+      let x = at-every (tree T) alive k in
       let t = stack-of (x .0) in
-      let r = stack-replayed (tree n cs) (x .0) (x .1 .fine) in
-      let d = replayed-depth (tree n cs) (stack-of (x .0)) r in
-      let w = node-model (tree n cs) (Model n cs) (splits n cs sized M) alive (n - depth (stack-of (x .0))) (stack-of (x .0)) r (omega arith) in
-      (w .0, w .1, rw (at-behind n cs (x .1)) (agrees-trail (w .0) (stack-of (x .0)) (w .2)))
+      let r = stack-replayed (tree T) (x .0) (x .1 .fine) in
+      let d = replayed-depth (tree T) (stack-of (x .0)) r in
+      let w = node-model (tree T) (ModelFor T) (splits T P) alive (to-assign T - depth (stack-of (x .0))) (stack-of (x .0)) r (omega arith) in
+      (w .0, w .1, rw (at-behind T (x .1)) (agrees-trail (w .0) (stack-of (x .0)) (w .2)))
 
   -- the pace over all calls together
-  pub calls-paced : (bs : List ℕ) → Paced n (n * length cs * (length cs + 1)) (gaps (walk-calls s start bs))
-  calls-paced bs = rw (calls-results bs) (pace (tree n cs) alive (n * length cs * (length cs + 1)) (cheap n cs sized M) bs)
+  pub calls-paced : (bs : List ℕ) → Paced (to-assign T) (step-bound T) (gaps (walk-calls s start bs))
+  calls-paced bs = rw (calls-results bs) (pace (tree T) alive (step-bound T) (cheap T P) bs)
 
-  -- 96 steps are enough
+  -- enough steps are not spent
   not-spent : (a : Answer) → (kind-of a ≡ says-spent → ⊥) → (kind-of a ≡ says-model) ⊎ (kind-of a ≡ says-ended)
   not-spent (found a) h = inl refl
   not-spent spent h = absurd (h refl)
   not-spent ended h = inr refl
 
-  -- so a call with 96 brings a model or the end
-  pub calls-ample : (bs : List ℕ) (b : ℕ) → 96 ≤ b
+  -- so a call with that many brings a model or the end
+  pub calls-ample : (bs : List ℕ) (b : ℕ) → ample-budget ≤ b
       → (walk-call s (last-checkpoint s start bs) b .kind ≡ says-model) ⊎ (walk-call s (last-checkpoint s start bs) b .kind ≡ says-ended)
   calls-ample bs b h =
       let a = standing-at bs in
-      rw (last-plain bs, at-checkpoint n cs a, call-goes b (standing bs) (a .fine) (standing-quiet bs))
-      (not-spent (resume (tree n cs) b (standing bs) .answer) (never-spent (tree n cs) alive b (standing bs) (a .fine) (omega (arith, small))))
+      rw (last-plain bs, at-checkpoint T a, call-goes b (standing bs) (a .fine) (standing-stops bs))
+      (not-spent (resume (tree T) b (standing bs) .answer) (never-spent (tree T) alive b (standing bs) (a .fine) (omega (arith, small))))
 
   -- a call makes at most its budget's steps, and all of them where it says spent
   pub calls-within : (bs : List ℕ) (b : ℕ) → walk-call s (last-checkpoint s start bs) b .steps ≤ b
   calls-within bs b =
       let a = standing-at bs in
-      rw (last-plain bs, at-checkpoint n cs a, call-goes b (standing bs) (a .fine) (standing-quiet bs)) (steps-within (tree n cs) alive b (standing bs) (a .fine))
+      rw (last-plain bs, at-checkpoint T a, call-goes b (standing bs) (a .fine) (standing-stops bs)) (steps-within (tree T) alive b (standing bs) (a .fine))
 
   -- and all of them where it says spent
   pub calls-spent : (bs : List ℕ) (b : ℕ) → walk-call s (last-checkpoint s start bs) b .kind ≡ says-spent → walk-call s (last-checkpoint s start bs) b .steps ≡ b
   calls-spent bs b =
       let a = standing-at bs in
-      rw (last-plain bs, at-checkpoint n cs a, call-goes b (standing bs) (a .fine) (standing-quiet bs)) (spent-all (tree n cs) alive b (standing bs) (a .fine))
+      rw (last-plain bs, at-checkpoint T a, call-goes b (standing bs) (a .fine) (standing-stops bs)) (spent-all (tree T) alive b (standing bs) (a .fine))
 
   -- from the end a call says ended at once
   pub call-over : (b : ℕ) → walk-call s (checkpoint-of 4 []) b ≡ answered ended 0 0 (checkpoint-of 4 [])
   unfolding trail-of next
-  call-over b = call-goes b over tt (over-quiet (tree n cs) alive) ∙ ap resumed-result (loop-over (tree n cs) b over refl)
+  call-over b = call-goes b over tt (over-stops (tree T) alive) ∙ ap resumed-result (loop-over (tree T) b over refl)
 
   -- a checkpoint that the walk never has is refused by 11
-  pub foreign : (c : Checkpoint) (b : ℕ) → (Has n cs c → ⊥) → walk-call s c b ≡ refusing (ForeignCheckpoint 0) c
-  foreign c b f = at (located n cs c) refl
+  pub foreign : (c : Checkpoint) (b : ℕ) → (Has T c → ⊥) → walk-call s c b ≡ refusing (ForeignCheckpoint 0) c
+  foreign c b f = at (located T c) refl
     where
-      at : (x : Located) → located n cs c ≡ x → walk-call s c b ≡ refusing (ForeignCheckpoint 0) c
-      at (at-state k) e = let w = located-stands n cs c k e in absurd (f (w .0, ap (checkpoint-after n cs) (w .1) ∙ w .2))
+      at : (x : Located) → located T c ≡ x → walk-call s c b ≡ refusing (ForeignCheckpoint 0) c
+      at (at-state k) e = let w = located-stands T c k e in absurd (f (w .0, ap (checkpoint-after T) (w .1) ∙ w .2))
       at nowhere e = call-is c b nowhere e
 
-  has-number : (c : Checkpoint) (b : ℕ) → Has n cs c → walk-call s c b .number ≡ 0
+  has-number : (c : Checkpoint) (b : ℕ) → Has T c → walk-call s c b .number ≡ 0
   has-number c b w = ap (λ (x : Checkpoint). walk-call s x b .number) (sym (w .1)) ∙ ap (λ (r : Result). r .number) (call-plain (w .0) b)
 
   -- 11 exactly for the checkpoints that the walk never has
-  pub foreign-number : (c : Checkpoint) (b : ℕ) → (walk-call s c b .number ≡ 11) ↔ (Has n cs c → ⊥)
+  pub foreign-number : (c : Checkpoint) (b : ℕ) → (walk-call s c b .number ≡ 11) ↔ (Has T c → ⊥)
   foreign-number c b = (λ e w. let z = has-number c b w in omega arith, λ f. ap (λ (r : Result). r .number) (foreign c b f))
 
   -- ---- the call as the code makes it
 
-  has-accepted : (c : Checkpoint) → Has n cs c → accepts (tree n cs) c ≡ true
+  has-accepted : (c : Checkpoint) → Has T c → accepts (tree T) c ≡ true
   has-accepted c w =
       let a = standing-at (w .0) in
-      stopped-accepted (tree n cs) alive small low c
-      (record { position = standing (w .0); fine = a .fine; quiet = standing-quiet (w .0); shows = sym (at-checkpoint n cs a) ∙ w .1 })
+      stopped-accepted (tree T) alive small low c
+      (record { position = standing (w .0); fine = a .fine; stops = standing-stops (w .0); shows = sym (at-checkpoint T a) ∙ w .1 })
 
   -- the test passes exactly the checkpoints that the walk has, and the machine goes on from there as the plain one does
-  pub call-tested : (c : Checkpoint) (b : ℕ) → length (c .bytes) ≡ 48
-      → walk-call s c b ≡ cond (accepts (tree n cs) c) (call-from (tree n cs) c b) (refusing (ForeignCheckpoint 0) c)
-  call-tested c b h = at (accepts (tree n cs) c) refl
+  pub call-tested : (c : Checkpoint) (b : ℕ) → length (c .bytes) ≡ max-variables
+      → walk-call s c b ≡ cond (accepts (tree T) c) (call-from (tree T) c b) (refusing (ForeignCheckpoint 0) c)
+  call-tested c b h = at (accepts (tree T) c) refl
     where
-      at : (x : Bool) → accepts (tree n cs) c ≡ x → walk-call s c b ≡ cond x (call-from (tree n cs) c b) (refusing (ForeignCheckpoint 0) c)
+      at : (x : Bool) → accepts (tree T) c ≡ x → walk-call s c b ≡ cond x (call-from (tree T) c b) (refusing (ForeignCheckpoint 0) c)
       at true e =
-          let w = accepted-stopped (tree n cs) alive small low c h e in
-          subst (λ (x : Checkpoint). walk-call s x b ≡ call-from (tree n cs) x b) (w .shows)
-          (call-goes b (w .position) (w .fine) (w .quiet) ∙ sym (call-shown (tree n cs) alive small low b (w .position) (w .fine) (w .quiet)))
+          let w = accepted-stopped (tree T) alive small low c h e in
+          subst (λ (x : Checkpoint). walk-call s x b ≡ call-from (tree T) x b) (w .shows)
+          (call-goes b (w .position) (w .fine) (w .stops) ∙ sym (call-shown (tree T) alive small low b (w .position) (w .fine) (w .stops)))
       at false e = foreign c b (λ w. clash (has-accepted c w) e)
 
   -- the checkpoint behind k entries has 48 bytes
-  pub after-bytes : (k : ℕ) → length (checkpoint-after n cs k .bytes) ≡ 48
+  pub after-bytes : (k : ℕ) → length (checkpoint-after T k .bytes) ≡ max-variables
   unfolding checkpoint-of
   after-bytes k =
-      let x = at-every (tree n cs) alive k in
+      let x = at-every (tree T) alive k in
       let t = stack-of (x .0) in
-      let d = replayed-depth (tree n cs) t (stack-replayed (tree n cs) (x .0) (x .1 .fine)) in
+      let d = replayed-depth (tree T) t (stack-replayed (tree T) (x .0) (x .1 .fine)) in
       let l = length-trail t in
-      let m : length (map byte (trail-of t)) ≤ 48 = rw length-map (omega (arith, small)) in
-      ap (λ (c : Checkpoint). length (c .bytes)) (at-checkpoint n cs (x .1)) ∙ length-padded 48 0 (map byte (trail-of t)) m
+      let m : length (map byte (trail-of t)) ≤ max-variables = rw length-map (omega (arith, small)) in
+      ap (λ (c : Checkpoint). length (c .bytes)) (at-checkpoint T (x .1)) ∙ length-padded max-variables 0 (map byte (trail-of t)) m
 
   -- the checkpoints that the walk has are those that calls from the start return
-  pub has-returned : (c : Checkpoint) → Has n cs c ↔ ((bs : List ℕ) × (last-checkpoint s start bs ≡ c))
+  pub has-returned : (c : Checkpoint) → Has T c ↔ ((bs : List ℕ) × (last-checkpoint s start bs ≡ c))
   has-returned c = (λ w. (w .0, last-plain (w .0) ∙ w .1), λ w. (w .0, sym (last-plain (w .0)) ∙ w .1))
 
   -- and are the proper ones
-  pub has-proper : (c : Checkpoint) → Has n cs c ↔ Proper n cs c
+  pub has-proper : (c : Checkpoint) → Has T c ↔ Proper T c
   has-proper c = (
-    λ w. let a = standing-at (w .0) in stop-proper n cs alive (standing (w .0)) c (a .fine) (standing-quiet (w .0)) (sym (at-checkpoint n cs a) ∙ w .1),
-    λ w. let x = proper-stop n cs alive c w in let h = stopped-has (x .0) (x .1) (x .2) in (h .0, h .1 ∙ x .3),
+    λ w. let a = standing-at (w .0) in stop-proper T alive (standing (w .0)) c (a .fine) (standing-stops (w .0)) (sym (at-checkpoint T a) ∙ w .1),
+    λ w. let x = proper-stop T alive c w in let h = stopped-has (x .0) (x .1) (x .2) in (h .0, h .1 ∙ x .3),
   )
 
-  -- the start checkpoint on budget 0
-  pub start-zero : walk-call s start 0 ≡ answered spent 0 0 start
-  start-zero = rw start-shown (call-goes 0 (down empty) tt start-quiet ∙ ap resumed-result (down-spent (tree n cs) alive empty (sized .some)))
+  -- the start checkpoint on budget 0, where something is to be assigned
+  pub start-zero : 0 < to-assign T → walk-call s start 0 ≡ answered spent 0 0 start
+  start-zero h = rw start-shown (call-goes 0 (down empty) tt start-stop ∙ ap resumed-result (down-spent (tree T) alive empty h))
+
+  -- at every node of the walk a value of the chosen variable is open exactly if some model agrees with what is assigned and has it
+  pub node-open : (k : ℕ) → length (behind T k .trail) < to-assign T → (b : Bool)
+      → (opened (choice-at T (behind T k .trail)) b ≡ true)
+      ↔ ((a : ℕ) × ModelFor T a × terms.Agrees (bit a) (behind T k .trail) × (bit a (choice-at T (behind T k .trail) .variable) ≡ b))
+  node-open k h b =
+      let x = at-every (tree T) alive k in
+      let t = stack-of (x .0) in
+      let r = stack-replayed (tree T) (x .0) (x .1 .fine) in
+      let e : behind T k .trail ≡ trail-of (stack-of (x .0)) = ap (λ (b : Behind). b .trail) (at-behind T (x .1)) in
+      let d : depth (stack-of (x .0)) < to-assign T = omega (arith, length-trail (stack-of (x .0)), (rw e at h)) in
+      rw e (
+        λ o. let w = open-model T P t r d b o in (w .0, w .1, agrees-trail (w .0) t (w .2 .1), w .2 .0),
+        λ w. model-open T P t r d b (w .0) (w .1) (w .3, trail-agrees (w .0) t (w .2)),
+      )
 
   -- the expansions of one assignment
-  pub assignment-cheap : (l : Literal) (e : ℕ) → List·Memᴰ (assign l e) (plain-walk n cs) → e ≤ n * length cs * (length cs + 1)
-  assignment-cheap l e m = walk-cheap (tree n cs) (n * length cs * (length cs + 1)) (cheap n cs sized M) l e (rw (walk-same n cs) at m)
+  pub assignment-cheap : (l : Literal) (e : ℕ) → List·Memᴰ (assign l e) (plain-walk T) → e ≤ step-bound T
+  assignment-cheap l e m = walk-cheap (tree T) (step-bound T) (cheap T P) l e (rw (walk-same T) at m)

@@ -15,6 +15,7 @@ pub mod ByteLaws
 pub mod AcceptLaws
 pub mod AssignmentLaws
 pub mod TreeLaws
+pub mod WholeLaws
 pub mod ProperLaws
 pub mod FormulaLaws
 pub mod RefusalLaws

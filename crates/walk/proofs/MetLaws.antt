@@ -3,15 +3,16 @@
 use Prim.Native.Nat.{ℕ, zero, suc, _+_, _-_, _<_}
 use mathlib.Core.Bool.{Bool, true, false, cond}
 use mathlib.Core.List.{List, [], _∷_, _++_}
+use mathlib.Core.Logic.{inl, inr}
 use mathlib.Core.Path.{_≡_, refl, sym, ap, _∙_, subst}
 use native.Mathlib.Omega.{arith}
-use borrow.Author.Tests.{ne-eqb}
+use lib.Dec.{eqb}
+use borrow.Author.Tests.{eqb-true, eqb-false, ne-eqb}
 use Rattle.walk.specs.Plain.{Entry, assign, undo, model, end}
 use Rattle.walk.specs.PlainMachine.{spent}
 use Rattle.walk.specs.InnerStack.{Stack, empty, push, depth, Tree}
 use Rattle.walk.specs.InnerMachine.{Position, down, full, back, over, Next, nothing, hands, ends, steps, rise, enter, next, halted, onward, resume}
-use Rattle.walk.proofs.RestLaws.{Quiet, rest, up, half-shut, Replayed, replayed-depth, Ok, Live, Rising, from-full, from-back, Goes, model-goes, false-goes, true-goes, turn-goes, undo-goes, end-goes}
-use Rattle.walk.proofs.PositionLaws.{lands}
+use Rattle.walk.proofs.RestLaws.{Quiet, Stops, rest, up, half-shut, Replayed, replayed-depth, Ok, Live, Rising, from-full, from-back, Goes, model-goes, false-goes, true-goes, turn-goes, undo-goes, end-goes}
 use Rattle.walk.proofs.CallLaws.{last-position}
 
 module _ (K : Tree) where
@@ -133,8 +134,8 @@ module _ (K : Tree) where
     got-next : (p : Position) (e : Entry) (q : Position) → Goes K p e q → Got (resume K 0 p .position) → Got (resume K 0 q .position)
     got-next p (assign l e) q g h = step-got p e q (g .shows) h
     got-next p undo q g h = step-got p 0 q (g .shows) h
-    got-next p (model a) q g h = subst Got (pass-zero p (hands a q) q (g .shows) refl ∙ sym (quiet-zero q (lands K (L .positive) (g .kind)))) h
-    got-next p end q g h = subst Got (pass-zero p (ends q) q (g .shows) refl ∙ sym (quiet-zero q (lands K (L .positive) (g .kind)))) h
+    got-next p (model a) q g h = got-call 0 q (subst Got (pass-zero p (hands a q) q (g .shows) refl) h)
+    got-next p end q g h = got-call 0 q (subst Got (pass-zero p (ends q) q (g .shows) refl) h)
 
     -- where a variable is left to assign a call can stop
     pub down-quiet : (t : Stack) → depth t < K .size → Quiet (next K (down t))
@@ -161,9 +162,33 @@ module _ (K : Tree) where
     start-got = ([], refl)
 
     met-got : {p : Position} → Met p → Got (resume K 0 p .position)
-    met-got met-start = subst Got (sym (quiet-zero (down empty) (down-quiet empty (L .positive)))) start-got
+    met-got met-start = got-call 0 (down empty) start-got
     met-got (met-next {p} {q} {e} m o g) = got-next p e q g (met-got m)
 
+    quiet-got : (p : Position) → Ok K p → Quiet (next K p) → Got p
+    quiet-got p o q = subst Got (quiet-zero p q) (met-got (all-met p o))
+
+    -- where nothing is to be assigned the positions are three
+    none-got : (p : Position) → Ok K p → K .size ≡ 0 → Got p
+    unfolding next
+    none-got (down empty) o z = start-got
+    none-got (down (push v b t)) o z = absurd (omega (arith, o .1))
+    none-got (full empty) o z =
+        subst Got (pass-zero (down empty) (hands (K .result empty) (full empty)) (full empty) (model-goes K empty tt (sym z) .shows) refl)
+        (got-call 0 (down empty) start-got)
+    none-got (full (push v b t)) o z = absurd (omega (arith, o .1))
+    none-got (back b t) o z = absurd (omega (arith, o .1))
+    none-got over o z = quiet-got over o tt
+
     -- where a call can stop, some list of budgets does
-    pub all-got : (p : Position) → Ok K p → Quiet (next K p) → Got p
-    all-got p o q = subst Got (quiet-zero p q) (met-got (all-met p o))
+    pub all-got : (p : Position) → Ok K p → Stops K p → Got p
+    all-got p o (inl z) = none-got p o z
+    all-got p o (inr q) = quiet-got p o q
+
+    -- a call can stop at the start
+    pub start-stops : Stops K (down empty)
+    start-stops = at (eqb (K .size) 0) refl
+      where
+        at : (x : Bool) → eqb (K .size) 0 ≡ x → Stops K (down empty)
+        at true e = inl (eqb-true (K .size) 0 e)
+        at false e = let ne : K .size ≡ 0 → ⊥ = eqb-false (K .size) 0 e in inr (down-quiet empty (omega arith))

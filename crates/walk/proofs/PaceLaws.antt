@@ -132,7 +132,7 @@ module _ (K : Tree) (L : Live K) (B : ℕ) (cheap : (t : Stack) → K .choose t 
           ((omega arith, omega arith, subst (λ (m : ℕ). e ≤ m * B) h (i .1)), (refl, refl, refl))
 
       stopping : (p q : Position) (c e : ℕ) → Ok K p → rests.Kind K p end q → later K B u c e p → StopLast K B c e
-      stopping p q c e o (k-end (from-full h)) i = absurd (let z = L .positive in omega arith)
+      stopping p q c e o (k-end (from-full h)) i = (omega (arith, i .1), i .2)
       stopping p q c e o (k-end (from-back x h)) i = let k = i .0 .count in (omega arith, i .1)
 
   first-kept : Kept K L (first K B) (later K B) (HitFirst K B) (λ c e. ⊥)

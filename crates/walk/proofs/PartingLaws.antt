@@ -6,6 +6,7 @@ use mathlib.Core.Path.{_≡_, refl, sym, ap, _∙_}
 use native.Mathlib.Omega.{arith}
 use lib.ListN.{length, replicate, length-map}
 use borrow.Author.Tests.{eq-eqb, ne-eqb}
+use Rattle.limits.specs.Limits.{max-variables}
 use Rattle.lists.specs.Padded.{padded}
 use Rattle.formula.specs.Format.{Literal}
 use Rattle.walk.specs.Checkpoints.{byte}
@@ -15,7 +16,7 @@ use Rattle.walk.proofs.PositionLaws.{length-trail}
 
 -- the bytes of a trail
 abbrev pub trail-bytes : Stack → List ℕ
-trail-bytes t = padded 48 0 (map byte (trail-of t))
+trail-bytes t = padded max-variables 0 (map byte (trail-of t))
 
 -- t is s with more assigned
 pub data Begins (s : Stack) : Stack → Type 0 where
@@ -44,8 +45,8 @@ begins-bytes : (v : ℕ) (b : Bool) (s t : Stack) → Begins (push v b s) t
 unfolding trail-of padded
 begins-bytes v b s t h =
     let i = begins-trail h in (
-      map byte (i .0) ++ replicate (48 - length (map byte (trail-of t))) 0,
-      ap (λ (l : List Literal). map byte l ++ replicate (48 - length (map byte (trail-of t))) 0) (i .1) ∙ simp (map-append, append-assoc),
+      map byte (i .0) ++ replicate (max-variables - length (map byte (trail-of t))) 0,
+      ap (λ (l : List Literal). map byte l ++ replicate (max-variables - length (map byte (trail-of t))) 0) (i .1) ∙ simp (map-append, append-assoc),
     )
 
 common-part : (x : List ℕ) (a b : ℕ) (y z : List ℕ) → (a ≡ b → ⊥) → common (x ++ (a ∷ y)) (x ++ (b ∷ z)) ≡ length x

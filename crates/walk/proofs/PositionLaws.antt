@@ -1,8 +1,9 @@
 -- Positions and what is shown of them: the mode and the trail behind one more entry, and the position that these give back.
-use Prim.Native.Nat.{ℕ, suc, _<_}
+use Prim.Native.Nat.{ℕ, suc}
 use mathlib.Core.Bool.{Bool, true, false, cond}
 use mathlib.Core.List.{List, [], _∷_, _++_}
-use mathlib.Core.Path.{_≡_, refl, ap}
+use mathlib.Core.Logic.{inl, inr}
+use mathlib.Core.Path.{_≡_, refl, sym, ap}
 use native.Mathlib.Omega.{arith}
 use lib.Dec.{eqb}
 use lib.ListN.{length, length-append}
@@ -13,7 +14,7 @@ use Rattle.walk.specs.Checkpoints.{Behind, without-last, last-value, pas
 use Rattle.walk.specs.InnerStack.{Stack, empty, push, depth, trail-of, Tree}
 use Rattle.walk.specs.InnerMachine.{Position, down, full, back, over, hands, descend, next}
 use Rattle.walk.specs.InnerTest.{mode-of, stack-of, position-of}
-use Rattle.walk.proofs.RestLaws.{Quiet, Ok, Rising, from-full, from-back, Kind, k-model, k-assign, k-turn, k-undo, k-end}
+use Rattle.walk.proofs.RestLaws.{Quiet, Stops, Ok, Rising, from-full, from-back, Kind, k-model, k-assign, k-turn, k-undo, k-end}
 
 -- the last literal is dropped
 pub without-last-snoc : (t : List Literal) (l : Literal) → without-last (t ++ (l ∷ [])) ≡ t
@@ -40,10 +41,6 @@ abbrev pub behind-of : Position → Behind
 behind-of p = record { mode = mode-of p; trail = trail-of (stack-of p) }
 
 module _ (K : Tree) where
-  mode-full : (t : Stack) → 0 < K .size → depth t ≡ K .size → mode-of (down t) ≡ 1
-  mode-full empty p h = absurd (omega arith)
-  mode-full (push v b t) p h = refl
-
   undo-past : (p : Position) (v : ℕ) (b : Bool) (t : Stack) → stack-of p ≡ push v b t → past (behind-of p) undo ≡ behind-of (back b t)
   unfolding trail-of
   undo-past p v b t e = rw (e, last-value-snoc, without-last-snoc)
@@ -53,41 +50,42 @@ module _ (K : Tree) where
   rising-stack (from-back b h) = refl
 
   -- the mode and the trail behind one more entry are those of the next position
-  pub past-next : {p q : Position} {e : Entry} → 0 < K .size → Kind K p e q → past (behind-of p) e ≡ behind-of q
+  pub past-next : {p q : Position} {e : Entry} → Kind K p e q → past (behind-of p) e ≡ behind-of q
   unfolding trail-of
-  past-next z (k-model {t} h) = rw (mode-full t z h)
-  past-next z (k-assign b h) = refl
-  past-next z (k-turn h) = refl
-  past-next {p} z (k-undo v b {t} r) = undo-past p v b t (rising-stack r)
-  past-next z (k-end r) = refl
+  past-next (k-model h) = refl
+  past-next (k-assign b h) = refl
+  past-next (k-turn h) = refl
+  past-next {p} (k-undo v b {t} r) = undo-past p v b t (rising-stack r)
+  past-next (k-end r) = refl
 
   -- behind a model or the end a call can stop
   abbrev pub Lands : Entry → Position → Type 0
   Lands (assign l e) p = Unit {0}
   Lands undo p = Unit {0}
-  Lands (model a) p = Quiet (next K p)
-  Lands end p = Quiet (next K p)
+  Lands (model a) p = Stops K p
+  Lands end p = Stops K p
 
   -- where the model is handed out a call can stop
-  pub full-quiet : (t : Stack) → 0 < K .size → depth t ≡ K .size → Quiet (next K (full t))
+  pub full-stops : (t : Stack) → depth t ≡ K .size → Stops K (full t)
   unfolding next
-  full-quiet empty p h = absurd (omega arith)
-  full-quiet (push v b t) p h = tt
+  full-stops empty h = inl (sym h)
+  full-stops (push v b t) h = inr tt
 
   -- the position behind a model or the end
-  pub lands : {p q : Position} {e : Entry} → 0 < K .size → Kind K p e q → Lands e q
+  pub lands : {p q : Position} {e : Entry} → Kind K p e q → Lands e q
   unfolding next
-  lands z (k-model {t} h) = full-quiet t z h
-  lands z (k-assign b h) = tt
-  lands z (k-turn h) = tt
-  lands z (k-undo v b r) = tt
-  lands z (k-end r) = tt
+  lands (k-model {t} h) = full-stops t h
+  lands (k-assign b h) = tt
+  lands (k-turn h) = tt
+  lands (k-undo v b r) = tt
+  lands (k-end r) = inr tt
 
   -- where a call can stop, the mode and the trail give the position back
-  pub position-back : (p : Position) → Ok K p → Quiet (next K p) → position-of (K .size) (mode-of p) (stack-of p) ≡ p
+  pub position-back : (p : Position) → Ok K p → Stops K p → position-of (K .size) (mode-of p) (stack-of p) ≡ p
   unfolding next
   position-back (down empty) r q = refl
-  position-back (down (push v b t)) r q = at (eqb (suc (depth t)) (K .size)) q
+  position-back (down (push v b t)) r (inl z) = absurd (omega (arith, r .1))
+  position-back (down (push v b t)) r (inr q) = at (eqb (suc (depth t)) (K .size)) q
     where
       at : (x : Bool) → Quiet (cond x (hands (K .result (push v b t)) (full (push v b t))) (descend (K .choose (push v b t)) (push v b t)))
           → cond x (full (push v b t)) (down (push v b t)) ≡ down (push v b t)

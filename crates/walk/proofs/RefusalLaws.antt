@@ -1,67 +1,71 @@
 -- Which inputs are walked at all: the refusals 2 to 10.
 use Prim.Native.Nat.{ℕ, _≤_}
-use mathlib.Core.List.{List, [], _∷_, map}
+use mathlib.Core.List.{List, [], _∷_}
 use mathlib.Core.Logic.{_↔_}
-use mathlib.Core.Path.{_≡_, refl, ap}
+use mathlib.Core.Path.{_≡_, refl, ap, _∙_}
 use lib.ListN.{length}
 use borrow.Author.Tests.{le-ltb}
-use Rattle.matching.specs.Search.{Outcome, success, failure, outcome}
-use Rattle.matching.proofs.Theorems.{success-matches}
+use Rattle.limits.specs.Limits.{max-clauses}
 use Rattle.formula.specs.declared.Refusal.{Refusal}
 use Rattle.formula.specs.declared.Refusal.the-variants.{Unmatched}
-use Rattle.formula.specs.Decode.{Decoding, readable, refused, decode}
+use Rattle.formula.specs.Decode.{readable, refused, decode}
 use Rattle.formula.specs.Format.{Literal}
-use Rattle.formula.specs.Masked.{variables}
-use Rattle.formula.proofs.Demands.{accepted-only}
+use Rattle.matched.specs.Acceptance.{Acceptance, accepted, declined, acceptance}
 use Rattle.matched.specs.Judge.{refusal, judge}
 use Rattle.matched.specs.Pairing.{Pairs, Pairable}
-use Rattle.matched.proofs.PairingLaws.{masks-words, matches-pairs, pairs-matches}
+use Rattle.matched.proofs.AcceptanceLaws.{Accepted, accepted-is, pairs-accepted, unpaired-declined, unreadable-declined}
+use Rattle.walk.specs.Task.{whole, Posed}
 use Rattle.walk.specs.Checkpoints.{Checkpoint, start}
-use Rattle.walk.specs.WalkCall.{says-refused, Result, refusing, walk-call, walk-calls}
+use Rattle.walk.specs.WalkCall.{says-refused, Result, refusing, task-call, walk-call, walk-calls}
 use Rattle.walk.proofs.FormulaLaws.{calls-unrefused}
+use Rattle.walk.proofs.WholeLaws.{whole-posed}
+
+-- a declined input gets its refusal
+pub call-declined : (s : List ℕ) (r : Refusal) (row : List ℕ) (c : Checkpoint) (b : ℕ) → acceptance s ≡ declined r row → walk-call s c b ≡ refusing r c
+unfolding walk-call
+call-declined s r row c b e = rw e
+
+-- an accepted one is walked as its formula's task
+pub call-accepted : (s : List ℕ) (n : ℕ) (cs : List (List Literal)) (row : List ℕ) → acceptance s ≡ accepted n cs row → (c : Checkpoint) (b : ℕ)
+    → walk-call s c b ≡ task-call (whole n cs) c b
+unfolding walk-call
+call-accepted s n cs row e c b = rw e
+
+-- which is as the walk asks it
+pub accepted-posed : (s : List ℕ) (n : ℕ) (cs : List (List Literal)) (row : List ℕ) → acceptance s ≡ accepted n cs row → Posed (whole n cs)
+accepted-posed s n cs row e = let w = accepted-is s n cs row e in whole-posed n cs (w .sized) (w .sound)
 
 -- an unreadable input gets the reader's refusal
 pub call-unreadable : (s : List ℕ) (r : Refusal) (c : Checkpoint) (b : ℕ) → decode s ≡ refused r → walk-call s c b ≡ refusing r c
-unfolding walk-call
-call-unreadable s r c b e = rw e
+call-unreadable s r c b e = call-declined s r [] c b (unreadable-declined s r e)
 
--- a readable, unmatched one gets 10 with the number of marked clauses
-pub call-failure : (s : List ℕ) (n : ℕ) (cs : List (List Literal)) (taken : List ℕ) (e : ℕ) (c : Checkpoint) (b : ℕ) → decode s ≡ readable n cs
-    → outcome (map variables cs) ≡ failure taken e → walk-call s c b ≡ refusing (Unmatched (length taken)) c
-unfolding walk-call
-call-failure s n cs taken e c b reads f = rw (reads, f)
-
-judge-failure : (s buffer : List ℕ) (n : ℕ) (cs : List (List Literal)) (taken : List ℕ) (e : ℕ) → 96 ≤ length buffer → decode s ≡ readable n cs
-    → outcome (map variables cs) ≡ failure taken e → judge s buffer .answer ≡ refusal (Unmatched (length taken))
+judge-declined : (s buffer : List ℕ) (r : Refusal) (row : List ℕ) → max-clauses ≤ length buffer → acceptance s ≡ declined r row → judge s buffer .answer ≡ refusal r
 unfolding judge
-judge-failure s buffer n cs taken e l reads f = rw (le-ltb (length buffer) 96 l, reads, f)
+judge-declined s buffer r row l e = rw (le-ltb (length buffer) max-clauses l, e)
 
--- which is the number of marks that judge gives
-pub call-unmatched : (s buffer : List ℕ) (n : ℕ) (cs : List (List Literal)) (c : Checkpoint) (b : ℕ) → 96 ≤ length buffer → decode s ≡ readable n cs
+-- a readable, unmatched one gets 10 with the number of marks that judge gives
+pub call-unmatched : (s buffer : List ℕ) (n : ℕ) (cs : List (List Literal)) (c : Checkpoint) (b : ℕ) → max-clauses ≤ length buffer → decode s ≡ readable n cs
     → ((vs : List ℕ) → Pairs cs vs → ⊥)
     → (k : ℕ) × (judge s buffer .answer ≡ refusal (Unmatched k)) × (walk-call s c b ≡ refusing (Unmatched k) c)
-call-unmatched s buffer n cs c b l reads none = at (outcome (map variables cs)) refl
-  where
-    at : (o : Outcome) → outcome (map variables cs) ≡ o → (k : ℕ) × (judge s buffer .answer ≡ refusal (Unmatched k)) × (walk-call s c b ≡ refusing (Unmatched k) c)
-    at (success vs e) q = absurd (none vs (matches-pairs cs vs (success-matches (map variables cs) vs e (masks-words (accepted-only s n cs reads .sized)) q)))
-    at (failure taken e) q = (length taken, judge-failure s buffer n cs taken e l reads q, call-failure s n cs taken e c b reads q)
+call-unmatched s buffer n cs c b l reads none =
+    let w = unpaired-declined s n cs reads none in
+    (w .0, judge-declined s buffer (Unmatched (w .0)) (w .1) l (w .2), call-declined s (Unmatched (w .0)) (w .1) c b (w .2))
 
 -- a call that is not refused: the input can be paired
 unrefused-pairable : (s : List ℕ) (c : Checkpoint) (b : ℕ) → (walk-call s c b .kind ≡ says-refused → ⊥) → Pairable s
-unrefused-pairable s c b h = by (decode s) refl
+unrefused-pairable s c b h = by (acceptance s) refl
   where
-    by-outcome : (n : ℕ) (cs : List (List Literal)) → decode s ≡ readable n cs → (o : Outcome) → outcome (map variables cs) ≡ o → Pairable s
-    by-outcome n cs reads (success vs e) q =
-        record { variables = n; clauses = cs; reads = reads; vs = vs; pairs = matches-pairs cs vs (success-matches (map variables cs) vs e (masks-words (accepted-only s n cs reads .sized)) q) }
-    by-outcome n cs reads (failure taken e) q = absurd (h (ap (λ (r : Result). r .kind) (call-failure s n cs taken e c b reads q)))
-
-    by : (d : Decoding) → decode s ≡ d → Pairable s
-    by (readable n cs) e = by-outcome n cs e (outcome (map variables cs)) refl
-    by (refused r) e = absurd (h (ap (λ (x : Result). x .kind) (call-unreadable s r c b e)))
+    by : (x : Acceptance) → acceptance s ≡ x → Pairable s
+    by (accepted n cs row) e = let w = accepted-is s n cs row e in record { variables = n; clauses = cs; reads = w .reads; vs = w .vs; pairs = w .pairs }
+    by (declined r row) e = absurd (h (ap (λ (x : Result). x .kind) (call-declined s r row c b e)))
 
 pairable-unrefused : (s : List ℕ) (b : ℕ) → Pairable s → walk-call s start b .kind ≡ says-refused → ⊥
 unfolding walk-calls
-pairable-unrefused s b w = calls-unrefused s (w .variables) (w .clauses) (w .reads) (w .vs, pairs-matches (w .clauses) (w .vs) (w .pairs)) (b ∷ []) .0
+pairable-unrefused s b w =
+    let n = w .variables in
+    let cs = w .clauses in
+    let a = pairs-accepted s n cs (w .vs) (w .reads) (w .pairs) in
+    calls-unrefused s (whole n cs) (accepted-posed s n cs (a .0) (a .1)) (call-accepted s n cs (a .0) (a .1)) (b ∷ []) .0
 
 -- from the start a call is refused exactly if the input cannot be paired
 pub walked-exactly : (s : List ℕ) (b : ℕ) → (walk-call s start b .kind ≡ says-refused → ⊥) ↔ Pairable s

@@ -7,6 +7,7 @@ use native.Mathlib.Omega.{arith}
 use lib.Dec.{eqb}
 use borrow.Author.Tests.{eqb-true, eqb-false}
 use lib.ListN.{length, getD, set, length-map}
+use Rattle.limits.specs.Limits.{max-variables}
 use Rattle.lists.specs.Padded.{padded}
 use Rattle.lists.proofs.PaddedLaws.{padded-set}
 use Rattle.lists.proofs.StoreLaws.{padded-last, padded-clear}
@@ -20,22 +21,22 @@ use Rattle.walk.specs.Checkpoints.{byte}
 use Rattle.walk.proofs.AssignmentLaws.{bit-other, assignment-none, assignment-lt}
 
 -- a byte stored after a trail's
-pub bytes-push : (t : List Literal) (l : Literal) → length t < 48 → set (padded 48 0 (map byte t)) (length t) (byte l) ≡ padded 48 0 (map byte (t ++ (l ∷ [])))
+pub bytes-push : (t : List Literal) (l : Literal) → length t < max-variables → set (padded max-variables 0 (map byte t)) (length t) (byte l) ≡ padded max-variables 0 (map byte (t ++ (l ∷ [])))
 bytes-push t l h =
     let e : length (map byte t) ≡ length t = length-map t byte in
-    ap (λ (k : ℕ). set (padded 48 0 (map byte t)) k (byte l)) (sym e)
-    ∙ padded-set 48 0 (map byte t) (byte l) (omega arith)
-    ∙ ap (padded 48 0) (sym (map-append byte t (l ∷ [])))
+    ap (λ (k : ℕ). set (padded max-variables 0 (map byte t)) k (byte l)) (sym e)
+    ∙ padded-set max-variables 0 (map byte t) (byte l) (omega arith)
+    ∙ ap (padded max-variables 0) (sym (map-append byte t (l ∷ [])))
 
 -- the last byte read
-pub bytes-last : (t : List Literal) (l : Literal) → getD (padded 48 0 (map byte (t ++ (l ∷ [])))) (length t) 0 ≡ byte l
-bytes-last t l = rw map-append (ap (λ (k : ℕ). getD (padded 48 0 (map byte t ++ (byte l ∷ []))) k 0) (sym (length-map t byte)) ∙ padded-last 48 0 (map byte t) (byte l) 0)
+pub bytes-last : (t : List Literal) (l : Literal) → getD (padded max-variables 0 (map byte (t ++ (l ∷ [])))) (length t) 0 ≡ byte l
+bytes-last t l = rw map-append (ap (λ (k : ℕ). getD (padded max-variables 0 (map byte t ++ (byte l ∷ []))) k 0) (sym (length-map t byte)) ∙ padded-last max-variables 0 (map byte t) (byte l) 0)
 
 -- the last byte set to 0
-pub bytes-pop : (t : List Literal) (l : Literal) → length t < 48 → set (padded 48 0 (map byte (t ++ (l ∷ [])))) (length t) 0 ≡ padded 48 0 (map byte t)
+pub bytes-pop : (t : List Literal) (l : Literal) → length t < max-variables → set (padded max-variables 0 (map byte (t ++ (l ∷ [])))) (length t) 0 ≡ padded max-variables 0 (map byte t)
 bytes-pop t l h =
     let e : length (map byte t) ≡ length t = length-map t byte in
-    rw map-append (ap (λ (k : ℕ). set (padded 48 0 (map byte t ++ (byte l ∷ []))) k 0) (sym e) ∙ padded-clear 48 0 (map byte t) (byte l) (omega arith))
+    rw map-append (ap (λ (k : ℕ). set (padded max-variables 0 (map byte t ++ (byte l ∷ []))) k 0) (sym e) ∙ padded-clear max-variables 0 (map byte t) (byte l) (omega arith))
 
 with-swap : (n m i j : ℕ) → m < 2 ^ n → i < n → j < n → with (with m i) j ≡ with (with m j) i
 with-swap n m i j h p q =

@@ -1,7 +1,8 @@
 -- The mode's condition holds exactly where a call can stop. Over any tree.
 use Prim.Native.Nat.{ℕ, zero, suc, _≤_, _<_}
 use mathlib.Core.Bool.{Bool, true, false, cond, not, _||_, false≢true}
-use mathlib.Core.Path.{_≡_, refl}
+use mathlib.Core.Logic.{inl, inr}
+use mathlib.Core.Path.{_≡_, refl, sym}
 use native.Mathlib.Omega.{arith}
 use lib.Dec.{eqb, ltb}
 use borrow.Author.Tests.{eqb-true, eqb-false, eq-eqb, ltb-true, lt-ltb}
@@ -9,9 +10,9 @@ use Rattle.lists.proofs.TestLaws.{and-left, and-right, and-both}
 use Rattle.walk.specs.InnerStack.{Stack, empty, push, depth, Tree}
 use Rattle.walk.specs.InnerMachine.{Position, down, full, back, over, rise, enter, next}
 use Rattle.walk.specs.InnerTest.{mode-of, stack-of, is-empty, replays, fits}
-use Rattle.walk.proofs.RestLaws.{Quiet, Replayed, Ok, Live}
-use Rattle.walk.proofs.PositionLaws.{full-quiet}
-use Rattle.walk.proofs.MetLaws.{down-quiet}
+use Rattle.walk.proofs.RestLaws.{Quiet, Stops, Replayed, Ok, Live}
+use Rattle.walk.proofs.PositionLaws.{full-stops}
+use Rattle.walk.proofs.MetLaws.{down-quiet, start-stops}
 
 module _ (K : Tree) where
   -- the replay tests that the trail is one of the tree
@@ -38,16 +39,18 @@ module _ (K : Tree) where
   pub record Stop (m : ℕ) (t : Stack) : Type 0 where
     pub position : Position
     pub fine : Ok K position
-    pub quiet : Quiet (next K position)
+    pub stops : Stops K position
     pub mode : mode-of position ≡ m
     pub stack : stack-of position ≡ t
 
   -- the condition gives the position
   pub fits-stop : Live K → (m : ℕ) (t : Stack) → m ≤ 4 → fits K m t ≡ true → Stop m t
   unfolding fits
-  fits-stop L zero empty h e = record { position = down empty; fine = tt; quiet = down-quiet K L empty (L .positive); mode = refl; stack = refl }
+  fits-stop L zero empty h e = record { position = down empty; fine = tt; stops = start-stops K L; mode = refl; stack = refl }
   fits-stop L zero (push v b t) h e = absurd (false≢true e)
-  fits-stop L (suc zero) empty h e = absurd (false≢true e)
+  fits-stop L (suc zero) empty h e =
+      let z = eqb-true (K .size) 0 (and-left (eqb (K .size) 0) _ e) in
+      record { position = full empty; fine = (tt, sym z); stops = inl z; mode = refl; stack = refl }
   fits-stop L (suc zero) (push v b t) h e = at (eqb (suc (depth t)) (K .size)) refl
     where
       r : Replayed K (push v b t)
@@ -56,18 +59,18 @@ module _ (K : Tree) where
       at : (x : Bool) → eqb (suc (depth t)) (K .size) ≡ x → Stop 1 (push v b t)
       at true q =
           let h = eqb-true (suc (depth t)) (K .size) q in
-          record { position = full (push v b t); fine = (r, h); quiet = full-quiet K (push v b t) (L .positive) h; mode = refl; stack = refl }
+          record { position = full (push v b t); fine = (r, h); stops = full-stops K (push v b t) h; mode = refl; stack = refl }
       at false q =
           let ne : suc (depth t) ≡ K .size → ⊥ = eqb-false _ _ q in
           let h : suc (depth t) < K .size = omega (arith, r .1) in
-          record { position = down (push v b t); fine = r; quiet = down-quiet K L (push v b t) h; mode = refl; stack = refl }
+          record { position = down (push v b t); fine = r; stops = inr (down-quiet K L (push v b t) h); mode = refl; stack = refl }
   fits-stop L (suc (suc zero)) t h e =
       let x = and-right (replays K t) _ e in
       let y = and-right (ltb (depth t) (K .size)) _ x in
       record {
         position = back false t;
         fine = (replays-replayed t (and-left (replays K t) _ e), ltb-true _ _ (and-left (ltb (depth t) (K .size)) _ x), and-left (K .choose t .false_open) _ y);
-        quiet = unfold next in (at (K .choose t .true_open) t (and-right (K .choose t .false_open) _ y));
+        stops = inr (unfold next in (at (K .choose t .true_open) t (and-right (K .choose t .false_open) _ y)));
         mode = refl;
         stack = refl;
       }
@@ -82,7 +85,7 @@ module _ (K : Tree) where
       record {
         position = back true t;
         fine = (replays-replayed t (and-left (replays K t) _ e), ltb-true _ _ (and-left (ltb (depth t) (K .size)) _ x), and-left (K .choose t .true_open) _ y);
-        quiet = unfold next in (at t (and-right (K .choose t .true_open) _ y));
+        stops = inr (unfold next in (at t (and-right (K .choose t .true_open) _ y)));
         mode = refl;
         stack = refl;
       }
@@ -90,25 +93,27 @@ module _ (K : Tree) where
       at : (u : Stack) → not (is-empty u) ≡ true → Quiet (rise u)
       at empty h = absurd (false≢true h)
       at (push v b u) h = tt
-  fits-stop L (suc (suc (suc (suc zero)))) empty h e = record { position = over; fine = tt; quiet = unfold next in tt; mode = refl; stack = refl }
+  fits-stop L (suc (suc (suc (suc zero)))) empty h e = record { position = over; fine = tt; stops = inr (unfold next in tt); mode = refl; stack = refl }
   fits-stop L (suc (suc (suc (suc zero)))) (push v b t) h e = absurd (false≢true e)
   fits-stop L (suc (suc (suc (suc (suc m))))) t h e = absurd (omega arith)
 
   -- and holds of each
-  pub stop-fits : Live K → (p : Position) → Ok K p → Quiet (next K p) → fits K (mode-of p) (stack-of p) ≡ true
-  unfolding fits next
+  pub stop-fits : Live K → (p : Position) → Ok K p → Stops K p → fits K (mode-of p) (stack-of p) ≡ true
+  unfolding fits next replays
   stop-fits L (down empty) o q = refl
   stop-fits L (down (push v b t)) o q = replayed-replays (push v b t) o
-  stop-fits L (full empty) o q = let z = L .positive in let h = o .1 in absurd (omega arith)
+  stop-fits L (full empty) o q = and-both _ _ (eq-eqb (K .size) 0 (sym (o .1))) refl
   stop-fits L (full (push v b t)) o q = replayed-replays (push v b t) (o .0)
-  stop-fits L (back false t) o q =
+  stop-fits L (back false t) o (inl z) = absurd (omega (arith, o .1))
+  stop-fits L (back false t) o (inr q) =
       and-both _ _ (replayed-replays t (o .0)) (and-both _ _ (lt-ltb _ _ (o .1)) (and-both _ _ (o .2) (at t (K .choose t .true_open) q)))
     where
       at : (u : Stack) (x : Bool) → Quiet (cond x (enter 0 (K .choose t) true t) (rise u)) → (not (is-empty u) || x) ≡ true
       at empty true h = refl
       at empty false h = absurd h
       at (push v b u) x h = refl
-  stop-fits L (back true t) o q =
+  stop-fits L (back true t) o (inl z) = absurd (omega (arith, o .1))
+  stop-fits L (back true t) o (inr q) =
       and-both _ _ (replayed-replays t (o .0)) (and-both _ _ (lt-ltb _ _ (o .1)) (and-both _ _ (o .2) (at t q)))
     where
       at : (u : Stack) → Quiet (rise u) → not (is-empty u) ≡ true
