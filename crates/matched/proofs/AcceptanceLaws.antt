@@ -11,7 +11,6 @@ use Rattle.formula.specs.Decode.{Decoding, readable, refused, decode}
 use Rattle.formula.specs.Format.{Literal, Sized}
 use Rattle.formula.specs.Masked.{variables}
 use Rattle.formula.proofs.Demands.{accepted-only}
-use Rattle.matching.specs.Matched.{Matched}
 use Rattle.matching.specs.Search.{Outcome, success, failure, outcome, marks}
 use Rattle.matching.proofs.Theorems.{success-matches, failure-unmatched}
 use Rattle.splitting.specs.Terms.{Sound}

@@ -31,7 +31,10 @@ use Rattle.splitting.specs.declared.Survey.{Survey}
 use Rattle.splitting.specs.declared.Trial.{Trial}
 use Rattle.splitting.specs.Choosing.{both-open}
 use Rattle.splitting.specs.InnerChoose.{assigned, set-to, satisfied-under, left-under, open-clauses, node, unnamed, unassigned, formula-at, clauses-in, clause-in, formula-in, Small, surveys, survey-from, survey-of, pure-of, reduce-from, reduced, tried, passing, greatest, listed-last, chosen}
-use Rattle.splitting.proofs.InnerLaws.{small-at, pure-lowest, next-of, reduce-done, reduce-turn, greatest-member, chosen-passing, chosen-noted, chosen-other}
+use Rattle.splitting.proofs.NodeMatchingLaws.{small-at}
+use Rattle.splitting.proofs.ReduceLaws.{pure-lowest, next-of, reduce-done, reduce-turn}
+use Rattle.splitting.proofs.LastMemberLaws.{greatest-member}
+use Rattle.splitting.proofs.ChosenLaws.{chosen-passing, chosen-noted, chosen-other}
 use Rattle.splitting.proofs.MaskNodeLaws.{clause-same, meets-none, satisfied-more, survey-side, surveys-side, assign-masks, open-of, open-more, open-list, open-none, left-side, assigned-more}
 
 -- ---- one variable more

@@ -2,16 +2,15 @@
 use Prim.Native.Nat.{ℕ, zero, suc, _^_, _≤_, _<_}
 use mathlib.Core.Path.{_≡_, refl, _∙_}
 use mathlib.Core.Bool.{Bool, true, false, not}
-use mathlib.Core.Logic.{⊎-elim}
 use native.Mathlib.Omega.{arith}
 use lib.Dec.{eqb}
 use lib.Pow.{pow-pos}
 use borrow.Author.Tests.{lt-ltb}
-use Rattle.lists.proofs.TestLaws.{and-left, look, clash}
+use Rattle.lists.proofs.TestLaws.{and-left, clash}
 use Rattle.masks.specs.Mask.{bit, full, size}
 use Rattle.masks.proofs.BitLaws.{bit-full, bit-below}
 use Rattle.matching.proofs.MatchedLaws.{count-members}
-use Rattle.matching.proofs.Counting.{below-cases, count, count-all, count-except, except, except-i, pigeon}
+use Rattle.matching.proofs.Counting.{count, count-all, count-except, except, except-i, pigeon}
 
 -- what is in a set without a is in the set
 pub except-of : (f : ℕ → Bool) (a i : ℕ) → except f a i ≡ true → f i ≡ true
@@ -30,26 +29,6 @@ count-le f n = omega (arith, count-sub f (λ _. true) n (λ i _. refl), count-al
 pub count-drop : (f g : ℕ → Bool) (n a : ℕ) → ((i : ℕ) → f i ≡ true → g i ≡ true) → a < n → g a ≡ true → f a ≡ false → count f n < count g n
 count-drop f g n a sub l t off =
     omega (arith, count-except g a n l t, count-sub f (except g a) n (λ i h. except-i g a i (sub i h) (λ e. clash h (rw e off))))
-
--- what counts less than all misses one
-pub count-missing : (f : ℕ → Bool) (n : ℕ) → count f n < n → (i : ℕ) × (i < n) × (f i ≡ false)
-unfolding count
-count-missing f zero h = absurd (omega arith)
-count-missing f (suc n) h =
-    ⊎-elim
-    (λ (t : f n ≡ true). let w = count-missing f n (let z = (rw t at h) in omega arith) in (w .0, omega (arith, w .1), w .2))
-    (λ (e : f n ≡ false). (n, omega arith, e))
-    (look (f n))
-
--- what counts all misses none
-pub count-full : (f : ℕ → Bool) (n : ℕ) → count f n ≡ n → (i : ℕ) → i < n → f i ≡ true
-unfolding count
-count-full f zero h i l = absurd (omega arith)
-count-full f (suc n) h i l =
-    ⊎-elim
-    (λ (t : f n ≡ true). ⊎-elim (λ (e : i ≡ n). rw e t) (λ (k : i < n). count-full f n (let z = (rw t at h) in omega arith) i k) (below-cases l))
-    (λ (e : f n ≡ false). let q = count-le f n in let z = (rw e at h) in absurd (omega arith))
-    (look (f n))
 
 -- what counts less than another set misses one of it
 pub count-lacks : (f g : ℕ → Bool) (n : ℕ) → count f n < count g n → (i : ℕ) × (i < n) × (g i ≡ true) × (f i ≡ false)

@@ -12,7 +12,7 @@ use Rattle.formula.specs.Masked.{no-clause}
 use Rattle.splitting.specs.declared.Assignment.{Assignment}
 use Rattle.splitting.specs.declared.Survey.{Survey}
 use Rattle.splitting.specs.InnerChoose.{set-to, satisfied-under, left-under, open-clauses, node, survey-from, survey-of, all-satisfied, free-choice, chosen}
-use Rattle.splitting.proofs.InnerLaws.{survey-snoc}
+use Rattle.splitting.proofs.OpenClauseLaws.{survey-snoc}
 use Rattle.splitting.proofs.MaskNodeLaws.{satisfied-more}
 
 module _ (cs : List Clause) (a : Assignment) where

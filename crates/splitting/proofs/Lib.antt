@@ -1,5 +1,10 @@
 pub mod FreeLaws
-pub mod InnerLaws
+pub mod OpenClauseLaws
+pub mod NodeMatchingLaws
+pub mod ReduceLaws
+pub mod MaskTrialLaws
+pub mod LastMemberLaws
+pub mod ChosenLaws
 pub mod ClauseLaws
 pub mod CountLaws
 pub mod SearchLaws
@@ -18,5 +23,6 @@ pub mod Theorems
 pub mod MaskNodeLaws
 pub mod CompactLaws
 pub mod MaskSearchLaws
+pub mod MaskClauseLaws
 pub mod MaskChoiceLaws
 pub mod Cases

@@ -1,23 +1,21 @@
 -- The choice over masks is the choice over written clauses.
 use Prim.Native.Nat.{ℕ, zero, suc, _+_, _≤_, _<_}
 use mathlib.Core.Path.{_≡_, refl, sym, _∙_, ap, ap₂, subst}
-use mathlib.Core.Bool.{Bool, true, false, not, xor, cond, _&&_, _||_, or-assoc, or-false}
+use mathlib.Core.Bool.{Bool, true, false, not, cond, _&&_, _||_, or-assoc, or-false}
 use mathlib.Core.List.{List, [], _∷_, _++_, map, append-nil}
-use mathlib.Core.Logic.{⊎-elim}
 use native.Mathlib.Omega.{arith}
 use lib.Bits.{bitOr, bitXor}
 use lib.Dec.{eqb}
 use borrow.Author.Tests.{eqb-true, eqb-false}
-use Rattle.lists.proofs.TestLaws.{and-left, or-none, both-signs, eqb-comm, look, clash}
+use Rattle.lists.proofs.TestLaws.{and-left, eqb-comm, clash}
 use Rattle.masks.specs.Mask.{bit, with, minus, lowest, members}
 use Rattle.masks.proofs.MembersLaws.{some-member, member-some, members-none}
-use Rattle.masks.proofs.BitLaws.{bit-or, bit-xor, bit-with, bit-minus, bit-none}
+use Rattle.masks.proofs.BitLaws.{bit-with, bit-minus, bit-none}
 use Rattle.matching.specs.Search.{Outcome, outcome, succeeds, expansions}
 use Rattle.formula.specs.declared.Clause.{Clause}
 use Rattle.formula.specs.declared.Formula.{Formula}
-use Rattle.formula.specs.Format.{Literal, names, names-as}
-use Rattle.formula.specs.Masked.{named, variables, clause-of, formula-of}
-use Rattle.formula.proofs.ClauseLaws.{clause-side, clause-empty, variables-named, named-as}
+use Rattle.formula.specs.Format.{Literal, names}
+use Rattle.formula.specs.Masked.{named, clause-of, formula-of}
 use Rattle.formula.proofs.FormatLaws.{clause-more}
 use Rattle.splitting.specs.declared.Assignment.{Assignment}
 use Rattle.splitting.specs.declared.Choice.{Choice}
@@ -25,98 +23,20 @@ use Rattle.splitting.specs.declared.Reduced.{Reduced}
 use Rattle.splitting.specs.declared.Survey.{Survey}
 use Rattle.splitting.specs.declared.Trial.{Trial}
 use Rattle.splitting.specs.Nodes as nodes
-use Rattle.splitting.specs.Nodes.{less, assign, remaining, occurs, lowest-with, upward}
+use Rattle.splitting.specs.Nodes.{assign, remaining, occurs, lowest-with, upward}
 use Rattle.splitting.specs.Stripping.{pure, not-naming, Stripped, note, strip, stripped}
 use Rattle.splitting.specs.Choosing as choosing
-use Rattle.splitting.specs.Choosing.{matched, trial, both-open, first-passing, candidates, among, listed, last, emptied, last-listed, by-left, by-remaining, unassigned-of, choice}
-use Rattle.splitting.specs.InnerChoose.{assigned, set-to, node, surveys, survey-from, survey-of, some-empty, matched-node, reduced-at, pure-of, reduce-from, reduced, tried, passing, greatest, listed-last, others-of, chosen, assignment-of}
+use Rattle.splitting.specs.Choosing.{matched, trial, both-open, first-passing, candidates, among, listed, last, last-listed, by-left, by-remaining, unassigned-of, choice}
+use Rattle.splitting.specs.InnerChoose.{assigned, set-to, node, survey-from, survey-of, matched-node, reduced-at, pure-of, reduce-from, reduced, tried, passing, greatest, listed-last, others-of, chosen, assignment-of}
 use Rattle.splitting.specs.Terms.{Below, Trail}
-use Rattle.splitting.proofs.ClauseLaws.{names-some, pure-named}
+use Rattle.splitting.proofs.ClauseLaws.{pure-named}
 use Rattle.splitting.proofs.NodeLaws.{remaining-snoc, named-remaining, below-remaining}
 use Rattle.splitting.proofs.SearchLaws.{lowest-some, among-here, among-more, upward-of, upward-in, last-append}
 use Rattle.splitting.proofs.Theorems.{last-listed-named}
 use Rattle.splitting.proofs.TurnLaws.{strip-next, strip-end}
-use Rattle.splitting.proofs.MaskNodeLaws.{survey-side, surveys-side, node-masks, assignment-more, assigned-trail}
+use Rattle.splitting.proofs.MaskNodeLaws.{node-masks, assignment-more, assigned-trail}
 use Rattle.splitting.proofs.MaskSearchLaws.{lowest-empty, lowest-member, members-upward}
-
--- ---- what the clauses name
-
-survey-occurs : (s : Survey) (ds : List (List Literal)) (sign : Bool) (v : ℕ)
-    → bit (survey-side (survey-from s (map clause-of ds)) sign) v ≡ bit (survey-side s sign) v || occurs ds v sign
-unfolding survey-from occurs
-survey-occurs s [] sign v = sym (or-false (bit (survey-side s sign) v))
-survey-occurs s (d ∷ ds) sign v =
-    survey-occurs (surveys s (clause-of d)) ds sign v
-    ∙ ap (λ (b : Bool). b || occurs ds v sign) (surveys-side s (clause-of d) sign v ∙ ap (λ (b : Bool). bit (survey-side s sign) v || b) (clause-side d sign v))
-    ∙ or-assoc (bit (survey-side s sign) v) (names-as d v sign) (occurs ds v sign)
-
--- the survey of clauses has the variables that occur in them
-occurs-bit : (ds : List (List Literal)) (sign : Bool) (v : ℕ) → bit (survey-side (survey-of (map clause-of ds)) sign) v ≡ occurs ds v sign
-occurs-bit ds true v = survey-occurs (record { positive = 0; negative = 0; any = false }) ds true v ∙ rw (bit-none v)
-occurs-bit ds false v = survey-occurs (record { positive = 0; negative = 0; any = false }) ds false v ∙ rw (bit-none v)
-
--- the variables named either way, and in one way only
-named-bit : (ds : List (List Literal)) (v : ℕ) → bit (bitOr (survey-of (map clause-of ds) .positive) (survey-of (map clause-of ds) .negative)) v ≡ nodes.named ds v
-unfolding nodes.named
-named-bit ds v = bit-or (survey-of (map clause-of ds) .positive) (survey-of (map clause-of ds) .negative) v ∙ rw (occurs-bit ds true v, occurs-bit ds false v)
-
-pure-bit : (ds : List (List Literal)) (v : ℕ) → bit (bitXor (survey-of (map clause-of ds) .positive) (survey-of (map clause-of ds) .negative)) v ≡ pure ds v
-unfolding pure
-pure-bit ds v = bit-xor (survey-of (map clause-of ds) .positive) (survey-of (map clause-of ds) .negative) v ∙ rw (occurs-bit ds true v, occurs-bit ds false v)
-
-survey-goes : (s : Survey) (cs : List Clause) → s .any ≡ true → survey-from s cs .any ≡ true
-unfolding survey-from
-survey-goes s [] e = e
-survey-goes s (c ∷ cs) e = survey-goes (surveys s c) cs refl
-
--- whether there is a clause
-any-some : (d : List Literal) (ds : List (List Literal)) → survey-of (map clause-of (d ∷ ds)) .any ≡ true
-unfolding survey-from
-any-some d ds = survey-goes (surveys (record { positive = 0; negative = 0; any = false }) (clause-of d)) (map clause-of ds) refl
-
--- ---- matchings and empty clauses
-
-sets-variables : (ds : List (List Literal)) → map named (map clause-of ds) ≡ map variables ds
-sets-variables [] = refl
-sets-variables (d ∷ ds) = rw (sets-variables ds, variables-named d)
-
-empty-emptied : (ds : List (List Literal)) → some-empty (map clause-of ds) ≡ emptied ds
-unfolding some-empty emptied
-empty-emptied [] = refl
-empty-emptied ([] ∷ ds) = rw (clause-empty [])
-empty-emptied ((l ∷ d) ∷ ds) = rw (clause-empty (l ∷ d)) (empty-emptied ds)
-
--- ---- a pure literal gets its way
-
-less-none : (v : ℕ) (c : List Literal) → names c v ≡ false → less v c ≡ c
-unfolding less names
-less-none v [] e = refl
-less-none v (l ∷ c) e = let w = or-none (eqb (l .variable) v) (names c v) e in rw (w .0, less-none v c (w .1))
-
--- where no clause names v the other way, assigning it its way drops the clauses that name it
-assign-drops : (v : ℕ) (sign : Bool) (ds : List (List Literal)) → occurs ds v (not sign) ≡ false → assign v sign ds ≡ not-naming v ds
-unfolding assign not-naming occurs
-assign-drops v sign [] e = refl
-assign-drops v sign (d ∷ ds) e =
-    let w = or-none (names-as d v (not sign)) (occurs ds v (not sign)) e in go (names-as d v sign) refl (w .0) (assign-drops v sign ds (w .1))
-  where
-    unnamed : names-as d v sign ≡ false → names-as d v (not sign) ≡ false → names d v ≡ false
-    unnamed f g = ⊎-elim (λ h. let w = names-some d v h in clash (w .1) (both-signs (λ s. names-as d v s ≡ false) sign f g (w .0))) (λ h. h) (look (names d v))
-
-    go : (b : Bool) → names-as d v sign ≡ b → names-as d v (not sign) ≡ false → assign v sign ds ≡ not-naming v ds
-        → cond b (assign v sign ds) (less v d ∷ assign v sign ds) ≡ cond (names d v) (not-naming v ds) (d ∷ not-naming v ds)
-    go true f g ih = rw (named-as d v sign f) ih
-    go false f g ih = rw (unnamed f g, less-none v d (unnamed f g), ih)
-
--- a variable named in one way only is not named the other way
-pure-way : (ds : List (List Literal)) (v : ℕ) → pure ds v ≡ true → occurs ds v (not (occurs ds v true)) ≡ false
-unfolding pure xor
-pure-way ds v e = go (occurs ds v true) (occurs ds v false) refl refl e
-  where
-    go : (x y : Bool) → occurs ds v true ≡ x → occurs ds v false ≡ y → xor x y ≡ true → occurs ds v (not x) ≡ false
-    go true true p q h = clash h refl
-    go true false p q h = q
-    go false y p q h = p
+use Rattle.splitting.proofs.MaskClauseLaws.{occurs-bit, named-bit, pure-bit, any-some, sets-variables, empty-emptied, assign-drops, pure-way}
 
 -- ---- one trial, by its two outcomes
 

@@ -26,7 +26,7 @@ use Rattle.splitting.specs.Stripping.{not-naming, stripped}
 use Rattle.splitting.specs.Terms.{Below, Satisfies, Agrees}
 use Rattle.splitting.proofs.ClauseLaws.{literal-names, names-literal, names-some, less-of, less-other, occurs-in, named-in, pure-ways}
 use Rattle.splitting.proofs.StrippingLaws.{not-naming-in, strip-ind}
-use Rattle.splitting.proofs.NodeLaws.{assign-in, assign-of, named-assign, named-remaining}
+use Rattle.splitting.proofs.NodeLaws.{assign-in, assign-of, named-remaining}
 use Rattle.splitting.proofs.MatchedLaws.{matches-names}
 
 -- ── Assigning ────────────────────────────────────────────────────────────────────────────────────────────────────────
@@ -121,13 +121,6 @@ given-same v b a = rw (eq-eqb v v refl)
 given-other : (v : ℕ) (b : Bool) (a : ℕ → Bool) (w : ℕ) → (w ≡ v → ⊥) → under (given v b) a w ≡ a w
 unfolding under
 given-other v b a w ne = rw (ne-eqb v w (λ e. ne (sym e)))
-
--- what satisfies the clauses after an assignment gives what satisfies them before
-pub given-satisfies : (a : ℕ → Bool) (v : ℕ) (b : Bool) (cs : List (List Literal)) → Satisfies a (assign v b cs) → Satisfies (under (given v b) a) cs
-given-satisfies a v b cs sat =
-    assign-satisfies (under (given v b) a) v b cs
-    (satisfies-same a (under (given v b) a) (assign v b cs) (λ w h. sym (given-other v b a w (named-assign v b cs w h .1))) sat)
-    (given-same v b a)
 
 -- ── Stripping ────────────────────────────────────────────────────────────────────────────────────────────────────────
 

@@ -12,12 +12,13 @@ use Rattle.matching.specs.Matched.{Matched}
 use Rattle.formula.specs.Format.{Literal, names, ClauseOver}
 use Rattle.formula.specs.Models.{Model}
 use Rattle.formula.specs.Masked.{variables}
-use Rattle.splitting.specs.Nodes.{assign, remaining, named}
-use Rattle.splitting.specs.Stripping.{stripped}
+use Rattle.splitting.specs.Nodes.{assign, remaining, named, lowest-with}
+use Rattle.splitting.specs.Stripping.{pure, not-naming, note, stripped}
 use Rattle.splitting.specs.Choosing.{trial, first-passing, candidates, among, listed, last, emptied, unassigned-of, choice}
 use Rattle.splitting.specs.Terms.{Below, NonePure, Sound, Trail, Agrees, Covers, ModelAt, Unassigned, Assigns, opened}
 use Rattle.splitting.proofs.ClauseLaws.{named-by}
 use Rattle.splitting.proofs.StrippingLaws as stripping
+use Rattle.splitting.proofs.TurnLaws as turns
 use Rattle.splitting.proofs.NodeLaws as nodes
 use Rattle.splitting.proofs.MatchedLaws as matchings
 use Rattle.splitting.proofs.ModelLaws as models
@@ -40,6 +41,16 @@ left-none-pure n cs low = stripping.left-none-pure n cs low
 -- It is the greatest such part, whatever the order of stripping: every sub-list with no pure variable is a sub-list of it.
 pub left-greatest : (n : ℕ) (ds cs : List (List Literal)) → Sublistᴰ ds cs → NonePure ds → Sublistᴰ ds (stripped n cs .left)
 left-greatest n ds cs s np = stripping.left-greatest n ds cs s np
+
+-- The turns are not bounded by what the definition counts them with: while some variable below n is pure, the lowest is noted and the
+-- clauses that name it are dropped,
+pub stripped-next : (n : ℕ) (cs : List (List Literal)) → lowest-with (pure cs) n < n
+    → stripped n cs ≡ note (lowest-with (pure cs) n) (stripped n (not-naming (lowest-with (pure cs) n) cs))
+stripped-next n cs l = turns.stripped-next n cs l
+
+-- and it ends only where none is.
+pub stripped-end : (n : ℕ) (cs : List (List Literal)) → n ≤ lowest-with (pure cs) n → stripped n cs ≡ record { noted = []; left = cs }
+stripped-end n cs l = turns.stripped-end n cs l
 
 -- ── Something is left (source, theorem 5.9) ──────────────────────────────────────────────────────────────────────────
 

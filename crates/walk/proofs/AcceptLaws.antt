@@ -9,7 +9,7 @@ use Rattle.limits.specs.Limits.{max-variables}
 use Rattle.lists.proofs.TestLaws.{and-left, and-right, and-both}
 use Rattle.walk.specs.Checkpoints.{Checkpoint, checkpoint-of}
 use Rattle.walk.specs.InnerStack.{Stack, empty, push, trail-of, Tree}
-use Rattle.walk.specs.InnerMachine.{Position, down, full, back, over, next, resume}
+use Rattle.walk.specs.InnerMachine.{Position, down, full, back, over, resume}
 use Rattle.walk.specs.InnerTest.{mode-of, stack-of, shown, read, position-of, formed, fits, accepts}
 use Rattle.walk.specs.InnerCall.{resumed-result, call-from}
 use Rattle.walk.proofs.RestLaws.{Stops, Replayed, replayed-depth, Ok, Live}

@@ -2,7 +2,7 @@
 use Prim.Native.Nat.{ℕ, _≤_}
 use mathlib.Core.List.{List, [], _∷_}
 use mathlib.Core.Logic.{_↔_}
-use mathlib.Core.Path.{_≡_, refl, ap, _∙_}
+use mathlib.Core.Path.{_≡_, refl, ap}
 use lib.ListN.{length}
 use borrow.Author.Tests.{le-ltb}
 use Rattle.limits.specs.Limits.{max-clauses}
@@ -13,7 +13,7 @@ use Rattle.formula.specs.Format.{Literal}
 use Rattle.matched.specs.Acceptance.{Acceptance, accepted, declined, acceptance}
 use Rattle.matched.specs.Judge.{refusal, judge}
 use Rattle.matched.specs.Pairing.{Pairs, Pairable}
-use Rattle.matched.proofs.AcceptanceLaws.{Accepted, accepted-is, pairs-accepted, unpaired-declined, unreadable-declined}
+use Rattle.matched.proofs.AcceptanceLaws.{accepted-is, pairs-accepted, unpaired-declined, unreadable-declined}
 use Rattle.walk.specs.Task.{whole, Posed}
 use Rattle.walk.specs.Checkpoints.{Checkpoint, start}
 use Rattle.walk.specs.WalkCall.{says-refused, Result, refusing, task-call, walk-call, walk-calls}

@@ -5,20 +5,19 @@ use mathlib.Core.List.{List, [], _∷_, _++_, map, map-append}
 use mathlib.Core.Path.{_≡_, refl, sym, ap, _∙_}
 use native.Mathlib.Omega.{arith}
 use lib.Dec.{eqb}
-use borrow.Author.Tests.{eqb-true, eqb-false}
-use lib.ListN.{length, getD, set, length-map}
+use lib.ListN.{length, set, length-map}
 use Rattle.limits.specs.Limits.{max-variables}
 use Rattle.lists.specs.Padded.{padded}
 use Rattle.lists.proofs.PaddedLaws.{padded-set}
-use Rattle.lists.proofs.StoreLaws.{padded-last, padded-clear}
+use Rattle.lists.proofs.StoreLaws.{padded-clear}
 use Rattle.lists.specs.Every.{Every}
 use Rattle.lists.proofs.TestLaws.{or-swap}
-use Rattle.masks.specs.Mask.{bit, with, without}
-use Rattle.masks.proofs.BitLaws.{bit-with, bit-without-same, bit-without-other, mask-ext, minus-lt, with-lt}
-use Rattle.formula.specs.Format.{Literal, names}
+use Rattle.masks.specs.Mask.{bit, with}
+use Rattle.masks.proofs.BitLaws.{bit-with, mask-ext, with-lt}
+use Rattle.formula.specs.Format.{Literal}
 use Rattle.walk.specs.Plain.{assignment}
 use Rattle.walk.specs.Checkpoints.{byte}
-use Rattle.walk.proofs.AssignmentLaws.{bit-other, assignment-none, assignment-lt}
+use Rattle.walk.proofs.AssignmentLaws.{assignment-lt}
 
 -- a byte stored after a trail's
 pub bytes-push : (t : List Literal) (l : Literal) → length t < max-variables → set (padded max-variables 0 (map byte t)) (length t) (byte l) ≡ padded max-variables 0 (map byte (t ++ (l ∷ [])))
@@ -27,10 +26,6 @@ bytes-push t l h =
     ap (λ (k : ℕ). set (padded max-variables 0 (map byte t)) k (byte l)) (sym e)
     ∙ padded-set max-variables 0 (map byte t) (byte l) (omega arith)
     ∙ ap (padded max-variables 0) (sym (map-append byte t (l ∷ [])))
-
--- the last byte read
-pub bytes-last : (t : List Literal) (l : Literal) → getD (padded max-variables 0 (map byte (t ++ (l ∷ [])))) (length t) 0 ≡ byte l
-bytes-last t l = rw map-append (ap (λ (k : ℕ). getD (padded max-variables 0 (map byte t ++ (byte l ∷ []))) k 0) (sym (length-map t byte)) ∙ padded-last max-variables 0 (map byte t) (byte l) 0)
 
 -- the last byte set to 0
 pub bytes-pop : (t : List Literal) (l : Literal) → length t < max-variables → set (padded max-variables 0 (map byte (t ++ (l ∷ [])))) (length t) 0 ≡ padded max-variables 0 (map byte t)
@@ -57,23 +52,3 @@ assignment-more n (k ∷ t) l w h =
     at true true = with-swap n (assignment t) (l .variable) (k .variable) (assignment-lt n t (w .1)) h (w .0)
     at true false = refl
     at false y = refl
-
-without-own : (n m v : ℕ) (p : Bool) → m < 2 ^ n → v < n → bit m v ≡ false → without (cond p (with m v) m) v ≡ m
-without-own n m v p h k e =
-    mask-ext n (without (cond p (with m v) m) v) m (minus-lt n (cond p (with m v) m) (2 ^ v) (at p)) h (λ i l. by i (eqb i v) refl)
-  where
-    at : (p : Bool) → cond p (with m v) m < 2 ^ n
-    at true = with-lt n m v h k
-    at false = h
-
-    by : (i : ℕ) (x : Bool) → eqb i v ≡ x → bit (without (cond p (with m v) m) v) i ≡ bit m i
-    by i true q = let z = eqb-true i v q in rw z (bit-without-same (cond p (with m v) m) v ∙ sym e)
-    by i false q =
-        let ne : i ≡ v → ⊥ = eqb-false i v q in
-        bit-without-other (cond p (with m v) m) v i ne ∙ bit-other p m v i ne
-
--- and without its last one
-pub assignment-less : (n : ℕ) (t : List Literal) (l : Literal) → Every (λ k. k .variable < n) t → l .variable < n → names t (l .variable) ≡ false
-    → without (assignment (t ++ (l ∷ []))) (l .variable) ≡ assignment t
-assignment-less n t l w h e =
-    rw (assignment-more n t l w h) (without-own n (assignment t) (l .variable) (l .positive) (assignment-lt n t w) h (assignment-none t (l .variable) e))

@@ -1,14 +1,14 @@
 -- The task of a formula: all its variables are to be assigned, and none is assigned before.
-use Prim.Native.Nat.{ℕ, _^_, _≤_, _<_}
+use Prim.Native.Nat.{ℕ, _≤_}
 use mathlib.Core.Bool.{Bool, true, false}
-use mathlib.Core.List.{List, [], List·Memᴰ·not-nil}
-use mathlib.Core.Logic.{_⊎_, inl, inr, ⊎-elim, _↔_}
+use mathlib.Core.List.{List, List·Memᴰ·not-nil}
+use mathlib.Core.Logic.{inl, _↔_}
 use mathlib.Core.Path.{_≡_, refl, _∙_}
 use native.Mathlib.Omega.{arith}
 use lib.Dec.{ltb}
 use lib.Pow.{pow-pos}
-use borrow.Author.Tests.{lt-ltb, ltb-true, ltb-false}
-use Rattle.lists.proofs.TestLaws.{look, clash}
+use borrow.Author.Tests.{lt-ltb, ltb-false}
+use Rattle.lists.proofs.TestLaws.{clash}
 use Rattle.masks.specs.Mask.{bit, full}
 use Rattle.masks.proofs.BitLaws.{bit-full}
 use Rattle.formula.specs.Format.{Literal, names, distinct, Sized}

@@ -1,7 +1,7 @@
 -- `choose` is the choice: where no clause is left the free one, and what `choose_open` gives where one is.
 use mathlib.Core.Path.{sym, _∙_}
 use borrow.Author.Needs.{needs}
-use Rattle.splitting.proofs.InnerLaws.{small-of}
+use Rattle.splitting.proofs.NodeMatchingLaws.{small-of}
 use Rattle.splitting.proofs.FreeLaws.{chosen-satisfied, some-open}
 use Rattle.splitting.proofs.choose.Statement.{statement}
 use Rattle.splitting.proofs.choose.Tie as tie

@@ -7,7 +7,9 @@ use lib.Bits.{bitOr}
 use Rattle.masks.specs.Mask.{members}
 use Rattle.formula.specs.declared.Formula.{Formula}
 use Rattle.splitting.specs.InnerChoose.{node, unassigned, formula-at, formula-in, Small, survey-of, reduce-from, passing, listed-last}
-use Rattle.splitting.proofs.InnerLaws.{small-at, reduce-last, greatest-below}
+use Rattle.splitting.proofs.NodeMatchingLaws.{small-at}
+use Rattle.splitting.proofs.ReduceLaws.{reduce-last}
+use Rattle.splitting.proofs.LastMemberLaws.{greatest-below}
 use Rattle.splitting.proofs.CompactLaws.{choice-passing, choice-noted, choice-other}
 use Rattle.splitting.proofs.choose_open.Statement.{statement}
 use Rattle.splitting.proofs.choose_open.Tie as tie

@@ -9,7 +9,7 @@ use borrow.Author.Tests.{not-true, not-false}
 use lib.ListN.{length, length-set}
 use Rattle.lists.specs.Tabulated.{tabulated}
 use Rattle.splitting.specs.InnerChoose.{clause-in, clauses-in, open-clauses}
-use Rattle.splitting.proofs.InnerLaws.{clause-read, clause-kept, formula-held, open-gone, keep-more}
+use Rattle.splitting.proofs.OpenClauseLaws.{clause-read, clause-kept, formula-held, open-gone, keep-more}
 use Rattle.splitting.proofs.compact.Statement.{statement}
 use Rattle.splitting.proofs.compact.Tie as tie
 

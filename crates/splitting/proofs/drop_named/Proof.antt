@@ -8,7 +8,7 @@ use borrow.Author.Needs.{needs}
 use borrow.Author.Tests.{not-true, not-false}
 use lib.ListN.{length, length-set}
 use Rattle.splitting.specs.InnerChoose.{clause-in, clauses-in, unnamed}
-use Rattle.splitting.proofs.InnerLaws.{clause-read, clause-kept, unnamed-gone, unnamed-more}
+use Rattle.splitting.proofs.OpenClauseLaws.{clause-read, clause-kept, unnamed-gone, unnamed-more}
 use Rattle.splitting.proofs.drop_named.Statement.{statement}
 use Rattle.splitting.proofs.drop_named.Tie as tie
 

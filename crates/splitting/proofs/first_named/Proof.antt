@@ -8,7 +8,7 @@ use Rattle.masks.specs.Mask.{bit}
 use Rattle.formula.specs.declared.Clause.{Clause}
 use Rattle.formula.specs.Masked.{named}
 use Rattle.splitting.specs.InnerChoose.{clauses-in, unnamed}
-use Rattle.splitting.proofs.InnerLaws.{unnamed-whole}
+use Rattle.splitting.proofs.OpenClauseLaws.{unnamed-whole}
 use Rattle.splitting.proofs.first_named.Statement.{statement}
 use Rattle.splitting.proofs.first_named.Tie as tie
 

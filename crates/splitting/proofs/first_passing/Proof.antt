@@ -9,7 +9,7 @@ use Rattle.masks.specs.Mask.{members}
 use Rattle.masks.proofs.MembersLaws.{members-le}
 use Rattle.formula.specs.declared.Formula.{Formula}
 use Rattle.splitting.specs.InnerChoose.{passing, unassigned, formula-in}
-use Rattle.splitting.proofs.InnerLaws.{Lowered, lowered, passing-found, passing-more, passing-none, trial-cost}
+use Rattle.splitting.proofs.MaskTrialLaws.{Lowered, lowered, passing-found, passing-more, passing-none, trial-cost}
 use Rattle.splitting.proofs.first_passing.Statement.{statement}
 use Rattle.splitting.proofs.first_passing.Tie as tie
 

@@ -10,7 +10,7 @@ use lib.ListN.{length, length-set}
 use Rattle.lists.specs.Over.{over}
 use Rattle.formula.specs.Masked.{named}
 use Rattle.splitting.specs.InnerChoose.{clauses-in, open-clauses}
-use Rattle.splitting.proofs.InnerLaws.{clause-read, open-gone, gather-more}
+use Rattle.splitting.proofs.OpenClauseLaws.{clause-read, open-gone, gather-more}
 use Rattle.splitting.proofs.gather.Statement.{statement}
 use Rattle.splitting.proofs.gather.Tie as tie
 

@@ -8,7 +8,7 @@ use borrow.Author.Tests.{not-true, not-false}
 use mathlib.Core.Bool.{false}
 use Rattle.formula.specs.Masked.{named}
 use Rattle.splitting.specs.InnerChoose.{clauses-in, open-clauses, some-empty}
-use Rattle.splitting.proofs.InnerLaws.{clause-read, open-gone, empty-found, empty-passed}
+use Rattle.splitting.proofs.OpenClauseLaws.{clause-read, open-gone, empty-found, empty-passed}
 use Rattle.splitting.proofs.has_empty.Statement.{statement}
 use Rattle.splitting.proofs.has_empty.Tie as tie
 

@@ -8,7 +8,8 @@ use lib.ListN.{length}
 use Rattle.masks.specs.Mask.{members}
 use Rattle.splitting.specs.Choosing.{last}
 use Rattle.splitting.specs.InnerChoose.{greatest}
-use Rattle.splitting.proofs.InnerLaws.{Lowered, lowered, last-after, last-more, last-none}
+use Rattle.splitting.proofs.MaskTrialLaws.{Lowered, lowered}
+use Rattle.splitting.proofs.LastMemberLaws.{last-after, last-more, last-none}
 use Rattle.splitting.proofs.highest.Statement.{statement}
 use Rattle.splitting.proofs.highest.Tie as tie
 

@@ -1,6 +1,6 @@
 -- `is_satisfied` tests the two sides of the clause at once.
 use lib.Bits.{bitAnd}
-use Rattle.splitting.proofs.InnerLaws.{some-or}
+use Rattle.splitting.proofs.OpenClauseLaws.{some-or}
 use Rattle.splitting.proofs.is_satisfied.Statement.{statement}
 use Rattle.splitting.proofs.is_satisfied.Tie as tie
 

@@ -2,7 +2,7 @@
 use mathlib.Core.Path.{refl}
 use borrow.Author.Needs.{needs}
 use Rattle.splitting.specs.InnerChoose.{formula-in}
-use Rattle.splitting.proofs.InnerLaws.{node-clauses, node-taken}
+use Rattle.splitting.proofs.NodeMatchingLaws.{node-clauses, node-taken}
 use Rattle.splitting.proofs.match_node.Statement.{statement}
 use Rattle.splitting.proofs.match_node.Tie as tie
 

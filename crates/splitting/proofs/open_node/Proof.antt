@@ -8,7 +8,7 @@ use borrow.Author.Tests.{not-true, not-false}
 use lib.ListN.{length, length-set}
 use Rattle.lists.specs.Tabulated.{tabulated}
 use Rattle.splitting.specs.InnerChoose.{clauses-in, open-clauses}
-use Rattle.splitting.proofs.InnerLaws.{formula-held, open-gone, keep-more}
+use Rattle.splitting.proofs.OpenClauseLaws.{formula-held, open-gone, keep-more}
 use Rattle.splitting.proofs.open_node.Statement.{statement}
 use Rattle.splitting.proofs.open_node.Tie as tie
 

@@ -10,7 +10,7 @@ use Rattle.masks.specs.Mask.{bit, lowest}
 use Rattle.formula.specs.declared.Formula.{Formula}
 use Rattle.splitting.specs.declared.Survey.{Survey}
 use Rattle.splitting.specs.InnerChoose.{node, unassigned, clauses-in, formula-in, survey-of, pure-of, reduce-from}
-use Rattle.splitting.proofs.InnerLaws.{pure-lowest, reduce-done, reduce-more}
+use Rattle.splitting.proofs.ReduceLaws.{pure-lowest, reduce-done, reduce-more}
 use Rattle.splitting.proofs.CompactLaws.{node-in, few-in, strip-more}
 use Rattle.splitting.proofs.reduce.Statement.{statement}
 use Rattle.splitting.proofs.reduce.Tie as tie

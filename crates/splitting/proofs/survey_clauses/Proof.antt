@@ -5,7 +5,7 @@ use mathlib.Core.Path.{_≡_, refl, sym}
 use borrow.Author.Needs.{needs}
 use Rattle.lists.specs.Tabulated.{tabulated}
 use Rattle.splitting.specs.InnerChoose.{clauses-in, survey-from, survey-of}
-use Rattle.splitting.proofs.InnerLaws.{survey-more, survey-any}
+use Rattle.splitting.proofs.OpenClauseLaws.{survey-more, survey-any}
 use Rattle.splitting.proofs.survey_clauses.Statement.{statement}
 use Rattle.splitting.proofs.survey_clauses.Tie as tie
 

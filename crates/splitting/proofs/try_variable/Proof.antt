@@ -4,7 +4,8 @@ use mathlib.Core.Path.{ap, _∙_}
 use borrow.Author.Needs.{needs}
 use borrow.Author.Tests.{not-true, not-false}
 use Rattle.splitting.specs.InnerChoose.{unassigned, formula-in, matching-at}
-use Rattle.splitting.proofs.InnerLaws.{match-cost, tried-false, tried-true}
+use Rattle.splitting.proofs.NodeMatchingLaws.{match-cost}
+use Rattle.splitting.proofs.MaskTrialLaws.{tried-false, tried-true}
 use Rattle.splitting.proofs.try_variable.Statement.{statement}
 use Rattle.splitting.proofs.try_variable.Tie as tie
 
