@@ -1,18 +1,17 @@
--- 01: the act judge, `find_matching`. Refusal 1 first, then 2 to 9, then 10 with the number of marked clauses as its place.
-use Prim.Native.Nat.{ℕ, suc}
+-- 01: the act judge, `find_matching`. Refusal 1 first, then what comes of the input.
+use Prim.Native.Nat.{ℕ}
 use mathlib.Core.Bool.{cond}
-use mathlib.Core.List.{List, map}
+use mathlib.Core.List.{List}
 use lib.Dec.{ltb}
 use lib.ListN.{length}
+use Rattle.limits.specs.Limits.{max-clauses}
 use Rattle.lists.specs.Over.{over}
 use Rattle.formula.specs.declared.Refusal.{Refusal}
-use Rattle.formula.specs.declared.Refusal.the-variants.{ShortBuffer, Unmatched}
-use Rattle.formula.specs.Decode.{Decoding, readable, refused, decode}
-use Rattle.formula.specs.Masked.{variables}
+use Rattle.formula.specs.declared.Refusal.the-variants.{ShortBuffer}
 use Rattle.formula.specs.Refusals.{listing}
-use Rattle.matching.specs.Search.{Outcome, success, failure, outcome, marks}
 use Rattle.matched.specs.declared.Judgement.{Judgement}
 use Rattle.matched.specs.declared.Judgement.the-variants.{Accepted, Refused}
+use Rattle.matched.specs.Acceptance.{Acceptance, accepted, declined, acceptance}
 
 -- 01's values of an answer: the refusal's number and place, n and m; zeros where it has none
 pub record Answer : Type 0 where
@@ -21,34 +20,29 @@ pub record Answer : Type 0 where
   pub variables : ℕ
   pub clauses : ℕ
 
-abbrev pub accepted : ℕ → ℕ → Answer
-accepted n m = record { number = 0; place = 0; variables = n; clauses = m }
+abbrev pub accepted-values : ℕ → ℕ → Answer
+accepted-values n m = record { number = 0; place = 0; variables = n; clauses = m }
 
-abbrev pub refusal : Refusal → Answer
-refusal r = record { number = listing r .number; place = listing r .place; variables = 0; clauses = 0 }
+abbrev pub refused-values : Refusal → Answer
+refused-values r = record { number = listing r .number; place = listing r .place; variables = 0; clauses = 0 }
 
 -- the values of each case
-abbrev pub values : Judgement → Answer
-values (Accepted n m) = accepted n m
-values (Refused r) = refusal r
+abbrev pub judgement-values : Judgement → Answer
+judgement-values (Accepted n m) = accepted-values n m
+judgement-values (Refused r) = refused-values r
 
 -- the answer, and the lent buffer (01: slate) as it is left
 pub record Judged : Type 0 where
   pub answer : Answer
   pub buffer : List ℕ
 
--- Over the first bytes of the buffer; 'The slate's other bytes never change.'
--- Matched: 'slate byte i (from 0) is the switch paired with rule i + 1', the switch from 1. Not matched: 'its first m bytes are 1
--- for a marked rule and 0 for another'
-abbrev pub by-outcome : ℕ → ℕ → Outcome → List ℕ → Judged
-by-outcome n m (success vs e) buffer = record { answer = accepted n m; buffer = over (map suc vs) buffer }
-by-outcome n m (failure taken e) buffer = record { answer = refusal (Unmatched (length taken)); buffer = over (marks m taken) buffer }
+-- The row is written over the first bytes of the buffer; 'The slate's other bytes never change.'
+abbrev pub judgement-of : Acceptance → List ℕ → Judged
+judgement-of (accepted n cs row) buffer = record { answer = accepted-values n (length cs); buffer = over row buffer }
+judgement-of (declined r row) buffer = record { answer = refused-values r; buffer = over row buffer }
 
-abbrev pub by-decoding : Decoding → List ℕ → Judged
-by-decoding (readable n cs) buffer = by-outcome n (length cs) (outcome (map variables cs)) buffer
-by-decoding (refused r) buffer = record { answer = refusal r; buffer = buffer }
-
--- a buffer below 96 bytes is short
+-- a buffer that has no byte for each of 96 clauses is short
 unfoldable pub judge : List ℕ → List ℕ → Judged
 judge s buffer =
-    cond (ltb (length buffer) 96) (record { answer = refusal (ShortBuffer 0); buffer = buffer }) (by-decoding (decode s) buffer)
+    cond (ltb (length buffer) max-clauses) (record { answer = refused-values (ShortBuffer 0); buffer = buffer })
+    (judgement-of (acceptance s) buffer)

@@ -1,4 +1,5 @@
 pub mod Acceptance
+pub mod InnerAccept
 pub mod InnerGather
 pub mod Judge
 pub mod Pairing

@@ -17,7 +17,7 @@ use Rattle.formula.specs.Format.{Literal}
 use Rattle.formula.specs.Models.{Model}
 use Rattle.formula.proofs.Demands.{accepted-only}
 use Rattle.matched.specs.Acceptance.{accepted, acceptance}
-use Rattle.matched.specs.Judge.{refusal, judge}
+use Rattle.matched.specs.Judge.{refused-values, judge}
 use Rattle.matched.specs.Pairing.{Pairs, Pairable}
 use Rattle.matched.proofs.AcceptanceLaws.{pairs-accepted}
 use Rattle.splitting.specs.Terms.{Agrees, opened}
@@ -176,7 +176,7 @@ walked-exactly = refusals.walked-exactly
 -- 10 before 11: whatever the checkpoint, a readable input that can't be paired is refused by 10 with the number of marks that judge gives.
 pub unmatched : (s buffer : List ℕ) (n : ℕ) (cs : List (List Literal)) (c : Checkpoint) (b : ℕ) → max-clauses ≤ length buffer → decode s ≡ readable n cs
     → ((vs : List ℕ) → Pairs cs vs → ⊥)
-    → (k : ℕ) × (judge s buffer .answer ≡ refusal (Unmatched k)) × (walk-call s c b ≡ refusing (Unmatched k) c)
+    → (k : ℕ) × (judge s buffer .answer ≡ refused-values (Unmatched k)) × (walk-call s c b ≡ refusing (Unmatched k) c)
 unmatched = refusals.call-unmatched
 
 -- 2 to 9 before 10 and 11: an unreadable input gets the reader's refusal.

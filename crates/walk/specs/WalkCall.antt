@@ -96,13 +96,13 @@ unfoldable pub task-call : Task → Checkpoint → ℕ → Result
 task-call T c b = by-state T c (located T c) b
 
 -- an accepted input is walked, all its variables to assign; the others get their refusal
-abbrev pub by-acceptance : Acceptance → Checkpoint → ℕ → Result
-by-acceptance (accepted n cs row) c b = task-call (whole n cs) c b
-by-acceptance (declined r row) c b = refusing r c
+abbrev pub call-on : Acceptance → Checkpoint → ℕ → Result
+call-on (accepted n cs row) c b = task-call (whole n cs) c b
+call-on (declined r row) c b = refusing r c
 
 -- a walk call: the input, the checkpoint and the budget. First 2 to 9, then 10, then 11.
 unfoldable pub walk-call : List ℕ → Checkpoint → ℕ → Result
-walk-call s c b = by-acceptance (acceptance s) c b
+walk-call s c b = call-on (acceptance s) c b
 
 -- a list of walk calls on an input, each given the checkpoint that the last one returned
 unfoldable pub walk-calls : List ℕ → Checkpoint → List ℕ → List Result

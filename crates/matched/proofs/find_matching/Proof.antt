@@ -1,20 +1,27 @@
--- `matched::find_matching` meets its contract: by the buffer's length, then by the reader's answer.
+-- `matched::find_matching` meets its contract: by the buffer's length, then by what comes of the input.
 use borrow.Author.Needs.{needs}
 use mathlib.Core.Path.{sym, ap, _∙_}
-use Rattle.formula.proofs.MaskedLaws.{Accepts, decoded-accepted, decoded-refused}
 use Rattle.matched.specs.Judge.{Judged}
-use Rattle.matched.proofs.JudgeLaws.{judge-accepted, judge-refused, judge-short}
+use Rattle.matched.proofs.AcceptanceLaws.{row-few}
+use Rattle.matched.proofs.JudgeLaws.{judge-short, accepted-judged, refused-judged}
 use Rattle.matched.proofs.find_matching.Statement.{statement}
 use Rattle.matched.proofs.find_matching.Tie as tie
 
-accepted : (c : tie.After-f) → Accepts (c .before .before .before .before .before .before .before .args .input .now) (c .before .before .before .decode .result .formula)
-accepted c = decoded-accepted _ _ (c .before .before .before .decode .ensures) (c .before .enum-told .given .1)
+-- the place after accept, where the table is written
+abbrev accepting : tie.After-slice-known2 → tie.After-accept
+accepting c = c .before .before .before .before .before
 
 returns : tie.Need-returns
-returns c = let e = judge-short (c .before .before .before .args .input .now) (c .before .before .before .args .buffer .now) (c .if1 .taken) in (ap (λ (j : Judged). j .answer) (sym e), ap (λ (j : Judged). j .buffer) (sym e))
+returns c =
+    let start = c .before .before .before in
+    let e = judge-short (start .args .input .now) (start .args .buffer .now) (c .if1 .taken) in
+    (ap (λ (j : Judged). j .answer) (sym e), ap (λ (j : Judged). j .buffer) (sym e))
 
-decode-requires : tie.Need-decode-requires
-decode-requires c κs = search needs
+accept-requires : tie.Need-accept-requires
+accept-requires c κs = search needs
+
+write-requires : tie.Need-write-requires
+write-requires c κs = let a = c .before .before .accept in (rw (a .ensures .length) (row-few _), search needs)
 
 enum-known-outcome : tie.Need-enum-known-outcome
 enum-known-outcome c = search needs
@@ -22,27 +29,36 @@ enum-known-outcome c = search needs
 enum-told : tie.Need-enum-told
 enum-told c = search needs
 
-judge-formula-requires : tie.Need-judge-formula-requires
-judge-formula-requires c κs = (accepted (c .before) .fits, search needs)
-
-returns-2 : tie.Need-returns-2
-returns-2 c = let e = judge-refused (c .before .before .before .before .before .before .before .args .input .now) (c .before .before .before .before .before .before .before .args .buffer .now) _ (c .before .before .before .before .if1 .left) (decoded-refused _ _ _ (c .before .before .before .decode .ensures) (c .before .outcome .given .1)) in (ap (λ (j : Judged). j .answer) (sym e), ap (λ (j : Judged). j .buffer) (sym e))
-
 same-length : tie.Need-same-length
 same-length c = search needs
 
+returns-2 : tie.Need-returns-2
+returns-2 c =
+    let after = c .before .before .before in
+    let a = accepting after in
+    let e = refused-judged _ _ (a .before .if1 .left) (a .accept .result) _ (a .accept .ensures) (c .before .outcome .given .1) in
+    (ap (λ (j : Judged). j .answer) (sym e), after .before .before .write .ensures ∙ ap (λ (j : Judged). j .buffer) (sym e))
+
+same-length-2 : tie.Need-same-length-2
+same-length-2 c = search needs
+
 returns-3 : tie.Need-returns-3
-returns-3 c = let e = judge-accepted (c .before .before .before .before .before .before .before .before .before .before .before .args .input .now) (c .before .before .before .before .before .before .before .before .before .before .before .args .buffer .now) _ (c .before .before .before .before .before .before .before .before .if1 .left) (accepted (c .before .before .before .before)) in (c .before .before .judge-formula .ensures .0 ∙ ap (λ (j : Judged). j .answer) (sym e), c .before .before .judge-formula .ensures .1 ∙ ap (λ (j : Judged). j .buffer) (sym e))
+returns-3 c =
+    let after = c .before .before .before in
+    let a = accepting after in
+    let e = accepted-judged _ _ (a .before .if1 .left) (a .accept .result) (a .accept .ensures) (c .before .enum-told .given .1) in
+    (ap (λ (j : Judged). j .answer) (sym e), after .before .before .write .ensures ∙ ap (λ (j : Judged). j .buffer) (sym e))
 
 pub find-matching-spec : {M : Type 1} → statement M
 find-matching-spec =
     tie.close
     (tie.spec
     returns
-    decode-requires
+    accept-requires
+    write-requires
     enum-known-outcome
     enum-told
-    judge-formula-requires
-    returns-2
     same-length
+    returns-2
+    same-length-2
     returns-3)

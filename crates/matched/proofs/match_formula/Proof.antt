@@ -4,7 +4,7 @@ use mathlib.Core.Path.{ap, _∙_}
 use lib.ListN.{take}
 use Rattle.matching.specs.Result.{packed}
 use Rattle.matching.specs.Search.{outcome}
-use Rattle.matched.proofs.JudgeLaws.{sets-clauses, sets-taken}
+use Rattle.matched.proofs.GatherLaws.{sets-clauses, sets-taken}
 use Rattle.matched.proofs.match_formula.Statement.{statement}
 use Rattle.matched.proofs.match_formula.Tie as tie
 

@@ -1,31 +1,25 @@
 -- `matched::write` meets its contract. The loop's invariant: the first i bytes are written.
 use borrow.Author.Needs.{needs}
-use Prim.Native.Nat.{_≤_, _-_}
+use Prim.Native.Nat.{_≤_, _<_, _-_}
 use native.Mathlib.Omega.{arith}
 use mathlib.Core.Path.{_≡_, refl}
-use lib.ListN.{length, length-set}
+use lib.ListN.{length, take, length-set}
 use Rattle.lists.specs.Over.{over}
-use Rattle.lists.specs.Tabulated.{tabulated}
-use Rattle.matched.specs.InnerGather.{raised}
-use Rattle.matched.proofs.GatherLaws.{over-tabulated}
+use Rattle.matched.proofs.GatherLaws.{over-more, taken-length, taken-more}
 use Rattle.matched.proofs.write.Statement.{statement}
 use Rattle.matched.proofs.write.Tie as tie
 
 abbrev Inv-loop : tie.InvT-loop
-Inv-loop n k buffer₀ table i₀ buffer i = (i ≤ n) × (length buffer ≡ length buffer₀) × (buffer ≡ over (raised k table i) buffer₀)
+Inv-loop n buffer₀ table i₀ buffer i = (i ≤ n) × (length buffer ≡ length buffer₀) × (buffer ≡ over (take i table) buffer₀)
 
 abbrev μ-loop : tie.MeasureT-loop
-μ-loop n k buffer₀ table i₀ buffer i = n - i
+μ-loop n buffer₀ table i₀ buffer i = n - i
 
 loop-holds : tie.Need-loop-holds Inv-loop μ-loop
-unfolding tabulated
 loop-holds c = (search needs, refl, refl)
 
 array-read-buffer : tie.Need-array-read-buffer Inv-loop μ-loop
 array-read-buffer c = search needs
-
-add-buffer : tie.Need-add-buffer Inv-loop μ-loop
-add-buffer c = omega (arith, c .before .before .pre .2 (c .before .loop .i) (c .loop-test .taken))
 
 slice-write-buffer : tie.Need-slice-write-buffer Inv-loop μ-loop
 slice-write-buffer c = omega arith
@@ -37,7 +31,14 @@ loop-less : tie.Need-loop-less Inv-loop μ-loop
 loop-less c = search needs
 
 loop-again : tie.Need-loop-again Inv-loop μ-loop
-loop-again c = let v = c .before .loop in (search needs, simp length-set (v .inv .1), over-tabulated _ (v .i) (c .before .before .args .buffer .now) (v .buffer) (v .inv .2) (omega arith))
+loop-again c =
+    let v = c .before .loop in
+    let t = c .before .before .args .t1 in
+    let h : v .i < length t = omega arith in (
+      search needs,
+      simp length-set (v .inv .1),
+      over-more (take (v .i) t) _ (v .i) _ (taken-length t (v .i) h) (taken-more t (v .i) h) (v .buffer) (c .before .before .args .buffer .now) (v .inv .2) (omega arith),
+    )
 
 same-length : tie.Need-same-length Inv-loop μ-loop
 same-length c = c .before .loop .inv .1
@@ -53,7 +54,6 @@ write-spec =
     μ-loop
     loop-holds
     array-read-buffer
-    add-buffer
     slice-write-buffer
     add-i
     loop-less

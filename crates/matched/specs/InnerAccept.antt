@@ -1,0 +1,32 @@
+-- What comes of an input as the code holds it.
+use Prim.Native.Nat.{ℕ}
+use mathlib.Core.List.{List}
+use mathlib.Core.Path.{_≡_}
+use lib.ListN.{length}
+use Rattle.limits.specs.Limits.{max-clauses}
+use Rattle.lists.specs.Padded.{padded}
+use Rattle.formula.specs.declared.Formula.{Formula}
+use Rattle.formula.specs.declared.Outcome.{Outcome}
+use Rattle.formula.specs.declared.Outcome.the-variants as outcomes
+use Rattle.formula.specs.Masked.{formula-of}
+use Rattle.matched.specs.declared.Accepted.{Accepted}
+use Rattle.matched.specs.Acceptance.{Acceptance, accepted, declined}
+
+abbrev pub outcome-of : Acceptance → Outcome
+outcome-of (accepted n cs row) = outcomes.Accepted
+outcome-of (declined r row) = outcomes.Refused r
+
+abbrev pub row-of : Acceptance → List ℕ
+row-of (accepted n cs row) = row
+row-of (declined r row) = row
+
+-- f has the clauses of an accepted input; beside a refusal any formula may stand
+abbrev pub HasClauses : Acceptance → Formula → Type 0
+HasClauses (accepted n cs row) f = f ≡ formula-of n cs
+HasClauses (declined r row) f = Unit {0}
+
+pub record Represents (a : Acceptance) (r : Accepted) : Type 0 where
+  pub outcome : r .outcome ≡ outcome-of a
+  pub formula : HasClauses a (r .formula)
+  pub length : r .length ≡ length (row-of a)
+  pub table : r .table ≡ padded max-clauses 0 (row-of a)
