@@ -4,15 +4,15 @@ use mathlib.Core.List.{List, [], _∷_}
 use mathlib.Core.Logic.{_↔_}
 use mathlib.Core.Path.{_≡_, refl, ap}
 use lib.ListN.{length}
-use borrow.Author.Tests.{le-ltb}
 use Rattle.limits.specs.Limits.{max-clauses}
 use Rattle.formula.specs.declared.Refusal.{Refusal}
 use Rattle.formula.specs.declared.Refusal.the-variants.{Unmatched}
 use Rattle.formula.specs.Decode.{readable, refused, decode}
 use Rattle.formula.specs.Format.{Literal}
 use Rattle.matched.specs.Acceptance.{Acceptance, accepted, declined, acceptance}
-use Rattle.matched.specs.Judge.{refused-values, judge}
-use Rattle.matched.specs.Pairing.{Pairs, Pairable}
+use Rattle.matched.specs.Judge.{Judged, refused-values, judge}
+use Rattle.matched.specs.Pairing.{Pairs, Pairable, marked}
+use Rattle.matched.proofs.JudgeLaws.{judge-declined}
 use Rattle.matched.proofs.AcceptanceLaws.{accepted-is, pairs-accepted, unpaired-declined, unreadable-declined}
 use Rattle.walk.specs.Task.{whole, Posed}
 use Rattle.walk.specs.Checkpoints.{Checkpoint, start}
@@ -39,17 +39,14 @@ accepted-posed s n cs row e = let w = accepted-is s n cs row e in whole-posed n 
 pub call-unreadable : (s : List ℕ) (r : Refusal) (c : Checkpoint) (b : ℕ) → decode s ≡ refused r → walk-call s c b ≡ refusing r c
 call-unreadable s r c b e = call-declined s r [] c b (unreadable-declined s r e)
 
-judge-declined : (s buffer : List ℕ) (r : Refusal) (row : List ℕ) → max-clauses ≤ length buffer → acceptance s ≡ declined r row → judge s buffer .answer ≡ refused-values r
-unfolding judge
-judge-declined s buffer r row l e = rw (le-ltb (length buffer) max-clauses l, e)
-
 -- a readable, unmatched one gets 10 with the number of marks that judge gives
 pub call-unmatched : (s buffer : List ℕ) (n : ℕ) (cs : List (List Literal)) (c : Checkpoint) (b : ℕ) → max-clauses ≤ length buffer → decode s ≡ readable n cs
     → ((vs : List ℕ) → Pairs cs vs → ⊥)
     → (k : ℕ) × (judge s buffer .answer ≡ refused-values (Unmatched k)) × (walk-call s c b ≡ refusing (Unmatched k) c)
 call-unmatched s buffer n cs c b l reads none =
     let w = unpaired-declined s n cs reads none in
-    (w .0, judge-declined s buffer (Unmatched (w .0)) (w .1) l (w .2), call-declined s (Unmatched (w .0)) (w .1) c b (w .2))
+    let k = length (marked (w .0) cs) in
+    (k, ap (λ (j : Judged). j .answer) (judge-declined s buffer l (Unmatched k) (w .0) (w .2)), call-declined s (Unmatched k) (w .0) c b (w .2))
 
 -- a call that is not refused: the input can be paired
 unrefused-pairable : (s : List ℕ) (c : Checkpoint) (b : ℕ) → (walk-call s c b .kind ≡ says-refused → ⊥) → Pairable s
