@@ -2,6 +2,7 @@
 ghost use mathlib.Core.Path.{_≡_};
 ghost use mathlib.Core.Bool.{false};
 ghost use Prim.Native.Nat.{_+_, _<_, _≤_, _^_};
+ghost use lib.Dec.{eqb};
 ghost use lib.ListN.{length, getD};
 ghost use mathlib.Core.List.{[]};
 ghost use Rattle.formula.specs.Check.{values, checked};
@@ -258,8 +259,9 @@ fn is_literal(input: &[u8], r: Reader) -> bool
         return false;
     }
     let kind = input[at];
-    if kind != 2 {
-        if kind != 3 {
+    match kind {
+        2 | 3 => {}
+        0 | 1 | 4..=255 => {
             return false;
         }
     }
@@ -274,6 +276,16 @@ fn is_literal(input: &[u8], r: Reader) -> bool
     !masks::member(current.positive | current.negative, wide(b) - 1)
 }
 
+// The sign of a literal of this kind.
+fn is_positive(kind: u8) -> bool
+    ensures { λ x. ⌜ x ≡ eqb kind 2 ⌝ }
+{
+    match kind {
+        2 => true,
+        0 | 1 | 3..=255 => false,
+    }
+}
+
 // A literal that can be read is read.
 fn take_literal(input: &[u8], r: Reader) -> Reader
     requires { ⌜ (r .at + 1 < length (now input)) × (1 ≤ getD (now input) (r .at + 1) 0) × (getD (now input) (r .at + 1) 0 ≤ 48) ⌝ }
@@ -285,7 +297,7 @@ fn take_literal(input: &[u8], r: Reader) -> Reader
         variables: r.variables,
         at: at + 2,
         count: r.count,
-        current: add_literal(current, wide(input[at + 1]) - 1, input[at] == 2),
+        current: add_literal(current, wide(input[at + 1]) - 1, is_positive(input[at])),
     }
 }
 
