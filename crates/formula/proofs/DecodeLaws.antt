@@ -62,7 +62,7 @@ gives-stop {len} {r} {s} {d} e = record { runs = go s e }
     go t q (suc k) h = rw (q, records)
 
 -- a record that the reader takes gives what the bytes after it give
-gives-next : {len : ℕ} {r r′ : Reading} {s s′ : List ℕ} {d : Decoding} → read-record len r s ≡ next r′ s′ → length s′ < length s
+pub gives-next : {len : ℕ} {r r′ : Reading} {s s′ : List ℕ} {d : Decoding} → read-record len r s ≡ next r′ s′ → length s′ < length s
     → Gives len r′ s′ d → Gives len r s d
 unfolding records
 gives-next {len} {r} {r′} {s} {s′} {d} e l g = record { runs = go }
