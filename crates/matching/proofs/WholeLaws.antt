@@ -237,7 +237,6 @@ marks-padded n k (c ∷ l) h low =
 
 -- what is still to be done from here gives the outcome
 pub record Running (sets : List ℕ) (count i : ℕ) (table owners queue : List ℕ) (e : ℕ) : Type 0 where
-  pub order : i ≤ count
   pub tables : Tables sets i table owners
   pub long : length queue ≡ 96
   pub small : e ≤ i * 96
@@ -246,7 +245,6 @@ pub record Running (sets : List ℕ) (count i : ℕ) (table owners queue : List 
 pub running-begin : (sets : List ℕ) (count : ℕ) → Running sets count 0 (replicate 96 0) (replicate 64 0) (replicate 96 0) 0
 unfolding owner
 running-begin sets count = record {
-  order = omega arith;
   tables = record {
     room = omega arith;
     held = sym (padded-none 96 0);
@@ -287,7 +285,6 @@ module _ (sets : List ℕ) (count i : ℕ) (table owners queue : List ℕ) (e : 
         let k : i + 1 ≡ length n = omega (arith, P .1, m-long) in
         let h : take (i + 1) table′ ≡ n = rw (t, k) (take-padded 96 0 n) in
         record {
-          order = omega arith;
           tables = record { room = omega (arith, K .few); held = t ∙ ap (padded 96 0) (sym h); owned = o ∙ ap owners-of (sym h); partial = rw h (P .0) };
           long = A .long;
           small = omega (arith, R .small, head-le, K .few);
