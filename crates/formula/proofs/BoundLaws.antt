@@ -6,6 +6,7 @@ use mathlib.Core.Path.{_≡_, refl}
 use native.Mathlib.Omega.{arith}
 use lib.Dec.{ltb}
 use lib.ListN.{length}
+use Rattle.limits.specs.Limits.{max-variables, max-clauses}
 use Rattle.formula.specs.Format.{names}
 use Rattle.formula.specs.Decode.{Decoding, Kind, variable-count, literal, clause-end, formula-end, unknown, kind-of, known, allowed, one-to, Reading, Step, next, stop, after-kind, read-record, records}
 use Rattle.formula.proofs.DecodeLaws.{gives-next}
@@ -22,10 +23,10 @@ by-test false p q = q
 module _ (len : ℕ) (r : Reading) where
   kind-shorter : (b : ℕ) (k : Kind) (s : List ℕ) → Shorter (b ∷ s) (after-kind len r k s)
   kind-shorter b variable-count [] = stops
-  kind-shorter b variable-count (n ∷ s) = by-test (one-to 48 n) (fewer (omega arith)) stops
+  kind-shorter b variable-count (n ∷ s) = by-test (one-to max-variables n) (fewer (omega arith)) stops
   kind-shorter b (literal sign) [] = stops
   kind-shorter b (literal sign) (v ∷ s) = by-test (one-to (r .variables) v) (by-test (names (r .current) _) stops (fewer (omega arith))) stops
-  kind-shorter b clause-end s = by-test (ltb (length (r .ended)) 96) (fewer (omega arith)) stops
+  kind-shorter b clause-end s = by-test (ltb (length (r .ended)) max-clauses) (fewer (omega arith)) stops
   kind-shorter b formula-end [] = stops
   kind-shorter b formula-end (x ∷ s) = stops
   kind-shorter b unknown s = stops

@@ -1,10 +1,13 @@
 // Encoded formulas: the reader, its refusals, and the act check.
+use limits::MAX_CLAUSES;
+use limits::MAX_VARIABLES;
 ghost use mathlib.Core.Path.{_≡_};
 ghost use mathlib.Core.Bool.{false};
 ghost use Prim.Native.Nat.{_+_, _<_, _≤_, _^_};
 ghost use lib.Dec.{eqb};
 ghost use lib.ListN.{length, getD};
 ghost use mathlib.Core.List.{[]};
+ghost use Rattle.limits.specs.Limits.{max-variables, max-clauses};
 ghost use Rattle.formula.specs.Check.{values, checked};
 ghost use Rattle.formula.specs.InnerCheck.{clause-holds, clauses-hold};
 ghost use Rattle.formula.specs.Masked.{no-clause, with-literal, formula-of, held, decoded};
@@ -22,7 +25,7 @@ pub struct Clause {
 pub struct Formula {
     pub variables: usize,
     pub count: usize,
-    pub clauses: [Clause; 96],
+    pub clauses: [Clause; MAX_CLAUSES],
 }
 
 // The refusals of 01's table, in its order; each holds its place.
@@ -93,13 +96,13 @@ fn empty_clause() -> Clause
     }
 }
 
-fn no_clauses() -> [Clause; 96]
+fn no_clauses() -> [Clause; MAX_CLAUSES]
     ensures { λ r. ⌜ r ≡ formula-of 0 [] .clauses ⌝ }
 {
     [Clause {
         positive: 0,
         negative: 0,
-    }; 96]
+    }; MAX_CLAUSES]
 }
 
 // The clause that names v as well.
@@ -136,7 +139,7 @@ fn read_count(input: &[u8], r: Reader) -> Event
     if n == 0 {
         return Event::Stopped(Refusal::BadVariableCount(at));
     }
-    if 48 < n {
+    if MAX_VARIABLES < wide(n) {
         return Event::Stopped(Refusal::BadVariableCount(at));
     }
     let current = r.current;
@@ -167,7 +170,7 @@ fn read_variable(r: Reader, v: usize, sign: bool) -> Event
 
 // Kinds 2 and 3.
 fn read_literal(input: &[u8], r: Reader, sign: bool) -> Event
-    requires { ⌜ (r .at < length (now input)) × (r .variables ≤ 48) ⌝ }
+    requires { ⌜ (r .at < length (now input)) × (r .variables ≤ max-variables) ⌝ }
     ensures { λ e. ⌜ e ≡ literal-event (now (input .entry)) r sign ⌝ }
 {
     let at = r.at;
@@ -196,7 +199,7 @@ fn read_end(r: Reader) -> Event
     if at == 0 {
         return Event::Stopped(Refusal::Misplaced(at));
     }
-    if 96 <= r.count {
+    if MAX_CLAUSES <= r.count {
         return Event::Stopped(Refusal::TooManyClauses(at));
     }
     Event::Next(Reader {
@@ -228,7 +231,7 @@ fn read_finish(input: &[u8], r: Reader) -> Event
 
 // One record.
 fn read_record(input: &[u8], r: Reader) -> Event
-    requires { ⌜ r .variables ≤ 48 ⌝ }
+    requires { ⌜ r .variables ≤ max-variables ⌝ }
     ensures { λ e. ⌜ e ≡ record-event (now (input .entry)) r ⌝ }
 {
     let at = r.at;
@@ -248,7 +251,7 @@ fn read_record(input: &[u8], r: Reader) -> Event
 
 // The record is a literal that can be read.
 fn is_literal(input: &[u8], r: Reader) -> bool
-    requires { ⌜ (r .at ≤ length (now input)) × (r .variables ≤ 48) ⌝ }
+    requires { ⌜ (r .at ≤ length (now input)) × (r .variables ≤ max-variables) ⌝ }
     ensures { λ x. ⌜ x ≡ literal-stands (now (input .entry)) r ⌝ }
 {
     let at = r.at;
@@ -288,7 +291,7 @@ fn is_positive(kind: u8) -> bool
 
 // A literal that can be read is read.
 fn take_literal(input: &[u8], r: Reader) -> Reader
-    requires { ⌜ (r .at + 1 < length (now input)) × (1 ≤ getD (now input) (r .at + 1) 0) × (getD (now input) (r .at + 1) 0 ≤ 48) ⌝ }
+    requires { ⌜ (r .at + 1 < length (now input)) × (1 ≤ getD (now input) (r .at + 1) 0) × (getD (now input) (r .at + 1) 0 ≤ max-variables) ⌝ }
     ensures { λ x. ⌜ x ≡ literal-read (now (input .entry)) r ⌝ }
 {
     let at = r.at;
@@ -303,7 +306,7 @@ fn take_literal(input: &[u8], r: Reader) -> Reader
 
 // Literals are read, as many as can be: most records are such, and this way no event is made of them.
 fn read_literals(input: &[u8], r: Reader) -> Reader
-    requires { ⌜ (r .at ≤ length (now input)) × (r .variables ≤ 48) ⌝ }
+    requires { ⌜ (r .at ≤ length (now input)) × (r .variables ≤ max-variables) ⌝ }
     ensures { λ x. ⌜ Passes (now (input .entry)) r x ⌝ }
     ensures { λ x. ⌜ literal-stands (now (input .entry)) x ≡ false ⌝ }
 {
@@ -418,7 +421,7 @@ fn holds(c: Clause, assignment: u64) -> bool
 
 // Every clause of the formula holds.
 pub fn all_hold(f: Formula, assignment: u64) -> bool
-    requires { ⌜ f .count ≤ 96 ⌝ }
+    requires { ⌜ f .count ≤ max-clauses ⌝ }
     ensures { λ r. ⌜ r ≡ clauses-hold assignment (f .clauses) (f .count) ⌝ }
 {
     let mut i: usize = 0;

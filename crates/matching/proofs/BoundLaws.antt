@@ -11,7 +11,7 @@ use lib.Dec.{eqb}
 use borrow.Author.Tests.{eqb-true, eqb-false}
 use Rattle.lists.proofs.TestLaws.{look}
 use Rattle.matching.specs.Matched.{Matches, Words}
-use Rattle.matching.specs.Search.{owner, Search, begin, expand, search-from, bound, rematch-from, rematch, next-search}
+use Rattle.matching.specs.Search.{owner, Search, begin, expand, search-from, search-bound, rematch-from, rematch, next-search}
 use Rattle.matching.specs.Inner.{Partial}
 use Rattle.matching.proofs.Counting.{lt-or-le}
 use Rattle.matching.proofs.Augmenting.{rematch-partial}
@@ -62,9 +62,9 @@ module _ (sets m : List ℕ) (W : Words sets) (l : length m < length sets) (M : 
   pub next-ends : (next-search sets m .free < 64) ⊎ (next-search sets m .taken ≡ length (next-search sets m .queue))
   next-ends = ⊎-elim (λ (S : Stuck sets m so-far (next-search sets m)). inr (S .all-taken)) (λ R. inl (R .0)) (search-next sets m so-far W .0)
 
-  pub next-larger : (k : ℕ) → bound ≤ k → search-from k sets (owner m) (begin (length m)) ≡ next-search sets m
+  pub next-larger : (k : ℕ) → search-bound ≤ k → search-from k sets (owner m) (begin (length m)) ≡ next-search sets m
   next-larger k h =
-      search-larger bound k sets (owner m) (begin (length m)) h
+      search-larger search-bound k sets (owner m) (begin (length m)) h
       (⊎-elim (λ (a : next-search sets m .free < 64). inl (omega arith)) (λ e. inr (omega arith)) next-ends)
 
   -- after a search that found an unmatched variable
@@ -75,12 +75,12 @@ module _ (sets m : List ℕ) (W : Words sets) (l : length m < length sets) (M : 
     pub rematch-matches : Matches (take (suc (length m)) sets) (rematch (next-search sets m .links) m (next-search sets m .free))
     rematch-matches =
         let s = next-search sets m in
-        let P = rematch-partial sets (s .links) bound m (s .free) so-far (found .1 .0) (found .1 .1) in
+        let P = rematch-partial sets (s .links) search-bound m (s .free) so-far (found .1 .0) (found .1 .1) in
         rw (← P .1) (matches-of sets (rematch (s .links) m (s .free)) (omega (arith, P .1)) (P .0))
 
-    pub rematch-larger : (k : ℕ) → bound ≤ k → rematch-from k (next-search sets m .links) m (next-search sets m .free) ≡ rematch (next-search sets m .links) m (next-search sets m .free)
+    pub rematch-larger : (k : ℕ) → search-bound ≤ k → rematch-from k (next-search sets m .links) m (next-search sets m .free) ≡ rematch (next-search sets m .links) m (next-search sets m .free)
     rematch-larger k h =
         let s = next-search sets m in
         let P = found .1 .0 in
         let a = found .1 .1 in
-        rematch-same k bound (s .links) m (s .free) (path-distance sets (s .links) m (s .free) P k (omega arith)) (path-distance sets (s .links) m (s .free) P bound a)
+        rematch-same k search-bound (s .links) m (s .free) (path-distance sets (s .links) m (s .free) P k (omega arith)) (path-distance sets (s .links) m (s .free) P search-bound a)
