@@ -15,7 +15,8 @@ use Rattle.matching.specs.Search.{owner, Search, begin, expand, search-f
 use Rattle.matching.specs.Inner.{Partial}
 use Rattle.matching.proofs.Counting.{lt-or-le}
 use Rattle.matching.proofs.Augmenting.{rematch-partial}
-use Rattle.matching.proofs.SearchLaws.{search-on, search-found, search-empty, Stuck, Reached, search-next}
+use Rattle.matching.proofs.StepLaws.{search-on, search-found, search-empty}
+use Rattle.matching.proofs.SearchLaws.{Stuck, Reached, search-next}
 use Rattle.matching.proofs.RematchLaws.{rematch-same, path-distance}
 use Rattle.matching.proofs.OutcomeLaws.{partial-of}
 
@@ -60,7 +61,7 @@ module _ (sets m : List ℕ) (W : Words sets) (l : length m < length sets) (M : 
   so-far = partial-of sets m (omega arith) M
 
   pub next-ends : (next-search sets m .free < 64) ⊎ (next-search sets m .taken ≡ length (next-search sets m .queue))
-  next-ends = ⊎-elim (λ (S : Stuck sets m so-far (next-search sets m)). inr (S .all-taken)) (λ R. inl (R .0)) (search-next sets m so-far W .0)
+  next-ends = ⊎-elim (λ (S : Stuck sets m (next-search sets m)). inr (S .all-taken)) (λ R. inl (R .0)) (search-next sets m W .0)
 
   pub next-larger : (k : ℕ) → search-bound ≤ k → search-from k sets (owner m) (begin (length m)) ≡ next-search sets m
   next-larger k h =
@@ -69,8 +70,8 @@ module _ (sets m : List ℕ) (W : Words sets) (l : length m < length sets) (M : 
 
   -- after a search that found an unmatched variable
   module _ (f : next-search sets m .free < 64) where
-    found : Reached sets m so-far (next-search sets m)
-    found = ⊎-elim (λ S. absurd (omega (arith, S .none))) (λ R. R) (search-next sets m so-far W .0)
+    found : Reached sets m (next-search sets m)
+    found = ⊎-elim (λ S. absurd (omega (arith, S .none))) (λ R. R) (search-next sets m W .0)
 
     pub rematch-matches : Matches (take (suc (length m)) sets) (rematch (next-search sets m .links) m (next-search sets m .free))
     rematch-matches =

@@ -26,7 +26,8 @@ use Rattle.matching.specs.declared.Front.{Front}
 use Rattle.matching.proofs.Counting.{lt-or-le, zero-or-pos}
 use Rattle.matching.proofs.OwnerLaws.{zero-or-suc, owner-le, free-owner}
 use Rattle.matching.proofs.Augmenting.{snoc-cases, rematch-partial}
-use Rattle.matching.proofs.SearchLaws.{see-free, see-matched, scan-none, scan-old, scan-new, scan-stop, search-on, search-found, search-empty, Stuck, Reached, Ended, search-next, word-all}
+use Rattle.matching.proofs.StepLaws.{see-free, see-matched, scan-none, scan-old, scan-new, scan-stop, search-on, search-found, search-empty}
+use Rattle.matching.proofs.SearchLaws.{Stuck, Reached, Ended, search-next, word-all}
 use Rattle.matching.proofs.OutcomeLaws.{match-none, match-fails, match-on}
 use Rattle.matching.proofs.FrontLaws.{sound-tail}
 use Rattle.matching.proofs.RematchLaws.{path-distance, owners-fun, augments-of}
@@ -149,8 +150,8 @@ module _ (sets : List ℕ) (n : ℕ) (table owners : List ℕ) (T : Tables sets 
       ap (λ (f : ℕ → ℕ). search-from search-bound sets f (begin n)) owners-at
       ∙ ap (λ (k : ℕ). search-from search-bound sets (owner (take n table)) (begin k)) (sym (table-long .1))
 
-  pub next-ended : Ended sets (take n table) (T .partial) (next-search sets (take n table))
-  next-ended = search-next sets (take n table) (T .partial) W
+  pub next-ended : Ended sets (take n table) (next-search sets (take n table))
+  next-ended = search-next sets (take n table) W
 
   module _ (front : Front) (queue links : List ℕ) (e : search-of front queue links ≡ next-search sets (take n table)) where
     free-is : front .free ≡ next-search sets (take n table) .free
@@ -163,7 +164,7 @@ module _ (sets : List ℕ) (n : ℕ) (table owners : List ℕ) (T : Tables sets 
     pub path-ready : n < max-clauses → (front .free ≡ 64 → ⊥) → Augments n table owners links (front .free)
     path-ready l ne =
         let s = next-search sets (take n table) in
-        let R : Reached sets (take n table) (T .partial) s = ⊎-elim (λ S. absurd (ne (free-is ∙ S .none))) (λ R. R) (next-ended .0) in
+        let R : Reached sets (take n table) s = ⊎-elim (λ S. absurd (ne (free-is ∙ S .none))) (λ R. R) (next-ended .0) in
         let owner-none : at owners (s .free) ≡ 0 = ap (λ (f : ℕ → ℕ). f (s .free)) owners-at ∙ free-owner (take n table) (s .free) (R .1 .0 .free) in
         rw (free-is, links-are)
         (augments-of n table owners (s .links) (s .free) (take n table) refl l (T .held) variables-low
@@ -195,7 +196,7 @@ module _ (sets : List ℕ) (n : ℕ) (table owners : List ℕ) (T : Tables sets 
     augmented-none z S =
         let s = next-search sets (take n table) in
         let f : eqb (s .free) 64 ≡ true = eq-eqb (s .free) 64 (sym free-is ∙ z) in
-        let stuck : Stuck sets (take n table) (T .partial) s = ⊎-elim (λ S. S) (λ R. absurd (omega (arith, R .0, free-is))) (next-ended .0) in
+        let stuck : Stuck sets (take n table) s = ⊎-elim (λ S. S) (λ R. absurd (omega (arith, R .0, free-is))) (next-ended .0) in
         let q : take (front .tail) queue ≡ s .queue = ap (λ (s : Search). s .queue) e in
         let h : front .head ≡ s .taken = ap (λ (s : Search). s .taken) e in
         let t : length (take (front .tail) queue) ≡ front .tail = length-take-le (front .tail) queue (omega (arith, S .long, sound-tail front queue S)) in
@@ -277,7 +278,7 @@ module _ (sets : List ℕ) (count i : ℕ) (table owners queue : List ℕ) (e : 
         let m = take i table in
         let s = next-search sets m in
         let E = next-ended sets i table owners T (K .words) in
-        let F : Reached sets m (T .partial) s = ⊎-elim (λ S. absurd (ne (A .free ∙ S .none))) (λ F. F) (E .0) in
+        let F : Reached sets m s = ⊎-elim (λ S. absurd (ne (A .free ∙ S .none))) (λ F. F) (E .0) in
         let n = rematch-from search-bound (s .links) m (s .free) in
         let P = rematch-partial sets (s .links) search-bound m (s .free) (T .partial) (F .1 .0) (F .1 .1) in
         let f : eqb (s .free) 64 ≡ false = ne-eqb (s .free) 64 (λ q. ne (A .free ∙ q)) in
@@ -294,7 +295,7 @@ module _ (sets : List ℕ) (count i : ℕ) (table owners queue : List ℕ) (e : 
 
     -- the search failed
     module _ (z : front .free ≡ 64) where
-      stuck : Stuck sets (take i table) (R .tables .partial) (next-search sets (take i table))
+      stuck : Stuck sets (take i table) (next-search sets (take i table))
       stuck = ⊎-elim (λ S. S) (λ F. absurd (omega (arith, F .0, A .free))) (next-ended sets i table owners (R .tables) (K .words) .0)
 
       taken-is : take (front .head) queue′ ≡ next-search sets (take i table) .queue
