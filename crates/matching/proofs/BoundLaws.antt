@@ -18,7 +18,6 @@ use Rattle.matching.proofs.Augmenting.{rematch-partial}
 use Rattle.matching.proofs.StepLaws.{search-on, search-found, search-empty}
 use Rattle.matching.proofs.SearchLaws.{Stuck, Reached, search-next}
 use Rattle.matching.proofs.RematchLaws.{rematch-same, path-distance}
-use Rattle.matching.proofs.OutcomeLaws.{partial-of}
 
 -- an augmenting path is found or the queue is empty
 abbrev pub Stopped : Search → Type 0
@@ -47,6 +46,15 @@ search-larger (suc k) (suc n) sets own s l d =
     stopped-stays (suc n) sets own s (inl ne) ∙ sym (stopped-stays (suc k) sets own s (inl ne)))
     (look (eqb (s .free) 64))
 
+-- a matching of the first clauses, with their number and without
+partial-of : (sets m : List ℕ) → length m ≤ length sets → Matches (take (length m) sets) m → Partial sets m
+partial-of sets m l M =
+    let e = length-take-le (length m) sets l in
+    record {
+      named = λ i h. rw (getD-take (length m) sets i 0 h) at (M .named i (omega arith));
+      distinct = λ i j h k. M .distinct i j (omega arith) (omega arith);
+    }
+
 matches-of : (sets m : List ℕ) → length m ≤ length sets → Partial sets m → Matches (take (length m) sets) m
 matches-of sets m l M =
     let e = length-take-le (length m) sets l in
@@ -56,10 +64,7 @@ matches-of sets m l M =
       distinct = λ i j h k. M .distinct i j (omega arith) (omega arith);
     }
 
-module _ (sets m : List ℕ) (W : Words sets) (l : length m < length sets) (M : Matches (take (length m) sets) m) where
-  so-far : Partial sets m
-  so-far = partial-of sets m (omega arith) M
-
+module _ (sets m : List ℕ) (W : Words sets) where
   pub next-ends : (next-search sets m .free < 64) ⊎ (next-search sets m .taken ≡ length (next-search sets m .queue))
   next-ends = ⊎-elim (λ (S : Stuck sets m (next-search sets m)). inr (S .all-taken)) (λ R. inl (R .0)) (search-next sets m W .0)
 
@@ -73,15 +78,16 @@ module _ (sets m : List ℕ) (W : Words sets) (l : length m < length sets) (M : 
     found : Reached sets m (next-search sets m)
     found = ⊎-elim (λ S. absurd (omega (arith, S .none))) (λ R. R) (search-next sets m W .0)
 
-    pub rematch-matches : Matches (take (suc (length m)) sets) (rematch (next-search sets m .links) m (next-search sets m .free))
-    rematch-matches =
-        let s = next-search sets m in
-        let P = rematch-partial sets (s .links) search-bound m (s .free) so-far (found .1 .0) (found .1 .1) in
-        rw (← P .1) (matches-of sets (rematch (s .links) m (s .free)) (omega (arith, P .1)) (P .0))
-
     pub rematch-larger : (k : ℕ) → search-bound ≤ k → rematch-from k (next-search sets m .links) m (next-search sets m .free) ≡ rematch (next-search sets m .links) m (next-search sets m .free)
     rematch-larger k h =
         let s = next-search sets m in
         let P = found .1 .0 in
         let a = found .1 .1 in
         rematch-same k search-bound (s .links) m (s .free) (path-distance sets (s .links) m (s .free) P k (omega arith)) (path-distance sets (s .links) m (s .free) P search-bound a)
+
+    pub rematch-matches : length m < length sets → Matches (take (length m) sets) m
+        → Matches (take (suc (length m)) sets) (rematch (next-search sets m .links) m (next-search sets m .free))
+    rematch-matches l M =
+        let s = next-search sets m in
+        let P = rematch-partial sets (s .links) search-bound m (s .free) (partial-of sets m (omega arith) M) (found .1 .0) (found .1 .1) in
+        rw (← P .1) (matches-of sets (rematch (s .links) m (s .free)) (omega (arith, P .1)) (P .0))
