@@ -6,10 +6,9 @@ ghost use mathlib.Core.Bool.{false};
 ghost use Prim.Native.Nat.{ℕ, _<_, _≤_};
 ghost use lib.ListN.{length, take};
 ghost use Rattle.limits.specs.Limits.{max-clauses};
-ghost use Rattle.lists.specs.Padded.{padded};
 ghost use Rattle.masks.specs.Mask.{bit, members};
 ghost use Rattle.matching.specs.Search.{see, scan, expand, search-from, begin, rematch, search-bound, no-links, outcome, marks};
-ghost use Rattle.matching.specs.Inner.{at, search-of, Sound, Owned, Apart, owners-of, Augments, Tables, Augmented};
+ghost use Rattle.matching.specs.Inner.{at, search-of, Sound, Holds, Owned, Apart, Augments, Tables, Stored, Augmented};
 ghost use Rattle.matching.specs.Result.{Clauses, packed};
 ghost use Rattle.matching.specs.Matched.{Words};
 
@@ -41,8 +40,7 @@ fn see(
     links: &mut [u8; 64],
 ) -> Front
     requires { ⌜ Sound front (now queue) × Owned (now owners) × (v < 64) × (bit (front .seen) v ≡ false) ⌝ }
-    ensures { λ r. ⌜ search-of r (now (queue .exit)) (now (links .exit)) ≡ see (at (now (owners .entry))) clause v (search-of front (now (queue .entry)) (now (links .entry))) ⌝ }
-    ensures { λ r. ⌜ Sound r (now (queue .exit)) ⌝ }
+    ensures { λ r. ⌜ Holds (see (at (now (owners .entry))) clause v (search-of front (now (queue .entry)) (now (links .entry)))) r (now (queue .exit)) (now (links .exit)) ⌝ }
 {
     links[v] = clause;
     let seen = masks::with(front.seen, v);
@@ -75,8 +73,7 @@ fn scan(
     links: &mut [u8; 64],
 ) -> Front
     requires { ⌜ Sound front (now queue) × Owned (now owners) × (front .free ≡ 64) × Apart unseen (front .seen) ⌝ }
-    ensures { λ r. ⌜ search-of r (now (queue .exit)) (now (links .exit)) ≡ scan (at (now (owners .entry))) clause (members unseen 64) (search-of front (now (queue .entry)) (now (links .entry))) ⌝ }
-    ensures { λ r. ⌜ Sound r (now (queue .exit)) ⌝ }
+    ensures { λ r. ⌜ Holds (scan (at (now (owners .entry))) clause (members unseen 64) (search-of front (now (queue .entry)) (now (links .entry)))) r (now (queue .exit)) (now (links .exit)) ⌝ }
 {
     let mut state = front;
     let mut rest = unseen;
@@ -107,8 +104,7 @@ fn expand(
     links: &mut [u8; 64],
 ) -> Front
     requires { ⌜ Sound front (now queue) × Owned (now owners) × (front .free ≡ 64) × (front .head < front .tail) ⌝ }
-    ensures { λ r. ⌜ search-of r (now (queue .exit)) (now (links .exit)) ≡ expand (now (sets .entry)) (at (now (owners .entry))) (search-of front (now (queue .entry)) (now (links .entry))) ⌝ }
-    ensures { λ r. ⌜ Sound r (now (queue .exit)) ⌝ }
+    ensures { λ r. ⌜ Holds (expand (now (sets .entry)) (at (now (owners .entry))) (search-of front (now (queue .entry)) (now (links .entry)))) r (now (queue .exit)) (now (links .exit)) ⌝ }
 {
     let head = front.head;
     let clause = queue[head];
@@ -138,8 +134,7 @@ fn find_path(
     links: &mut [u8; 64],
 ) -> Front
     requires { ⌜ (length (now queue) ≡ max-clauses) × Owned (now owners) × (clause < max-clauses) × (now links ≡ no-links) ⌝ }
-    ensures { λ r. ⌜ search-of r (now (queue .exit)) (now (links .exit)) ≡ search-from search-bound (now (sets .entry)) (at (now (owners .entry))) (begin clause) ⌝ }
-    ensures { λ r. ⌜ Sound r (now (queue .exit)) ⌝ }
+    ensures { λ r. ⌜ Holds (search-from search-bound (now (sets .entry)) (at (now (owners .entry))) (begin clause)) r (now (queue .exit)) (now (links .exit)) ⌝ }
 {
     queue[0] = clause;
     let mut front = Front {
@@ -166,8 +161,7 @@ fn rematch(
     v: usize,
 )
     requires { ⌜ Augments clause (now table) (now owners) (now links) v ⌝ }
-    ensures { λ _. ⌜ now (table .exit) ≡ padded max-clauses 0 (rematch (now (links .entry)) (take clause (now (table .entry))) v) ⌝ }
-    ensures { λ _. ⌜ now (owners .exit) ≡ owners-of (rematch (now (links .entry)) (take clause (now (table .entry))) v) ⌝ }
+    ensures { λ _. ⌜ Stored (rematch (now (links .entry)) (take clause (now (table .entry))) v) (now (table .exit)) (now (owners .exit)) ⌝ }
 {
     let c = wide(links[v]);
     let old = wide(table[c]);
