@@ -1,6 +1,6 @@
 -- What the reader's functions compute over masks, record by record; proofs/ReaderLaws.antt ties it to Decode.
 use Prim.Native.Nat.{ℕ, _+_, _-_, _≤_}
-use mathlib.Core.Bool.{Bool, not, cond, _&&_, _||_}
+use mathlib.Core.Bool.{Bool, false, not, cond, _&&_, _||_}
 use mathlib.Core.List.{List, map}
 use mathlib.Core.Path.{_≡_}
 use lib.Dec.{eqb, ltb}
@@ -113,3 +113,8 @@ pub record Passes (s : List ℕ) (r x : Reader) : Type 0 where
   pub forward : r .at ≤ x .at
   pub inside : x .at ≤ length s
   pub small : x .variables ≤ max-variables
+
+-- from r to x by literals, as many as can be read
+pub record PassesLiterals (s : List ℕ) (r x : Reader) : Type 0 where
+  pub passes : Passes s r x
+  pub last : literal-stands s x ≡ false

@@ -2,7 +2,6 @@
 use limits::MAX_CLAUSES;
 use limits::MAX_VARIABLES;
 ghost use mathlib.Core.Path.{_≡_};
-ghost use mathlib.Core.Bool.{false};
 ghost use Prim.Native.Nat.{_+_, _<_, _≤_, _^_};
 ghost use lib.Dec.{eqb};
 ghost use lib.ListN.{length, getD};
@@ -13,7 +12,7 @@ ghost use Rattle.formula.specs.InnerCheck.{clause-holds, clauses-hold};
 ghost use Rattle.formula.specs.Masked.{no-clause, with-literal, formula-of, held, decoded};
 ghost use Rattle.formula.specs.Decode.{refused};
 ghost use Rattle.formula.specs.Refusals.{listing};
-ghost use Rattle.formula.specs.InnerReader.{count-event, variable-event, literal-event, end-event, finish-event, literal-stands, literal-read, record-event, Passes};
+ghost use Rattle.formula.specs.InnerReader.{count-event, variable-event, literal-event, end-event, finish-event, literal-stands, literal-read, record-event, PassesLiterals};
 
 // A clause (01: rule): the variables that it names as true (01: on) and those that it names as false.
 pub struct Clause {
@@ -307,8 +306,7 @@ fn take_literal(input: &[u8], r: Reader) -> Reader
 // Literals are read, as many as can be: most records are such, and this way no event is made of them.
 fn read_literals(input: &[u8], r: Reader) -> Reader
     requires { ⌜ (r .at ≤ length (now input)) × (r .variables ≤ max-variables) ⌝ }
-    ensures { λ x. ⌜ Passes (now (input .entry)) r x ⌝ }
-    ensures { λ x. ⌜ literal-stands (now (input .entry)) x ≡ false ⌝ }
+    ensures { λ x. ⌜ PassesLiterals (now (input .entry)) r x ⌝ }
 {
     let mut reader = r;
     while is_literal(input, reader) {
