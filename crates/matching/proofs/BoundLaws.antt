@@ -17,7 +17,7 @@ use Rattle.matching.proofs.Counting.{lt-or-le}
 use Rattle.matching.proofs.Augmenting.{rematch-partial}
 use Rattle.matching.proofs.StepLaws.{search-on, search-found, search-empty}
 use Rattle.matching.proofs.SearchLaws.{Stuck, Reached, search-next}
-use Rattle.matching.proofs.RematchLaws.{rematch-same, path-distance}
+use Rattle.matching.proofs.DistanceLaws.{rematch-same, path-distance}
 
 -- an augmenting path is found or the queue is empty
 abbrev pub Stopped : Search → Type 0
