@@ -11,6 +11,7 @@ use lib.Bits.{bitAnd}
 use lib.Dec.{eqb}
 use lib.ListN.{length, length-map, getD}
 use borrow.Author.Tests.{eqb-true}
+use Rattle.limits.specs.Limits.{max-clauses}
 use Rattle.lists.specs.Padded.{padded}
 use Rattle.lists.proofs.PaddedLaws.{getD-padded}
 use Rattle.lists.proofs.TestLaws.{and-left, and-right, and-both, or-cases, or-swap}
@@ -119,10 +120,10 @@ clauses-hold-map a [] = refl
 clauses-hold-map a (c ∷ cs) = clauses-hold-cons a (clause-of c) (map clause-of cs) (length cs) ∙ rw (clause-holds-of a c, clauses-hold-map a cs)
 
 -- the clauses of a formula hold exactly if it is satisfied
-pub clauses-hold-of : (a : ℕ) (cs : List (List Literal)) → clauses-hold a (padded 96 no-clause (map clause-of cs)) (length cs) ≡ satisfied a cs
+pub clauses-hold-of : (a : ℕ) (cs : List (List Literal)) → clauses-hold a (padded max-clauses no-clause (map clause-of cs)) (length cs) ≡ satisfied a cs
 clauses-hold-of a cs =
     let m : length cs ≤ length (map clause-of cs) = omega (arith, length-map cs clause-of) in
-    clauses-hold-padded a 96 (map clause-of cs) (length cs) m ∙ clauses-hold-map a cs
+    clauses-hold-padded a max-clauses (map clause-of cs) (length cs) m ∙ clauses-hold-map a cs
 
 -- ---- check
 

@@ -7,6 +7,7 @@ use native.Mathlib.Omega.{arith}
 use borrow.Author.Tests.{lt-ltb, le-leb}
 use lib.ListN.{length, length-append}
 use lib.Seq.{append-snoc}
+use Rattle.limits.specs.Limits.{max-variables, max-clauses}
 use Rattle.lists.specs.Every.{Every}
 use Rattle.formula.specs.Format.{Literal, literal-kind, literal-bytes, literals-bytes, clause-bytes, clauses-bytes, names, distinct, ClauseOver}
 use Rattle.formula.specs.Decode.{Decoding, readable, Reading, start, next, stop, read-record, records, decode}
@@ -39,13 +40,13 @@ read-literal len r v false s h k f =
 -- the reader takes a record of the grammar, and stands after the next beginning
 extends-read : {b b′ : Beginning} {x : List ℕ} (len : ℕ) (s : List ℕ) → Extends b x b′ → read-record len (reading-of b) (x ++ s) ≡ next (reading-of b′) s
 unfolding read-record literal-bytes clauses-bytes literals-bytes
-extends-read len s (count n h k) = rw (lt-ltb 0 n h, le-leb n 48 k)
+extends-read len s (count n h k) = rw (lt-ltb 0 n h, le-leb n max-variables k)
 extends-read len s (literal {n} {cs} {c} l h k) =
     let x : Extends (inside n cs c) (literal-bytes l) (inside n cs (c ++ (l ∷ []))) = literal l h k in
     read-literal len (reading-of (inside n cs c)) (l .variable) (l .positive) s (omega arith) h k ∙ rw (extends-length x)
 extends-read len s (clause-end {n} {cs} {c} h) =
     let x : Extends (inside n cs c) (4 ∷ []) (inside n (cs ++ (c ∷ [])) []) = clause-end h in
-    rw (lt-ltb 0 (length (written (inside n cs c))) (omega arith), lt-ltb (length cs) 96 h, extends-length x)
+    rw (lt-ltb 0 (length (written (inside n cs c))) (omega arith), lt-ltb (length cs) max-clauses h, extends-length x)
 
 -- reading the bytes s from r on, in an input of len bytes, gives d
 pub record Gives (len : ℕ) (r : Reading) (s : List ℕ) (d : Decoding) : Type 0 where
@@ -62,7 +63,7 @@ gives-stop {len} {r} {s} {d} e = record { runs = go s e }
     go t q (suc k) h = rw (q, records)
 
 -- a record that the reader takes gives what the bytes after it give
-gives-next : {len : ℕ} {r r′ : Reading} {s s′ : List ℕ} {d : Decoding} → read-record len r s ≡ next r′ s′ → length s′ < length s
+pub gives-next : {len : ℕ} {r r′ : Reading} {s s′ : List ℕ} {d : Decoding} → read-record len r s ≡ next r′ s′ → length s′ < length s
     → Gives len r′ s′ d → Gives len r s d
 unfolding records
 gives-next {len} {r} {r′} {s} {s′} {d} e l g = record { runs = go }
@@ -87,12 +88,12 @@ gives-literals {n = n} {cs = cs} c (l ∷ d) h o g =
     rw append-assoc (gives-record x (gives-literals (c ++ (l ∷ [])) d (h .1) (rw append-snoc o) (rw append-snoc g)))
 
 -- and so for whole clauses
-gives-clauses : {len n : ℕ} {s : List ℕ} {r : Decoding} (cs ds : List (List Literal)) → Every (ClauseOver n) ds → length (cs ++ ds) ≤ 96
+gives-clauses : {len n : ℕ} {s : List ℕ} {r : Decoding} (cs ds : List (List Literal)) → Every (ClauseOver n) ds → length (cs ++ ds) ≤ max-clauses
     → Gives len (reading-of (inside n (cs ++ ds) [])) s r → Gives len (reading-of (inside n cs [])) (clauses-bytes ds ++ s) r
 unfolding clauses-bytes clause-bytes
 gives-clauses cs [] h l g = rw append-nil at g
 gives-clauses {n = n} cs (c ∷ ds) h l g =
-    let m : length cs < 96 = omega (arith, length-append cs (c ∷ ds)) in
+    let m : length cs < max-clauses = omega (arith, length-append cs (c ∷ ds)) in
     let x : Extends (inside n cs c) (4 ∷ []) (inside n (cs ++ (c ∷ [])) []) = clause-end m in
     simp append-assoc
     (gives-literals [] c (h .0 .below) (h .0 .once) (gives-record x (gives-clauses (cs ++ (c ∷ [])) ds (h .1) (rw append-snoc l) (rw append-snoc g))))

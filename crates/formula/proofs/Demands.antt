@@ -4,18 +4,22 @@
 use Prim.Native.Nat.{ℕ, _≤_}
 use mathlib.Core.List.{List}
 use mathlib.Core.Logic.{_↔_}
-use mathlib.Core.Path.{_≡_, sym, ap, _∙_}
+use mathlib.Core.Path.{_≡_, refl, sym, ap, _∙_}
+use native.Mathlib.Omega.{arith}
 use lib.ListN.{length}
+use Rattle.limits.specs.Limits.{max-variables}
 use Rattle.formula.specs.declared.Refusal.{Refusal}
-use Rattle.formula.specs.Format.{Literal, formula-bytes, Encodes}
-use Rattle.formula.specs.Decode.{readable, refused, decode}
+use Rattle.formula.specs.Format.{Literal, formula-bytes, max-bytes, Encodes}
+use Rattle.formula.specs.Decode.{Decoding, Reading, next, stop, read-record, records, readable, refused, decode}
 use Rattle.formula.specs.Refusals.{listing}
 use Rattle.formula.specs.Table.{Refuses}
 use Rattle.formula.specs.declared.Refusal.the-variants.{StrayVariable}
 use Rattle.formula.specs.Check.{Answer, said-yes, said-no, refusal, checked}
 use Rattle.formula.specs.Masked.{formula-of, FormulaFits}
 use Rattle.formula.specs.Models.{ModelOf, NoModelOf, StrayOf}
+use Rattle.formula.proofs.BoundLaws.{records-same, records-on}
 use Rattle.formula.proofs.CheckLaws.{checked-refused}
+use Rattle.formula.proofs.DecodeLaws.{gives-stop}
 use Rattle.formula.proofs.LengthLaws.{formula-le, fullest, fullest-length, fullest-encoded}
 use Rattle.formula.proofs.MaskedLaws.{formula-fits}
 use Rattle.formula.proofs.OutcomeLaws.{decode-gives, decode-means}
@@ -38,13 +42,30 @@ refused-only s r e = rw e at (decode-means s)
 pub refused-all : (s : List ℕ) (r : Refusal) → Refuses s r → decode s ≡ refused r
 refused-all s r = decode-gives s (refused r)
 
--- 'the longest readable sheet has 9,315 bytes': none is longer
-pub longest : (s : List ℕ) (n : ℕ) (cs : List (List Literal)) → decode s ≡ readable n cs → length s ≤ 9315
+-- 'the longest readable sheet has 9,315 bytes'
+pub longest-is : max-bytes ≡ 9315
+longest-is = refl
+
+-- none is longer
+pub longest : (s : List ℕ) (n : ℕ) (cs : List (List Literal)) → decode s ≡ readable n cs → length s ≤ max-bytes
 longest s n cs e = formula-le (accepted-only s n cs e)
 
--- 'the longest readable sheet has 9,315 bytes': one has so many
-pub longest-exists : (s : List ℕ) × (cs : List (List Literal)) × (length s ≡ 9315) × (decode s ≡ readable 48 cs)
-longest-exists = (formula-bytes 48 fullest, fullest, fullest-length, accepted-all (formula-bytes 48 fullest) 48 fullest fullest-encoded)
+-- one has so many
+pub longest-exists : (s : List ℕ) × (cs : List (List Literal)) × (length s ≡ max-bytes) × (decode s ≡ readable max-variables cs)
+longest-exists = (formula-bytes max-variables fullest, fullest, fullest-length, accepted-all (formula-bytes max-variables fullest) max-variables fullest fullest-encoded)
+
+-- 'The refusal table', order, 'record by record from the front': the bound in the definition is never what stops it. Wherever
+-- reading stands and s is left, any larger bound gives the same,
+pub records-unbounded : (len : ℕ) (r : Reading) (s : List ℕ) (k : ℕ) → length s ≤ k → records k len r s ≡ records (length s) len r s
+records-unbounded len r s k h = records-same k (length s) len r s h (omega arith)
+
+-- a record after which reading goes on is followed by the next
+pub records-next : (len : ℕ) (r r′ : Reading) (s s′ : List ℕ) → read-record len r s ≡ next r′ s′ → records (length s) len r s ≡ records (length s′) len r′ s′
+records-next len r r′ s s′ e = records-on len r r′ s s′ e
+
+-- and one that stops it gives what it stops with
+pub records-stop : (len : ℕ) (r : Reading) (s : List ℕ) (d : Decoding) → read-record len r s ≡ stop d → records (length s) len r s ≡ d
+records-stop len r s d e = gives-stop e .runs (length s) (omega arith)
 
 -- 'The sheet': bytes encode one formula at most
 pub unique : (s : List ℕ) (n n′ : ℕ) (cs cs′ : List (List Literal)) → Encodes s n cs → Encodes s n′ cs′ → (n ≡ n′) × (cs ≡ cs′)

@@ -5,6 +5,7 @@ use mathlib.Core.List.{List, [], _∷_, _++_, append-assoc, append-nil}
 use mathlib.Core.Path.{_≡_, refl, ap, _∙_}
 use native.Mathlib.Omega.{arith}
 use lib.ListN.{length, length-append}
+use Rattle.limits.specs.Limits.{max-variables, max-clauses}
 use Rattle.formula.specs.Format.{Literal, literal-bytes, literals-bytes, clause-bytes, clauses-bytes, formula-bytes, names, distinct}
 use Rattle.formula.specs.Table.{Beginning, nothing, inside, written, Begins}
 use Rattle.formula.proofs.FormatLaws.{literals-append, clauses-append, clause-more, sized-more}
@@ -16,10 +17,10 @@ formula-written n cs = rw (append-nil (clauses-bytes cs))
 
 -- a record takes one beginning to the next: kind 1, a literal, or the end of a clause
 pub data Extends : Beginning → List ℕ → Beginning → Type 0 where
-  count : (n : ℕ) → 1 ≤ n → n ≤ 48 → Extends nothing (1 ∷ n ∷ []) (inside n [] [])
+  count : (n : ℕ) → 1 ≤ n → n ≤ max-variables → Extends nothing (1 ∷ n ∷ []) (inside n [] [])
   literal : {n : ℕ} {cs : List (List Literal)} {c : List Literal} (l : Literal) → l .variable < n → names c (l .variable) ≡ false
       → Extends (inside n cs c) (literal-bytes l) (inside n cs (c ++ (l ∷ [])))
-  clause-end : {n : ℕ} {cs : List (List Literal)} {c : List Literal} → length cs < 96 → Extends (inside n cs c) (4 ∷ []) (inside n (cs ++ (c ∷ [])) [])
+  clause-end : {n : ℕ} {cs : List (List Literal)} {c : List Literal} → length cs < max-clauses → Extends (inside n cs c) (4 ∷ []) (inside n (cs ++ (c ∷ [])) [])
 
 -- it leads from a beginning of the grammar to another
 pub extends-begins : {b b′ : Beginning} {x : List ℕ} → Extends b x b′ → Begins b → Begins b′

@@ -7,6 +7,7 @@ use native.Mathlib.Omega.{arith}
 use borrow.Author.Tests.{not-true}
 use lib.Dec.{eqb}
 use lib.ListN.{length, length-append}
+use Rattle.limits.specs.Limits.{max-clauses}
 use Rattle.lists.proofs.EveryLaws.{every-append}
 use Rattle.lists.proofs.TestLaws.{eqb-comm}
 use Rattle.formula.specs.Format.{Literal, literals-bytes, clauses-bytes, names, distinct, ClauseOver, Sized}
@@ -65,7 +66,7 @@ clause-more {n} {c} l o h k =
     record { below = every-append (λ m. m .variable < n) c (l ∷ []) (o .below) (h, tt); once = distinct-more c l (o .once) k }
 
 -- one more clause, where there are fewer than 96
-pub sized-more : {n : ℕ} {cs : List (List Literal)} {c : List Literal} → Sized n cs → ClauseOver n c → length cs < 96 → Sized n (cs ++ (c ∷ []))
+pub sized-more : {n : ℕ} {cs : List (List Literal)} {c : List Literal} → Sized n cs → ClauseOver n c → length cs < max-clauses → Sized n (cs ++ (c ∷ []))
 sized-more {n} {cs} {c} z o h =
     record {
       some = z .some;

@@ -6,12 +6,13 @@ use mathlib.Core.Path.{_≡_, refl, ap, _∙_}
 use native.Mathlib.Omega.{arith}
 use borrow.Author.Tests.{ne-eqb}
 use lib.ListN.{length, length-append, replicate, length-replicate}
+use Rattle.limits.specs.Limits.{max-variables, max-clauses}
 use Rattle.lists.specs.Every.{Every}
 use Rattle.lists.proofs.EveryLaws.{every-replicate}
 use Rattle.masks.specs.Mask.{members}
 use Rattle.masks.proofs.MembersLaws.{members-le}
 use Rattle.masks.proofs.SizeLaws.{with-count, size-none}
-use Rattle.formula.specs.Format.{Literal, literal-bytes, literals-bytes, clause-bytes, clauses-bytes, formula-bytes, names, distinct, ClauseOver, Encodes}
+use Rattle.formula.specs.Format.{Literal, literal-bytes, literals-bytes, clause-bytes, clauses-bytes, formula-bytes, names, distinct, ClauseOver, max-clause-bytes, max-bytes, Encodes}
 use Rattle.formula.specs.Masked.{variables}
 use Rattle.formula.proofs.ClauseLaws.{variables-bit}
 use Rattle.formula.proofs.FormatLaws.{distinct-rest}
@@ -44,15 +45,15 @@ pub formula-length : (n : ℕ) (cs : List (List Literal)) → length (formula-by
 unfolding formula-bytes
 formula-length n cs = omega (arith, length-append (clauses-bytes cs) (5 ∷ []))
 
--- a clause over 48 variables or fewer has 97 bytes at most
-pub clauses-le : (n : ℕ) (cs : List (List Literal)) → n ≤ 48 → Every (ClauseOver n) cs → length (clauses-bytes cs) ≤ 97 * length cs
+-- clauses over the most variables or fewer have so many bytes each at most
+pub clauses-le : (n : ℕ) (cs : List (List Literal)) → n ≤ max-variables → Every (ClauseOver n) cs → length (clauses-bytes cs) ≤ max-clause-bytes * length cs
 unfolding clauses-bytes
 clauses-le n [] h k = omega arith
 clauses-le n (c ∷ cs) h k =
     omega (arith, length-append (clause-bytes c) (clauses-bytes cs), clause-length c, clause-le (k .0), clauses-le n cs h (k .1))
 
--- an encoded formula has 9315 bytes at most
-pub formula-le : {s : List ℕ} {n : ℕ} {cs : List (List Literal)} → Encodes s n cs → length s ≤ 9315
+-- and an encoded formula so many
+pub formula-le : {s : List ℕ} {n : ℕ} {cs : List (List Literal)} → Encodes s n cs → length s ≤ max-bytes
 formula-le {s} {n} {cs} e =
     omega (arith, ap length (e .bytes), formula-length n cs, clauses-le n cs (e .sized .most) (e .sized .clauses), e .sized .few)
 
@@ -81,30 +82,30 @@ unfolding all-true distinct
 all-true-once zero = refl
 all-true-once (suc n) = rw (all-true-names n n (omega arith), all-true-once n)
 
--- 96 clauses that each name the 48 variables
+-- the most clauses, each of which names the most variables
 pub fullest : List (List Literal)
-fullest = replicate 96 (all-true 48)
+fullest = replicate max-clauses (all-true max-variables)
 
--- each has 97 bytes
-all-true-clauses : (k : ℕ) → length (clauses-bytes (replicate k (all-true 48))) ≡ 97 * k
+-- each has the most bytes
+all-true-clauses : (k : ℕ) → length (clauses-bytes (replicate k (all-true max-variables))) ≡ max-clause-bytes * k
 unfolding clauses-bytes
 all-true-clauses zero = refl
 all-true-clauses (suc k) =
     omega (
       arith,
-      length-append (clause-bytes (all-true 48)) (clauses-bytes (replicate k (all-true 48))),
-      clause-length (all-true 48),
-      all-true-length 48,
+      length-append (clause-bytes (all-true max-variables)) (clauses-bytes (replicate k (all-true max-variables))),
+      clause-length (all-true max-variables),
+      all-true-length max-variables,
       all-true-clauses k,
     )
 
--- they have 9315 bytes
-pub fullest-length : length (formula-bytes 48 fullest) ≡ 9315
+-- and so have they together
+pub fullest-length : length (formula-bytes max-variables fullest) ≡ max-bytes
 unfolding fullest
-fullest-length = omega (arith, formula-length 48 fullest, all-true-clauses 96)
+fullest-length = omega (arith, formula-length max-variables fullest, all-true-clauses max-clauses)
 
 -- and are a formula
-pub fullest-encoded : Encodes (formula-bytes 48 fullest) 48 fullest
+pub fullest-encoded : Encodes (formula-bytes max-variables fullest) max-variables fullest
 unfolding fullest
 fullest-encoded =
     record {
@@ -113,7 +114,7 @@ fullest-encoded =
           record {
             some = omega arith;
             most = omega arith;
-            few = omega (arith, length-replicate 96 (all-true 48));
-            clauses = every-replicate (ClauseOver 48) 96 (all-true 48) (record { below = all-true-below 48 48 (omega arith); once = all-true-once 48 });
+            few = omega (arith, length-replicate max-clauses (all-true max-variables));
+            clauses = every-replicate (ClauseOver max-variables) max-clauses (all-true max-variables) (record { below = all-true-below max-variables max-variables (omega arith); once = all-true-once max-variables });
           };
     }

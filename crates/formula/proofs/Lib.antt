@@ -1,6 +1,7 @@
 pub mod CheckLaws
 pub mod ClauseLaws
 pub mod DecodeLaws
+pub mod BoundLaws
 pub mod Demands
 pub mod ExtendsLaws
 pub mod FormatLaws

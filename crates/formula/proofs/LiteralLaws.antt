@@ -8,6 +8,7 @@ use native.Mathlib.Omega.{arith}
 use lib.Dec.{eqb, ltb}
 use lib.ListN.{length, getD}
 use borrow.Author.Tests.{eqb-true, ne-eqb, ltb-true, lt-ltb, not-true}
+use Rattle.limits.specs.Limits.{max-variables}
 use Rattle.lists.proofs.TestLaws.{and-left, and-right, or-cases}
 use Rattle.masks.specs.Mask.{bit}
 use Rattle.formula.specs.declared.Event.the-variants.{Next}
@@ -73,5 +74,5 @@ passes-more s r x p e =
       small = p .small;
     }
 
-pub passes-none : (s : List ℕ) (r : Reader) → r .at ≤ length s → r .variables ≤ 48 → Passes s r r
+pub passes-none : (s : List ℕ) (r : Reader) → r .at ≤ length s → r .variables ≤ max-variables → Passes s r r
 passes-none s r i m = record { reads = λ clauses w. w; forward = omega arith; inside = i; small = m }

@@ -4,6 +4,7 @@ use mathlib.Core.List.{List, [], map}
 use mathlib.Core.Path.{_≡_, refl, ap}
 use native.Mathlib.Omega.{arith}
 use lib.ListN.{length, length-map, List·getD-map}
+use Rattle.limits.specs.Limits.{max-clauses}
 use Rattle.lists.proofs.EveryLaws.{every-getD}
 use Rattle.lists.proofs.PaddedLaws.{getD-padded}
 use Rattle.formula.specs.declared.Decoded.{Decoded}
@@ -25,7 +26,7 @@ formula-fits {n} {cs} z = record {
   few = z .few;
   clauses = λ i l.
       let m : i < length (map clause-of cs) = rw (length-map cs clause-of) l in
-      rw (getD-padded 96 no-clause (map clause-of cs) i no-clause m, List·getD-map clause-of cs i [])
+      rw (getD-padded max-clauses no-clause (map clause-of cs) i no-clause m, List·getD-map clause-of cs i [])
       (clause-fits (every-getD (ClauseOver n) cs i [] l (z .clauses)));
 }
 

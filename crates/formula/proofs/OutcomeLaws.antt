@@ -7,6 +7,7 @@ use mathlib.Core.Path.{_≡_, refl, sym, ap, _∙_}
 use native.Mathlib.Decide.{decLe, decLt}
 use native.Mathlib.Omega.{arith}
 use lib.ListN.{length, length-append}
+use Rattle.limits.specs.Limits.{max-variables, max-clauses}
 use Rattle.formula.specs.declared.Refusal.{Refusal}
 use Rattle.formula.specs.declared.Refusal.the-variants.{Truncated, UnknownKind, Misplaced, BadVariableCount, NoSuchVariable, RepeatedVariable, TooManyClauses, TrailingByte}
 use Rattle.formula.specs.Format.{Literal, literal-kind, literal-bytes, names, distinct, Sized, Encodes}
@@ -37,7 +38,7 @@ module _ (len : ℕ) where
   count-front : (s : List ℕ) → Front len nothing (1 ∷ s)
   count-front [] = fails (Truncated len) (no-body 1 refl (omega arith))
   count-front (n ∷ s) =
-      ⊎-elim (λ w. continues s (count n (w .0) (w .1)) refl) (λ o. fails (BadVariableCount 0) (count-bad n o)) (within 48 n)
+      ⊎-elim (λ w. continues s (count n (w .0) (w .1)) refl) (λ o. fails (BadVariableCount 0) (count-bad n o)) (within max-variables n)
 
   -- kinds 2 and 3 after it
   literal-front : (n : ℕ) (cs : List (List Literal)) (c : List Literal) (sign : Bool) (s : List ℕ) → MayStand (inside n cs c) (literal-kind sign)
@@ -55,9 +56,9 @@ module _ (len : ℕ) where
 
   -- kind 4
   clause-front : (n : ℕ) (cs : List (List Literal)) (c : List Literal) (s : List ℕ) → Sized n cs → Front len (inside n cs c) (4 ∷ s)
-  clause-front n cs c s z = go (decLt (length cs) 96)
+  clause-front n cs c s z = go (decLt (length cs) max-clauses)
     where
-      go : Dec (length cs < 96) → Front len (inside n cs c) (4 ∷ s)
+      go : Dec (length cs < max-clauses) → Front len (inside n cs c) (4 ∷ s)
       go (yes h) = continues s (clause-end h) refl
       go (no h) = fails (TooManyClauses _) (clause-extra cs (omega arith))
 

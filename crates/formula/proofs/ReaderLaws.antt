@@ -9,6 +9,7 @@ use lib.Dec.{eqb, ltb}
 use lib.ListN.{length, length-map, getD, drop, set, length-append, drop-of-length-le}
 use lib.Seq.{drop-cons}
 use borrow.Author.Tests.{eqb-true, eqb-false, ltb-true, lt-ltb, le-ltb}
+use Rattle.limits.specs.Limits.{max-variables, max-clauses}
 use Rattle.formula.specs.declared.Clause.{Clause}
 use Rattle.formula.specs.declared.Event.{Event}
 use Rattle.formula.specs.declared.Event.the-variants.{Next, Finished, Stopped}
@@ -48,16 +49,16 @@ front s i j e = go (decLt i (length s))
 -- after a record the clauses that have ended are the same, or one more
 data Kept (g : Reading) : Reading → Type 0 where
   same : {h : Reading} → h .ended ≡ g .ended → Kept g h
-  more : {h : Reading} → length (g .ended) < 96 → h .ended ≡ g .ended ++ (g .current ∷ []) → Kept g h
+  more : {h : Reading} → length (g .ended) < max-clauses → h .ended ≡ g .ended ++ (g .current ∷ []) → Kept g h
 
 -- the code's event and the definition's step agree, and reading goes forward
 data Follows (s : List ℕ) (g : Reading) : Event → Step → Type 0 where
-  goes : {r : Reader} {h : Reading} → r ≡ reader-of h → g .at < h .at → h .at ≤ length s → h .variables ≤ 48 → Kept g h
+  goes : {r : Reader} {h : Reading} → r ≡ reader-of h → g .at < h .at → h .at ≤ length s → h .variables ≤ max-variables → Kept g h
       → Follows s g (Next r) (next h (drop (h .at) s))
   finishes : Follows s g Finished (stop (readable (g .variables) (g .ended)))
   stops : (r : Refusal) → Follows s g (Stopped r) (refuse r)
 
-module _ (s : List ℕ) (g : Reading) (small : g .variables ≤ 48) (here : g .at < length s) where
+module _ (s : List ℕ) (g : Reading) (small : g .variables ≤ max-variables) (here : g .at < length s) where
   -- by the same test on both sides
   by-test : (t : Bool) {e e′ : Event} {x x′ : Step} → (t ≡ true → Follows s g e x) → (t ≡ false → Follows s g e′ x′)
       → Follows s g (cond t e e′) (cond t x x′)
@@ -91,8 +92,8 @@ module _ (s : List ℕ) (g : Reading) (small : g .variables ≤ 48) (here : g .a
   counts =
       by-test (eqb (g .at) 0)
       (λ _. by-body (λ l. variable-count-body (length s) g l)
-      (λ l. by-test (one-to 48 (getD s (g .at + 1) 0))
-      (λ e. goes refl (past 2 (omega arith)) (omega arith) (one-to-most 48 (getD s (g .at + 1) 0) e) (same refl))
+      (λ l. by-test (one-to max-variables (getD s (g .at + 1) 0))
+      (λ e. goes refl (past 2 (omega arith)) (omega arith) (one-to-most max-variables (getD s (g .at + 1) 0) e) (same refl))
       (λ _. stops (BadVariableCount (g .at))))
       (stops (Truncated (length s))))
       (λ _. stops (Misplaced (g .at)))
@@ -137,13 +138,13 @@ module _ (s : List ℕ) (g : Reading) (small : g .variables ≤ 48) (here : g .a
   unfolding end-event with-literals
   ends =
       past-front
-      (λ _. by-test (ltb (length (g .ended)) 96)
+      (λ _. by-test (ltb (length (g .ended)) max-clauses)
       (λ e. goes
       (ap (λ (n : ℕ). record { at = g .at + 1; variables = g .variables; count = n; current = no-clause }) (sym (length-append (g .ended) (g .current ∷ []))))
       (past 1 (omega arith))
       (omega arith)
       small
-      (more (ltb-true (length (g .ended)) 96 e) refl))
+      (more (ltb-true (length (g .ended)) max-clauses e) refl))
       (λ _. stops (TooManyClauses (g .at))))
 
   finish : Follows s g (finish-event s (reader-of g))
@@ -168,7 +169,7 @@ module _ (s : List ℕ) (g : Reading) (small : g .variables ≤ 48) (here : g .a
   kinds unknown = stops (UnknownKind (g .at))
 
 -- the next record, wherever reading stands
-follows : (s : List ℕ) (g : Reading) → g .variables ≤ 48 → Follows s g (record-event s (reader-of g)) (read-record (length s) g (drop (g .at) s))
+follows : (s : List ℕ) (g : Reading) → g .variables ≤ max-variables → Follows s g (record-event s (reader-of g)) (read-record (length s) g (drop (g .at) s))
 unfolding record-event read-record
 follows s g small = go (front s (g .at) (g .at + 1) (omega arith))
   where
@@ -180,7 +181,7 @@ follows s g small = go (front s (g .at) (g .at + 1) (omega arith))
 -- ---- the loop
 
 -- before the first record
-pub reads-start : (s : List ℕ) → Reads s (record { at = 0; variables = 0; count = 0; current = no-clause }) (padded 96 no-clause [])
+pub reads-start : (s : List ℕ) → Reads s (record { at = 0; variables = 0; count = 0; current = no-clause }) (padded max-clauses no-clause [])
 unfolding decode with-literals
 reads-start s = record {
   reading = start;
@@ -198,7 +199,7 @@ reads-start s = record {
 pub record Turn (s : List ℕ) (r : Reader) (clauses : List Clause) (r′ : Reader) : Type 0 where
   pub forward : r .at < r′ .at
   pub inside : r′ .at ≤ length s
-  pub stored : r .count < r′ .count → (r .count < 96) × Reads s r′ (set clauses (r .count) (r .current))
+  pub stored : r .count < r′ .count → (r .count < max-clauses) × Reads s r′ (set clauses (r .count) (r .current))
   pub kept : r′ .count ≤ r .count → Reads s r′ clauses
 
 -- what each event means for the whole input
@@ -209,11 +210,11 @@ pub data Whole (s : List ℕ) (r : Reader) (clauses : List Clause) : Event → T
   refuses : (x : Refusal) → decode s ≡ refused x → Whole s r clauses (Stopped x)
 
 array : Reading → List Clause
-array g = padded 96 no-clause (map clause-of (g .ended))
+array g = padded max-clauses no-clause (map clause-of (g .ended))
 
-module _ (s : List ℕ) (g : Reading) (few : length (g .ended) ≤ 96) where
+module _ (s : List ℕ) (g : Reading) (few : length (g .ended) ≤ max-clauses) where
   -- where the step goes on, the loop's turn keeps what `Reads` says
-  turn : {r : Reader} {h : Reading} → r ≡ reader-of h → g .at < h .at → h .at ≤ length s → h .variables ≤ 48 → Kept g h
+  turn : {r : Reader} {h : Reading} → r ≡ reader-of h → g .at < h .at → h .at ≤ length s → h .variables ≤ max-variables → Kept g h
       → (k : ℕ) → length s ≤ h .at + k → records k (length s) h (drop (h .at) s) ≡ decode s
       → Turn s (reader-of g) (array g) r
   unfolding array
@@ -224,7 +225,7 @@ module _ (s : List ℕ) (g : Reading) (few : length (g .ended) ≤ 96) where
     kept = rw is (unchanged kept);
   }
     where
-      reads : (clauses : List Clause) → clauses ≡ array h → length (h .ended) ≤ 96 → Reads s (reader-of h) clauses
+      reads : (clauses : List Clause) → clauses ≡ array h → length (h .ended) ≤ max-clauses → Reads s (reader-of h) clauses
       reads clauses e n = record {
         reading = h;
         is = refl;
@@ -237,23 +238,23 @@ module _ (s : List ℕ) (g : Reading) (few : length (g .ended) ≤ 96) where
         rest = rest;
       }
 
-      stores : length (g .ended) < 96 → h .ended ≡ g .ended ++ (g .current ∷ []) → set (array g) (length (g .ended)) (clause-of (g .current)) ≡ array h
+      stores : length (g .ended) < max-clauses → h .ended ≡ g .ended ++ (g .current ∷ []) → set (array g) (length (g .ended)) (clause-of (g .current)) ≡ array h
       stores n e =
           let m : length (map clause-of (g .ended)) ≡ length (g .ended) = length-map (g .ended) clause-of in
           ap (λ (i : ℕ). set (array g) i (clause-of (g .current))) (sym m)
-          ∙ padded-set 96 no-clause (map clause-of (g .ended)) (clause-of (g .current)) (rw m n)
-          ∙ ap (padded 96 no-clause) (sym (map-append clause-of (g .ended) (g .current ∷ [])) ∙ ap (map clause-of) (sym e))
+          ∙ padded-set max-clauses no-clause (map clause-of (g .ended)) (clause-of (g .current)) (rw m n)
+          ∙ ap (padded max-clauses no-clause) (sym (map-append clause-of (g .ended) (g .current ∷ [])) ∙ ap (map clause-of) (sym e))
 
       stored : Kept g h → length (g .ended) < length (h .ended)
-          → (length (g .ended) < 96) × Reads s (reader-of h) (set (array g) (length (g .ended)) (clause-of (g .current)))
+          → (length (g .ended) < max-clauses) × Reads s (reader-of h) (set (array g) (length (g .ended)) (clause-of (g .current)))
       stored (same e) c = absurd (omega (arith, ap length e))
       stored (more n e) c = (n, reads (set (array g) (length (g .ended)) (clause-of (g .current))) (stores n e) (rw (e, length-append) (omega arith)))
 
       unchanged : Kept g h → length (h .ended) ≤ length (g .ended) → Reads s (reader-of h) (array g)
-      unchanged (same e) c = reads (array g) (ap (λ (cs : List (List Literal)). padded 96 no-clause (map clause-of cs)) (sym e)) (rw e few)
+      unchanged (same e) c = reads (array g) (ap (λ (cs : List (List Literal)). padded max-clauses no-clause (map clause-of cs)) (sym e)) (rw e few)
       unchanged (more n e) c = absurd (omega (arith, ap length e ∙ length-append (g .ended) (g .current ∷ [])))
 
-  whole-at : g .variables ≤ 48 → g .at ≤ length s → (k : ℕ) → length s ≤ g .at + k → records k (length s) g (drop (g .at) s) ≡ decode s
+  whole-at : g .variables ≤ max-variables → g .at ≤ length s → (k : ℕ) → length s ≤ g .at + k → records k (length s) g (drop (g .at) s) ≡ decode s
       → Whole s (reader-of g) (array g) (record-event s (reader-of g))
   unfolding records record-event array
   whole-at small inside zero enough rest =

@@ -8,6 +8,7 @@ use native.Mathlib.Omega.{arith}
 use borrow.Author.Tests.{lt-ltb, le-ltb, le-leb, lt-leb, ne-eqb}
 use lib.Dec.{ltb, leb}
 use lib.ListN.{length}
+use Rattle.limits.specs.Limits.{max-variables, max-clauses}
 use Rattle.formula.specs.declared.Refusal.{Refusal}
 use Rattle.formula.specs.declared.Refusal.the-variants.{Truncated, UnknownKind, Misplaced, NoSuchVariable, RepeatedVariable}
 use Rattle.formula.specs.Format.{Literal, literal-kind, names}
@@ -99,11 +100,11 @@ module _ (len : ℕ) where
   given-read (kind-unknown {b} {s} k h) e = rw (e, ← reading-at b) (unknown-read (reading-of b) k s h)
   given-read (kind-misplaced {b} {s} k h l m) e = rw e (misplaced-read b k s h l m)
   given-read (no-body {b} k m l) e = body-read b k m l
-  given-read (count-bad {s} n h) e = rw (e, outside 48 n h)
+  given-read (count-bad {s} n h) e = rw (e, outside max-variables n h)
   given-read (variable-unknown {cs} {c} {s} n sign v h) e = rw e (variable-read (reading-of (inside n cs c)) sign v s (omega arith) h)
   given-read (variable-repeated {cs} {c} {s} n sign v h l k) e = rw e (repeated-read (reading-of (inside n cs c)) sign v s (omega arith) h l k)
   given-read (clause-extra {n} {c} {s} cs h) e =
-      rw (e, lt-ltb 0 (length (written (inside n cs c))) (omega arith), le-ltb (length cs) 96 (omega arith))
+      rw (e, lt-ltb 0 (length (written (inside n cs c))) (omega arith), le-ltb (length cs) max-clauses (omega arith))
   given-read (byte-extra {n} {cs} x s) e = rw (e, lt-ltb 0 (length (written (inside n cs []))) (omega arith))
 
 -- a refusal of the reader has a number from 2 to 9

@@ -5,6 +5,7 @@ use mathlib.Core.Bool.{Bool, true, false, cond, _&&_}
 use mathlib.Core.List.{List, [], _∷_, _++_}
 use lib.Dec.{eqb, leb, ltb}
 use lib.ListN.{length}
+use Rattle.limits.specs.Limits.{max-variables, max-clauses}
 use Rattle.formula.specs.declared.Refusal.{Refusal}
 use Rattle.formula.specs.declared.Refusal.the-variants.{Truncated, UnknownKind, Misplaced, BadVariableCount, NoSuchVariable, RepeatedVariable, TooManyClauses, TrailingByte}
 use Rattle.formula.specs.Format.{Literal, names}
@@ -71,7 +72,7 @@ allowed r unknown = false
 abbrev pub variable-count-body : ℕ → Reading → List ℕ → Step
 variable-count-body len r [] = refuse (Truncated len)
 variable-count-body len r (n ∷ s) =
-    cond (one-to 48 n)
+    cond (one-to max-variables n)
     (next (record { at = r .at + 2; variables = n; ended = r .ended; current = r .current }) s)
     (refuse (BadVariableCount (r .at)))
 
@@ -95,7 +96,7 @@ literal-body len r sign (b ∷ s) =
 -- kind 4: at most 96 clauses (else 8)
 abbrev pub clause-ends : Reading → List ℕ → Step
 clause-ends r s =
-    cond (ltb (length (r .ended)) 96)
+    cond (ltb (length (r .ended)) max-clauses)
     (next
     (record { at = r .at + 1; variables = r .variables; ended = r .ended ++ (r .current ∷ []); current = [] })
     s)

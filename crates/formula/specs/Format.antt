@@ -1,11 +1,12 @@
 -- 01, 'The sheet': an encoded formula as a grammar. A formula is a number of variables and a list of clauses; a clause
 -- is the list of its literals in written order. Variables count from 0: variable v is 01's switch v + 1.
-use Prim.Native.Nat.{ℕ, _+_, _<_, _≤_}
+use Prim.Native.Nat.{ℕ, _+_, _*_, _<_, _≤_}
 use mathlib.Core.Bool.{Bool, true, false, not, _&&_, _||_, Bool·beq}
 use mathlib.Core.List.{List, [], _∷_, _++_}
 use mathlib.Core.Path.{_≡_}
 use lib.Dec.{eqb}
 use lib.ListN.{length}
+use Rattle.limits.specs.Limits.{max-variables, max-clauses}
 use Rattle.lists.specs.Every.{Every}
 
 -- a variable named as true (01: a switch named as on) or as false
@@ -61,9 +62,17 @@ pub record ClauseOver (n : ℕ) (c : List Literal) : Type 0 where
 -- 1 to 48 variables and at most 96 clauses over them
 pub record Sized (n : ℕ) (cs : List (List Literal)) : Type 0 where
   pub some : 1 ≤ n
-  pub most : n ≤ 48
-  pub few : length cs ≤ 96
+  pub most : n ≤ max-variables
+  pub few : length cs ≤ max-clauses
   pub clauses : Every (ClauseOver n) cs
+
+-- the bytes of a clause that names every variable: two for each, and kind 4
+abbrev pub max-clause-bytes : ℕ
+max-clause-bytes = 2 * max-variables + 1
+
+-- 'the longest readable sheet has 9,315 bytes': kind 1 with its number, the most clauses of the most bytes, kind 5
+abbrev pub max-bytes : ℕ
+max-bytes = 2 + max-clauses * max-clause-bytes + 1
 
 -- a readable input is the bytes of such a formula
 pub record Encodes (s : List ℕ) (n : ℕ) (cs : List (List Literal)) : Type 0 where

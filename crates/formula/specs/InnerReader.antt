@@ -1,10 +1,11 @@
 -- What the reader's functions compute over masks, record by record; proofs/ReaderLaws.antt ties it to Decode.
 use Prim.Native.Nat.{ℕ, _+_, _-_, _≤_}
-use mathlib.Core.Bool.{Bool, not, cond, _&&_, _||_}
+use mathlib.Core.Bool.{Bool, false, not, cond, _&&_, _||_}
 use mathlib.Core.List.{List, map}
 use mathlib.Core.Path.{_≡_}
 use lib.Dec.{eqb, ltb}
 use lib.ListN.{length, getD, drop}
+use Rattle.limits.specs.Limits.{max-variables, max-clauses}
 use Rattle.lists.specs.Padded.{padded}
 use Rattle.masks.specs.Mask.{bit}
 use Rattle.formula.specs.declared.Clause.{Clause}
@@ -20,7 +21,7 @@ unfoldable pub count-event : List ℕ → Reader → Event
 count-event s r =
     cond (eqb (r .at) 0)
     (cond (ltb (r .at + 1) (length s))
-    (cond (one-to 48 (getD s (r .at + 1) 0))
+    (cond (one-to max-variables (getD s (r .at + 1) 0))
     (Next (record { at = r .at + 2; variables = getD s (r .at + 1) 0; count = r .count; current = r .current }))
     (Stopped (BadVariableCount (r .at))))
     (Stopped (Truncated (length s))))
@@ -49,7 +50,7 @@ unfoldable pub end-event : Reader → Event
 end-event r =
     cond (eqb (r .at) 0)
     (Stopped (Misplaced (r .at)))
-    (cond (ltb (r .count) 96)
+    (cond (ltb (r .count) max-clauses)
     (Next (record { at = r .at + 1; variables = r .variables; count = r .count + 1; current = no-clause }))
     (Stopped (TooManyClauses (r .at))))
 
@@ -98,10 +99,10 @@ reader-of g = record { at = g .at; variables = g .variables; count = length (g .
 pub record Reads (s : List ℕ) (r : Reader) (clauses : List Clause) : Type 0 where
   pub reading : Reading
   pub is : r ≡ reader-of reading
-  pub kept : clauses ≡ padded 96 no-clause (map clause-of (reading .ended))
+  pub kept : clauses ≡ padded max-clauses no-clause (map clause-of (reading .ended))
   pub inside : reading .at ≤ length s
-  pub small : reading .variables ≤ 48
-  pub few : length (reading .ended) ≤ 96
+  pub small : reading .variables ≤ max-variables
+  pub few : length (reading .ended) ≤ max-clauses
   pub fuel : ℕ
   pub enough : length s ≤ reading .at + fuel
   pub rest : records fuel (length s) reading (drop (reading .at) s) ≡ decode s
@@ -111,4 +112,9 @@ pub record Passes (s : List ℕ) (r x : Reader) : Type 0 where
   pub reads : (clauses : List Clause) → Reads s r clauses → Reads s x clauses
   pub forward : r .at ≤ x .at
   pub inside : x .at ≤ length s
-  pub small : x .variables ≤ 48
+  pub small : x .variables ≤ max-variables
+
+-- from r to x by literals, as many as can be read
+pub record PassesLiterals (s : List ℕ) (r x : Reader) : Type 0 where
+  pub passes : Passes s r x
+  pub last : literal-stands s x ≡ false

@@ -5,6 +5,7 @@ use mathlib.Core.List.{List, [], _∷_, map}
 use mathlib.Core.Path.{_≡_}
 use lib.Bits.{bitOr}
 use lib.ListN.{length, getD}
+use Rattle.limits.specs.Limits.{max-variables, max-clauses}
 use Rattle.lists.specs.Padded.{padded}
 use Rattle.masks.specs.Mask.{with, meets}
 use Rattle.formula.specs.declared.Clause.{Clause}
@@ -47,7 +48,7 @@ abbrev pub clause-of : List Literal → Clause
 clause-of c = with-literals no-clause c
 
 abbrev pub formula-of : ℕ → List (List Literal) → Formula
-formula-of n cs = record { variables = n; count = length cs; clauses = padded 96 no-clause (map clause-of cs) }
+formula-of n cs = record { variables = n; count = length cs; clauses = padded max-clauses no-clause (map clause-of cs) }
 
 -- an accepted input gives its formula; a refused one its refusal and otherwise zeros
 abbrev pub held : Decoding → Decoded
@@ -65,6 +66,6 @@ pub record ClauseFits (n : ℕ) (c : Clause) : Type 0 where
 -- a formula of 1 to 48 variables and at most 96 clauses over them
 pub record FormulaFits (f : Formula) : Type 0 where
   pub some : 1 ≤ f .variables
-  pub most : f .variables ≤ 48
-  pub few : f .count ≤ 96
+  pub most : f .variables ≤ max-variables
+  pub few : f .count ≤ max-clauses
   pub clauses : (i : ℕ) → i < f .count → ClauseFits (f .variables) (getD (f .clauses) i no-clause)

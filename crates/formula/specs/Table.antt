@@ -6,6 +6,7 @@ use mathlib.Core.List.{List, [], _∷_, _++_}
 use mathlib.Core.Logic.{_⊎_}
 use mathlib.Core.Path.{_≡_}
 use lib.ListN.{length}
+use Rattle.limits.specs.Limits.{max-variables, max-clauses}
 use Rattle.formula.specs.declared.Refusal.{Refusal}
 use Rattle.formula.specs.declared.Refusal.the-variants.{Truncated, UnknownKind, Misplaced, BadVariableCount, NoSuchVariable, RepeatedVariable, TooManyClauses, TrailingByte}
 use Rattle.formula.specs.Format.{Literal, clauses-bytes, literals-bytes, literal-kind, names, ClauseOver, Sized}
@@ -41,7 +42,7 @@ pub data Given (len at : ℕ) : Beginning → List ℕ → Refusal → Type 0 wh
   -- 2: a kind that has a body is the last byte
   no-body : {b : Beginning} (k : ℕ) → MayStand b k → k ≤ 3 → Given len at b (k ∷ []) (Truncated len)
   -- 5: the number of variables is 0 or above 48
-  count-bad : {s : List ℕ} (n : ℕ) → (n < 1) ⊎ (48 < n) → Given len at nothing (1 ∷ n ∷ s) (BadVariableCount at)
+  count-bad : {s : List ℕ} (n : ℕ) → (n < 1) ⊎ (max-variables < n) → Given len at nothing (1 ∷ n ∷ s) (BadVariableCount at)
   -- 6: the variable is 0 or above n
   variable-unknown : {cs : List (List Literal)} {c : List Literal} {s : List ℕ} (n : ℕ) (sign : Bool) (v : ℕ) → (v < 1) ⊎ (n < v)
       → Given len at (inside n cs c) (literal-kind sign ∷ v ∷ s) (NoSuchVariable at)
@@ -49,7 +50,7 @@ pub data Given (len at : ℕ) : Beginning → List ℕ → Refusal → Type 0 wh
   variable-repeated : {cs : List (List Literal)} {c : List Literal} {s : List ℕ} (n : ℕ) (sign : Bool) (v : ℕ) → 1 ≤ v → v ≤ n → names c (v - 1) ≡ true
       → Given len at (inside n cs c) (literal-kind sign ∷ v ∷ s) (RepeatedVariable at)
   -- 8: the 97th kind 4
-  clause-extra : {n : ℕ} {c : List Literal} {s : List ℕ} (cs : List (List Literal)) → length cs ≡ 96 → Given len at (inside n cs c) (4 ∷ s) (TooManyClauses at)
+  clause-extra : {n : ℕ} {c : List Literal} {s : List ℕ} (cs : List (List Literal)) → length cs ≡ max-clauses → Given len at (inside n cs c) (4 ∷ s) (TooManyClauses at)
   -- 9: a byte follows kind 5
   byte-extra : {n : ℕ} {cs : List (List Literal)} (x : ℕ) (s : List ℕ) → Given len at (inside n cs []) (5 ∷ x ∷ s) (TrailingByte (at + 1))
 

@@ -1,15 +1,18 @@
 // Encoded formulas: the reader, its refusals, and the act check.
+use limits::MAX_CLAUSES;
+use limits::MAX_VARIABLES;
 ghost use mathlib.Core.Path.{_≡_};
-ghost use mathlib.Core.Bool.{false};
 ghost use Prim.Native.Nat.{_+_, _<_, _≤_, _^_};
+ghost use lib.Dec.{eqb};
 ghost use lib.ListN.{length, getD};
 ghost use mathlib.Core.List.{[]};
+ghost use Rattle.limits.specs.Limits.{max-variables, max-clauses};
 ghost use Rattle.formula.specs.Check.{values, checked};
 ghost use Rattle.formula.specs.InnerCheck.{clause-holds, clauses-hold};
 ghost use Rattle.formula.specs.Masked.{no-clause, with-literal, formula-of, held, decoded};
 ghost use Rattle.formula.specs.Decode.{refused};
 ghost use Rattle.formula.specs.Refusals.{listing};
-ghost use Rattle.formula.specs.InnerReader.{count-event, variable-event, literal-event, end-event, finish-event, literal-stands, literal-read, record-event, Passes};
+ghost use Rattle.formula.specs.InnerReader.{count-event, variable-event, literal-event, end-event, finish-event, literal-stands, literal-read, record-event, PassesLiterals};
 
 // A clause (01: rule): the variables that it names as true (01: on) and those that it names as false.
 pub struct Clause {
@@ -21,7 +24,7 @@ pub struct Clause {
 pub struct Formula {
     pub variables: usize,
     pub count: usize,
-    pub clauses: [Clause; 96],
+    pub clauses: [Clause; MAX_CLAUSES],
 }
 
 // The refusals of 01's table, in its order; each holds its place.
@@ -92,13 +95,13 @@ fn empty_clause() -> Clause
     }
 }
 
-fn no_clauses() -> [Clause; 96]
+fn no_clauses() -> [Clause; MAX_CLAUSES]
     ensures { λ r. ⌜ r ≡ formula-of 0 [] .clauses ⌝ }
 {
     [Clause {
         positive: 0,
         negative: 0,
-    }; 96]
+    }; MAX_CLAUSES]
 }
 
 // The clause that names v as well.
@@ -135,7 +138,7 @@ fn read_count(input: &[u8], r: Reader) -> Event
     if n == 0 {
         return Event::Stopped(Refusal::BadVariableCount(at));
     }
-    if 48 < n {
+    if MAX_VARIABLES < wide(n) {
         return Event::Stopped(Refusal::BadVariableCount(at));
     }
     let current = r.current;
@@ -166,7 +169,7 @@ fn read_variable(r: Reader, v: usize, sign: bool) -> Event
 
 // Kinds 2 and 3.
 fn read_literal(input: &[u8], r: Reader, sign: bool) -> Event
-    requires { ⌜ (r .at < length (now input)) × (r .variables ≤ 48) ⌝ }
+    requires { ⌜ (r .at < length (now input)) × (r .variables ≤ max-variables) ⌝ }
     ensures { λ e. ⌜ e ≡ literal-event (now (input .entry)) r sign ⌝ }
 {
     let at = r.at;
@@ -195,7 +198,7 @@ fn read_end(r: Reader) -> Event
     if at == 0 {
         return Event::Stopped(Refusal::Misplaced(at));
     }
-    if 96 <= r.count {
+    if MAX_CLAUSES <= r.count {
         return Event::Stopped(Refusal::TooManyClauses(at));
     }
     Event::Next(Reader {
@@ -227,7 +230,7 @@ fn read_finish(input: &[u8], r: Reader) -> Event
 
 // One record.
 fn read_record(input: &[u8], r: Reader) -> Event
-    requires { ⌜ r .variables ≤ 48 ⌝ }
+    requires { ⌜ r .variables ≤ max-variables ⌝ }
     ensures { λ e. ⌜ e ≡ record-event (now (input .entry)) r ⌝ }
 {
     let at = r.at;
@@ -247,7 +250,7 @@ fn read_record(input: &[u8], r: Reader) -> Event
 
 // The record is a literal that can be read.
 fn is_literal(input: &[u8], r: Reader) -> bool
-    requires { ⌜ (r .at ≤ length (now input)) × (r .variables ≤ 48) ⌝ }
+    requires { ⌜ (r .at ≤ length (now input)) × (r .variables ≤ max-variables) ⌝ }
     ensures { λ x. ⌜ x ≡ literal-stands (now (input .entry)) r ⌝ }
 {
     let at = r.at;
@@ -258,8 +261,9 @@ fn is_literal(input: &[u8], r: Reader) -> bool
         return false;
     }
     let kind = input[at];
-    if kind != 2 {
-        if kind != 3 {
+    match kind {
+        2 | 3 => {}
+        0 | 1 | 4..=255 => {
             return false;
         }
     }
@@ -274,9 +278,19 @@ fn is_literal(input: &[u8], r: Reader) -> bool
     !masks::member(current.positive | current.negative, wide(b) - 1)
 }
 
+// The sign of a literal of this kind.
+fn is_positive(kind: u8) -> bool
+    ensures { λ x. ⌜ x ≡ eqb kind 2 ⌝ }
+{
+    match kind {
+        2 => true,
+        0 | 1 | 3..=255 => false,
+    }
+}
+
 // A literal that can be read is read.
 fn take_literal(input: &[u8], r: Reader) -> Reader
-    requires { ⌜ (r .at + 1 < length (now input)) × (1 ≤ getD (now input) (r .at + 1) 0) × (getD (now input) (r .at + 1) 0 ≤ 48) ⌝ }
+    requires { ⌜ (r .at + 1 < length (now input)) × (1 ≤ getD (now input) (r .at + 1) 0) × (getD (now input) (r .at + 1) 0 ≤ max-variables) ⌝ }
     ensures { λ x. ⌜ x ≡ literal-read (now (input .entry)) r ⌝ }
 {
     let at = r.at;
@@ -285,15 +299,14 @@ fn take_literal(input: &[u8], r: Reader) -> Reader
         variables: r.variables,
         at: at + 2,
         count: r.count,
-        current: add_literal(current, wide(input[at + 1]) - 1, input[at] == 2),
+        current: add_literal(current, wide(input[at + 1]) - 1, is_positive(input[at])),
     }
 }
 
 // Literals are read, as many as can be: most records are such, and this way no event is made of them.
 fn read_literals(input: &[u8], r: Reader) -> Reader
-    requires { ⌜ (r .at ≤ length (now input)) × (r .variables ≤ 48) ⌝ }
-    ensures { λ x. ⌜ Passes (now (input .entry)) r x ⌝ }
-    ensures { λ x. ⌜ literal-stands (now (input .entry)) x ≡ false ⌝ }
+    requires { ⌜ (r .at ≤ length (now input)) × (r .variables ≤ max-variables) ⌝ }
+    ensures { λ x. ⌜ PassesLiterals (now (input .entry)) r x ⌝ }
 {
     let mut reader = r;
     while is_literal(input, reader) {
@@ -406,7 +419,7 @@ fn holds(c: Clause, assignment: u64) -> bool
 
 // Every clause of the formula holds.
 pub fn all_hold(f: Formula, assignment: u64) -> bool
-    requires { ⌜ f .count ≤ 96 ⌝ }
+    requires { ⌜ f .count ≤ max-clauses ⌝ }
     ensures { λ r. ⌜ r ≡ clauses-hold assignment (f .clauses) (f .count) ⌝ }
 {
     let mut i: usize = 0;

@@ -3,135 +3,41 @@ use mathlib.Core.Path.{_≡_, refl, sym, _∙_, ap, subst}
 use mathlib.Core.Bool.{true, false}
 use mathlib.Core.Logic.{⊎-elim}
 use mathlib.Core.List.{List, [], _∷_, _++_}
-use Prim.Native.Nat.{ℕ, zero, suc, _+_, _-_, _*_, _≤_, _<_}
+use Prim.Native.Nat.{ℕ, suc, _+_, _-_, _*_, _≤_, _<_}
 use native.Mathlib.Numerals.{add-one}
 use native.Mathlib.Omega.{arith}
-use lib.ListN.{length, set, take, replicate, length-set, length-append, length-replicate, replicate-append-replicate, getD-replicate}
+use lib.ListN.{length, set, take, replicate, length-replicate, replicate-append-replicate, getD-replicate}
 use lib.Seq.{getD-take, take-suc, take-length, length-take-le, set-getD, set-comm}
 use lib.Dec.{eqb}
 use borrow.Author.Tests.{eqb-true, eqb-false, eq-eqb, ne-eqb}
+use Rattle.limits.specs.Limits.{max-clauses}
 use Rattle.lists.proofs.TestLaws.{look}
 use Rattle.lists.specs.Padded.{padded}
 use Rattle.lists.proofs.PaddedLaws.{padded-none, take-padded}
 use Rattle.lists.proofs.StoreLaws.{padded-store, held-length}
-use Rattle.masks.specs.Mask.{bit, members}
 use Rattle.masks.proofs.BitLaws.{bit-below}
 use Rattle.matching.specs.Matched.{Words}
-use Rattle.matching.specs.Search.{owner, Search, begin, see, scan, take-front, front, expand, search-from, rematch-from, bound, next-search, success, failure, match-rest, outcome, marks}
+use Rattle.matching.specs.Search.{owner, Search, begin, front, search-from, rematch-from, search-bound, next-search, success, failure, match-rest, outcome, marks}
 use Rattle.lists.proofs.TabulatedLaws.{tabulated-of}
 use Rattle.matching.specs.Inner.{at, owners-of, Tables, search-of, Sound, Owned, Augments, augmented, Augmented}
 use Rattle.matching.specs.Result.{Clauses, packed}
 use Rattle.matching.specs.declared.Front.{Front}
-use Rattle.matching.proofs.Counting.{lt-or-le, zero-or-pos}
-use Rattle.matching.proofs.OwnerLaws.{zero-or-suc, owner-le, free-owner}
-use Rattle.matching.proofs.Augmenting.{snoc-cases, rematch-partial}
-use Rattle.matching.proofs.SearchLaws.{see-free, see-matched, scan-none, scan-old, scan-new, scan-stop, search-on, search-found, search-empty, Stuck, Reached, Ended, search-next, word-all}
+use Rattle.matching.proofs.Counting.{zero-or-pos}
+use Rattle.matching.proofs.OwnerLaws.{owner-le, free-owner}
+use Rattle.matching.proofs.Augmenting.{rematch-partial}
+use Rattle.matching.proofs.SearchLaws.{Stuck, Reached, Ended, search-next, word-all}
 use Rattle.matching.proofs.OutcomeLaws.{match-none, match-fails, match-on}
 use Rattle.matching.proofs.FrontLaws.{sound-tail}
-use Rattle.matching.proofs.RematchLaws.{path-distance, owners-fun, augments-of}
+use Rattle.matching.proofs.DistanceLaws.{path-distance}
+use Rattle.matching.proofs.RematchLaws.{owners-fun, augments-of}
+use Rattle.matching.proofs.PrefixLaws.{outcome-take}
 use Rattle.matching.proofs.MatchedLaws.{length-marks}
-
--- ── Only the clauses of the list count ────────────────────────────────────────────────────────────────────────────────
-
--- the queue's clauses are below n
-abbrev Low : ℕ → Search → Type 0
-Low n s = (i : ℕ) → i < length (s .queue) → at (s .queue) i < n
-
-see-low : (n : ℕ) (own : ℕ → ℕ) (c v : ℕ) (s : Search) → own v ≤ n → Low n s → Low n (see own c v s)
-see-low n own c v s o L =
-    ⊎-elim
-    (λ (e : own v ≡ 0). subst (λ (r : Search). Low n r) (sym (see-free own c v s e)) L)
-    (λ (w : (k : ℕ) × (own v ≡ suc k)).
-    subst (λ (r : Search). Low n r) (sym (see-matched own c v (w .0) s (w .1)))
-    (λ i h. ⊎-elim (λ (p : (i ≡ length (s .queue)) × (at (s .queue ++ (w .0 ∷ [])) i ≡ w .0)). rw (p .1) (omega (arith, w .1))) (λ (p : (i < length (s .queue)) × (at (s .queue ++ (w .0 ∷ [])) i ≡ at (s .queue) i)). rw (p .1) (L i (p .0))) (snoc-cases (s .queue) (w .0) i h)))
-    (zero-or-suc (own v))
-
-scan-low : (n : ℕ) (own : ℕ → ℕ) → ((v : ℕ) → own v ≤ n) → (c : ℕ) (vs : List ℕ) (s : Search) → Low n s → Low n (scan own c vs s)
-scan-low n own o c [] s L = rw (scan-none own c s) L
-scan-low n own o c (v ∷ vs) s L =
-    ⊎-elim
-    (λ (f : eqb (s .free) 64 ≡ true).
-    let e = eqb-true (s .free) 64 f in
-    ⊎-elim
-    (λ (b : bit (s .seen) v ≡ true). subst (λ (r : Search). Low n r) (sym (scan-old own c v vs s e b)) (scan-low n own o c vs s L))
-    (λ (b : bit (s .seen) v ≡ false). subst (λ (r : Search). Low n r) (sym (scan-new own c v vs s e b)) (scan-low n own o c vs (see own c v s) (see-low n own c v s (o v) L)))
-    (look (bit (s .seen) v)))
-    (λ (f : eqb (s .free) 64 ≡ false). subst (λ (r : Search). Low n r) (sym (scan-stop own c (v ∷ vs) s (eqb-false (s .free) 64 f))) L)
-    (look (eqb (s .free) 64))
-
-expand-low : (n : ℕ) (sets : List ℕ) (own : ℕ → ℕ) → ((v : ℕ) → own v ≤ n) → (s : Search) → Low n s → Low n (expand sets own s)
-unfolding expand take-front
-expand-low n sets own o s L = scan-low n own o (front s) (members (at sets (front s)) 64) (take-front s) L
-
-expand-take : (n : ℕ) (sets : List ℕ) (own : ℕ → ℕ) (s : Search) → front s < n → expand (take n sets) own s ≡ expand sets own s
-unfolding expand
-expand-take n sets own s l = rw (getD-take n sets (front s) 0 l)
-
-search-take : (n : ℕ) (sets : List ℕ) (own : ℕ → ℕ) → ((v : ℕ) → own v ≤ n) → (k : ℕ) (s : Search) → Low n s
-    → search-from k (take n sets) own s ≡ search-from k sets own s
-unfolding search-from
-search-take n sets own o zero s L = refl
-search-take n sets own o (suc k) s L =
-    ⊎-elim
-    (λ (f : eqb (s .free) 64 ≡ true).
-    let e = eqb-true (s .free) 64 f in
-    ⊎-elim
-    (λ (l : s .taken < length (s .queue)).
-    search-on k (take n sets) own s e l
-    ∙ ap (search-from k (take n sets) own) (expand-take n sets own s (L (s .taken) l))
-    ∙ search-take n sets own o k (expand sets own s) (expand-low n sets own o s L)
-    ∙ sym (search-on k sets own s e l))
-    (λ (g : length (s .queue) ≤ s .taken). search-empty (suc k) (take n sets) own s g ∙ sym (search-empty (suc k) sets own s g))
-    (lt-or-le (s .taken) (length (s .queue))))
-    (λ (f : eqb (s .free) 64 ≡ false).
-    let ne = eqb-false (s .free) 64 f in
-    search-found (suc k) (take n sets) own s ne ∙ sym (search-found (suc k) sets own s ne))
-    (look (eqb (s .free) 64))
-
-next-take : (n : ℕ) (sets m : List ℕ) → length m < n → next-search (take n sets) m ≡ next-search sets m
-unfolding begin
-next-take n sets m l =
-    search-take n sets (owner m) (λ v. omega (arith, owner-le m v)) bound (begin (length m)) (λ i h. let z : i ≡ 0 = omega arith in rw z l)
-
--- one clause more at most is matched
-rematch-short : (k : ℕ) (links m : List ℕ) (v : ℕ) → length (rematch-from k links m v) ≤ suc (length m)
-unfolding rematch-from
-rematch-short zero links m v = omega arith
-rematch-short (suc k) links m v =
-    ⊎-elim
-    (λ (t : eqb (at links v) (length m) ≡ true). rw t (let e = length-append m (v ∷ []) in omega arith))
-    (λ (f : eqb (at links v) (length m) ≡ false).
-    rw f (let e = length-set m (at links v) v in let r = rematch-short k links (set m (at links v) v) (at m (at links v)) in omega arith))
-    (look (eqb (at links v) (length m)))
-
-match-take : (n : ℕ) (sets : List ℕ) (k : ℕ) (m : List ℕ) (e : ℕ) → length m + k ≤ n → match-rest k (take n sets) m e ≡ match-rest k sets m e
-match-take n sets zero m e l = match-none (take n sets) m e ∙ sym (match-none sets m e)
-match-take n sets (suc k) m e l =
-    let q = next-take n sets m (omega arith) in
-    let s = next-search sets m in
-    ⊎-elim
-    (λ (f : eqb (s .free) 64 ≡ true).
-    let z = eqb-true (s .free) 64 f in
-    match-fails k (take n sets) m e (rw q z)
-    ∙ ap (λ (r : Search). failure (take (r .taken) (r .queue)) (e + r .taken)) q
-    ∙ sym (match-fails k sets m e z))
-    (λ (f : eqb (s .free) 64 ≡ false).
-    let ne = eqb-false (s .free) 64 f in
-    match-on k (take n sets) m e (rw q ne)
-    ∙ ap (λ (r : Search). match-rest k (take n sets) (rematch-from bound (r .links) m (r .free)) (e + r .taken)) q
-    ∙ match-take n sets k (rematch-from bound (s .links) m (s .free)) (e + s .taken) (let r = rematch-short bound (s .links) m (s .free) in omega arith)
-    ∙ sym (match-on k sets m e ne))
-    (look (eqb (s .free) 64))
-
-pub outcome-take : (n : ℕ) (sets : List ℕ) → n ≤ length sets → outcome (take n sets) ≡ match-rest n sets [] 0
-unfolding outcome
-outcome-take n sets l = rw (length-take-le n sets l) (match-take n sets n [] 0 (omega arith))
 
 -- ── One clause ────────────────────────────────────────────────────────────────────────────────────────────────────────
 
 module _ (sets : List ℕ) (n : ℕ) (table owners : List ℕ) (T : Tables sets n table owners) (W : Words sets) where
-  pub table-long : (length table ≡ 96) × (length (take n table) ≡ n)
-  table-long = held-length 96 0 table n (T .room) (T .held)
+  pub table-long : (length table ≡ max-clauses) × (length (take n table) ≡ n)
+  table-long = held-length max-clauses 0 table n (T .room) (T .held)
 
   variables-low : (i : ℕ) → i < length (take n table) → at (take n table) i < 64
   variables-low i h = bit-below 64 (at (take n table) i) (at sets i) (word-all sets W i) (T .partial .named i h)
@@ -143,13 +49,13 @@ module _ (sets : List ℕ) (n : ℕ) (table owners : List ℕ) (T : Tables sets 
   owners-few v = let e = ap (λ (f : ℕ → ℕ). f v) owners-at in let l = owner-le (take n table) v in omega (arith, table-long .1, T .room)
 
   -- the search in arrays is the next clause's
-  pub search-is : search-from bound sets (at owners) (begin n) ≡ next-search sets (take n table)
+  pub search-is : search-from search-bound sets (at owners) (begin n) ≡ next-search sets (take n table)
   search-is =
-      ap (λ (f : ℕ → ℕ). search-from bound sets f (begin n)) owners-at
-      ∙ ap (λ (k : ℕ). search-from bound sets (owner (take n table)) (begin k)) (sym (table-long .1))
+      ap (λ (f : ℕ → ℕ). search-from search-bound sets f (begin n)) owners-at
+      ∙ ap (λ (k : ℕ). search-from search-bound sets (owner (take n table)) (begin k)) (sym (table-long .1))
 
-  pub next-ended : Ended sets (take n table) (T .partial) (next-search sets (take n table))
-  next-ended = search-next sets (take n table) (T .partial) W
+  pub next-ended : Ended sets (take n table) (next-search sets (take n table))
+  next-ended = search-next sets (take n table) W
 
   module _ (front : Front) (queue links : List ℕ) (e : search-of front queue links ≡ next-search sets (take n table)) where
     free-is : front .free ≡ next-search sets (take n table) .free
@@ -159,32 +65,32 @@ module _ (sets : List ℕ) (n : ℕ) (table owners : List ℕ) (T : Tables sets 
     links-are = ap (λ (s : Search). s .links) e
 
     -- after a search that found a path
-    pub path-ready : n < 96 → (front .free ≡ 64 → ⊥) → Augments n table owners links (front .free)
+    pub path-ready : n < max-clauses → (front .free ≡ 64 → ⊥) → Augments n table owners links (front .free)
     path-ready l ne =
         let s = next-search sets (take n table) in
-        let R : Reached sets (take n table) (T .partial) s = ⊎-elim (λ S. absurd (ne (free-is ∙ S .none))) (λ R. R) (next-ended .0) in
+        let R : Reached sets (take n table) s = ⊎-elim (λ S. absurd (ne (free-is ∙ S .none))) (λ R. R) (next-ended .0) in
         let owner-none : at owners (s .free) ≡ 0 = ap (λ (f : ℕ → ℕ). f (s .free)) owners-at ∙ free-owner (take n table) (s .free) (R .1 .0 .free) in
         rw (free-is, links-are)
         (augments-of n table owners (s .links) (s .free) (take n table) refl l (T .held) variables-low
         (ap (set owners (s .free)) (sym owner-none) ∙ set-getD owners (s .free) 0 ∙ T .owned)
         (T .partial .distinct) (R .1 .0 .free) (R .0)
-        (path-distance sets (s .links) (take n table) (s .free) (R .1 .0) bound (R .1 .1)))
+        (path-distance sets (s .links) (take n table) (s .free) (R .1 .0) search-bound (R .1 .1)))
 
-    pub augmented-path : (table′ owners′ : List ℕ) → (front .free ≡ 64 → ⊥) → length queue ≡ 96
-        → table′ ≡ padded 96 0 (rematch-from bound links (take n table) (front .free)) → owners′ ≡ owners-of (rematch-from bound links (take n table) (front .free))
+    pub augmented-path : (table′ owners′ : List ℕ) → (front .free ≡ 64 → ⊥) → length queue ≡ max-clauses
+        → table′ ≡ padded max-clauses 0 (rematch-from search-bound links (take n table) (front .free)) → owners′ ≡ owners-of (rematch-from search-bound links (take n table) (front .free))
         → Augmented sets (take n table) front queue table′ owners′
     unfolding augmented
     augmented-path table′ owners′ ne l et eo =
         let s = next-search sets (take n table) in
         let f : eqb (s .free) 64 ≡ false = ne-eqb (s .free) 64 (λ q. ne (free-is ∙ q)) in
-        let r : rematch-from bound links (take n table) (front .free) ≡ rematch-from bound (s .links) (take n table) (s .free) =
+        let r : rematch-from search-bound links (take n table) (front .free) ≡ rematch-from search-bound (s .links) (take n table) (s .free) =
         rw (free-is, links-are) in
         record {
           head = ap (λ (s : Search). s .taken) e;
           free = free-is;
           taken = λ z. absurd (ne z);
           long = l;
-          table-is = rw f (et ∙ ap (padded 96 0) r);
+          table-is = rw f (et ∙ ap (padded max-clauses 0) r);
           owners-are = rw f (eo ∙ ap owners-of r);
         }
 
@@ -194,7 +100,7 @@ module _ (sets : List ℕ) (n : ℕ) (table owners : List ℕ) (T : Tables sets 
     augmented-none z S =
         let s = next-search sets (take n table) in
         let f : eqb (s .free) 64 ≡ true = eq-eqb (s .free) 64 (sym free-is ∙ z) in
-        let stuck : Stuck sets (take n table) (T .partial) s = ⊎-elim (λ S. S) (λ R. absurd (omega (arith, R .0, free-is))) (next-ended .0) in
+        let stuck : Stuck sets (take n table) s = ⊎-elim (λ S. S) (λ R. absurd (omega (arith, R .0, free-is))) (next-ended .0) in
         let q : take (front .tail) queue ≡ s .queue = ap (λ (s : Search). s .queue) e in
         let h : front .head ≡ s .taken = ap (λ (s : Search). s .taken) e in
         let t : length (take (front .tail) queue) ≡ front .tail = length-take-le (front .tail) queue (omega (arith, S .long, sound-tail front queue S)) in
@@ -237,23 +143,21 @@ marks-padded n k (c ∷ l) h low =
 
 -- what is still to be done from here gives the outcome
 pub record Running (sets : List ℕ) (count i : ℕ) (table owners queue : List ℕ) (e : ℕ) : Type 0 where
-  pub order : i ≤ count
   pub tables : Tables sets i table owners
-  pub long : length queue ≡ 96
-  pub small : e ≤ i * 96
+  pub long : length queue ≡ max-clauses
+  pub small : e ≤ i * max-clauses
   pub same : match-rest (count - i) sets (take i table) e ≡ match-rest count sets [] 0
 
-pub running-begin : (sets : List ℕ) (count : ℕ) → Running sets count 0 (replicate 96 0) (replicate 64 0) (replicate 96 0) 0
+pub running-begin : (sets : List ℕ) (count : ℕ) → Running sets count 0 (replicate max-clauses 0) (replicate 64 0) (replicate max-clauses 0) 0
 unfolding owner
 running-begin sets count = record {
-  order = omega arith;
   tables = record {
     room = omega arith;
-    held = sym (padded-none 96 0);
+    held = sym (padded-none max-clauses 0);
     owned = tabulated-of (owner []) 64 (replicate 64 0) 0 (length-replicate {A = ℕ} 64 0) (λ i h. getD-replicate {A = ℕ} 64 i 0 0 h);
     partial = record { named = λ i h. absurd (omega arith); distinct = λ i j h. absurd (omega arith) };
   };
-  long = length-replicate {A = ℕ} 96 0;
+  long = length-replicate {A = ℕ} max-clauses 0;
   small = omega arith;
   same = let z : count - 0 ≡ count = omega arith in rw z;
 }
@@ -278,17 +182,16 @@ module _ (sets : List ℕ) (count i : ℕ) (table owners queue : List ℕ) (e : 
         let m = take i table in
         let s = next-search sets m in
         let E = next-ended sets i table owners T (K .words) in
-        let F : Reached sets m (T .partial) s = ⊎-elim (λ S. absurd (ne (A .free ∙ S .none))) (λ F. F) (E .0) in
-        let n = rematch-from bound (s .links) m (s .free) in
-        let P = rematch-partial sets (s .links) bound m (s .free) (T .partial) (F .1 .0) (F .1 .1) in
+        let F : Reached sets m s = ⊎-elim (λ S. absurd (ne (A .free ∙ S .none))) (λ F. F) (E .0) in
+        let n = rematch-from search-bound (s .links) m (s .free) in
+        let P = rematch-partial sets (s .links) search-bound m (s .free) (T .partial) (F .1 .0) (F .1 .1) in
         let f : eqb (s .free) 64 ≡ false = ne-eqb (s .free) 64 (λ q. ne (A .free ∙ q)) in
-        let t : table′ ≡ padded 96 0 n = A .table-is ∙ rw f in
+        let t : table′ ≡ padded max-clauses 0 n = A .table-is ∙ rw f in
         let o : owners′ ≡ owners-of n = A .owners-are ∙ rw f in
         let k : i + 1 ≡ length n = omega (arith, P .1, m-long) in
-        let h : take (i + 1) table′ ≡ n = rw (t, k) (take-padded 96 0 n) in
+        let h : take (i + 1) table′ ≡ n = rw (t, k) (take-padded max-clauses 0 n) in
         record {
-          order = omega arith;
-          tables = record { room = omega (arith, K .few); held = t ∙ ap (padded 96 0) (sym h); owned = o ∙ ap owners-of (sym h); partial = rw h (P .0) };
+          tables = record { room = omega (arith, K .few); held = t ∙ ap (padded max-clauses 0) (sym h); owned = o ∙ ap owners-of (sym h); partial = rw h (P .0) };
           long = A .long;
           small = omega (arith, R .small, head-le, K .few);
           same = rw (h, A .head) (sym (match-on (count - (i + 1)) sets m e (λ q. ne (A .free ∙ q))) ∙ ap (λ (k : ℕ). match-rest k sets m e) (sym steps) ∙ R .same);
@@ -296,7 +199,7 @@ module _ (sets : List ℕ) (count i : ℕ) (table owners queue : List ℕ) (e : 
 
     -- the search failed
     module _ (z : front .free ≡ 64) where
-      stuck : Stuck sets (take i table) (R .tables .partial) (next-search sets (take i table))
+      stuck : Stuck sets (take i table) (next-search sets (take i table))
       stuck = ⊎-elim (λ S. S) (λ F. absurd (omega (arith, F .0, A .free))) (next-ended sets i table owners (R .tables) (K .words) .0)
 
       taken-is : take (front .head) queue′ ≡ next-search sets (take i table) .queue
@@ -314,20 +217,20 @@ module _ (sets : List ℕ) (count i : ℕ) (table owners queue : List ℕ) (e : 
           (λ p. omega (arith, I .each k p (subst (λ (l : List ℕ). k < length l) taken-is h) .0, m-long))
           (zero-or-pos k))
 
-      pub queue-low : (k : ℕ) → k < front .head → at queue′ k < 96
+      pub queue-low : (k : ℕ) → k < front .head → at queue′ k < max-clauses
       queue-low k h =
           let a = taken-low k (omega (arith, taken-length)) in
-          let b : at (take (front .head) queue′) k < 96 = omega (arith, K .few) in
+          let b : at (take (front .head) queue′) k < max-clauses = omega (arith, K .few) in
           rw (getD-take (front .head) queue′ k 0 h) at b
 
-      pub failed : (record { complete = false; expansions = e + front .head; marked = front .head; table = marks 96 (take (front .head) queue′) }) ≡ packed count (outcome (take count sets))
+      pub failed : (record { complete = false; expansions = e + front .head; marked = front .head; table = marks max-clauses (take (front .head) queue′) }) ≡ packed count (outcome (take count sets))
       unfolding packed
       failed =
           let s = next-search sets (take i table) in
           let q : match-rest count sets [] 0 ≡ failure (take (front .head) queue′) (e + front .head) =
           sym (R .same) ∙ ap (λ (k : ℕ). match-rest k sets (take i table) e) steps ∙ match-fails (count - (i + 1)) sets (take i table) e (sym (A .free) ∙ z)
           ∙ rw (A .taken z, A .head) in
-          rw (outcome-take count sets (K .present), q, taken-length, marks-padded 96 count (take (front .head) queue′) (K .few) taken-low)
+          rw (outcome-take count sets (K .present), q, taken-length, marks-padded max-clauses count (take (front .head) queue′) (K .few) taken-low)
 
 -- all clauses are matched
 pub finished : (sets : List ℕ) (count i : ℕ) (table owners queue : List ℕ) (e : ℕ) → Running sets count i table owners queue e → Clauses sets count → count ≤ i

@@ -1,13 +1,14 @@
 // Matching clauses to variables by breadth-first augmenting search (01: 'Pairing, and the reaches it costs').
 // A clause is the mask of its variables; clauses and variables count from 0.
+use limits::MAX_CLAUSES;
 ghost use mathlib.Core.Path.{_≡_};
 ghost use mathlib.Core.Bool.{false};
 ghost use Prim.Native.Nat.{ℕ, _<_, _≤_};
 ghost use lib.ListN.{length, take};
-ghost use Rattle.lists.specs.Padded.{padded};
+ghost use Rattle.limits.specs.Limits.{max-clauses};
 ghost use Rattle.masks.specs.Mask.{bit, members};
-ghost use Rattle.matching.specs.Search.{see, scan, expand, search-from, begin, rematch, bound, no-links, outcome, marks};
-ghost use Rattle.matching.specs.Inner.{at, search-of, Sound, Owned, Apart, owners-of, Augments, Tables, Augmented};
+ghost use Rattle.matching.specs.Search.{see, scan, expand, search-from, begin, rematch, search-bound, no-links, outcome, marks};
+ghost use Rattle.matching.specs.Inner.{at, search-of, Sound, Holds, Owned, Apart, Augments, Tables, Stored, Augmented};
 ghost use Rattle.matching.specs.Result.{Clauses, packed};
 ghost use Rattle.matching.specs.Matched.{Words};
 
@@ -17,7 +18,7 @@ pub struct Matching {
     pub complete: bool,
     pub expansions: u64,
     pub marked: usize,
-    pub table: [u8; 96],
+    pub table: [u8; MAX_CLAUSES],
 }
 
 // Where a search stands: the seen variables, how many clauses are taken off the queue and how many joined it, and the unmatched
@@ -35,12 +36,11 @@ fn see(
     owners: &[u8; 64],
     clause: u8,
     v: usize,
-    queue: &mut [u8; 96],
+    queue: &mut [u8; MAX_CLAUSES],
     links: &mut [u8; 64],
 ) -> Front
     requires { ⌜ Sound front (now queue) × Owned (now owners) × (v < 64) × (bit (front .seen) v ≡ false) ⌝ }
-    ensures { λ r. ⌜ search-of r (now (queue .exit)) (now (links .exit)) ≡ see (at (now (owners .entry))) clause v (search-of front (now (queue .entry)) (now (links .entry))) ⌝ }
-    ensures { λ r. ⌜ Sound r (now (queue .exit)) ⌝ }
+    ensures { λ r. ⌜ Holds (see (at (now (owners .entry))) clause v (search-of front (now (queue .entry)) (now (links .entry)))) r (now (queue .exit)) (now (links .exit)) ⌝ }
 {
     links[v] = clause;
     let seen = masks::with(front.seen, v);
@@ -69,12 +69,11 @@ fn scan(
     owners: &[u8; 64],
     clause: u8,
     unseen: u64,
-    queue: &mut [u8; 96],
+    queue: &mut [u8; MAX_CLAUSES],
     links: &mut [u8; 64],
 ) -> Front
     requires { ⌜ Sound front (now queue) × Owned (now owners) × (front .free ≡ 64) × Apart unseen (front .seen) ⌝ }
-    ensures { λ r. ⌜ search-of r (now (queue .exit)) (now (links .exit)) ≡ scan (at (now (owners .entry))) clause (members unseen 64) (search-of front (now (queue .entry)) (now (links .entry))) ⌝ }
-    ensures { λ r. ⌜ Sound r (now (queue .exit)) ⌝ }
+    ensures { λ r. ⌜ Holds (scan (at (now (owners .entry))) clause (members unseen 64) (search-of front (now (queue .entry)) (now (links .entry)))) r (now (queue .exit)) (now (links .exit)) ⌝ }
 {
     let mut state = front;
     let mut rest = unseen;
@@ -99,14 +98,13 @@ fn wide(x: u8) -> usize
 // The front clause is taken off the queue and goes through its variables: one expansion.
 fn expand(
     front: Front,
-    sets: &[u64; 96],
+    sets: &[u64; MAX_CLAUSES],
     owners: &[u8; 64],
-    queue: &mut [u8; 96],
+    queue: &mut [u8; MAX_CLAUSES],
     links: &mut [u8; 64],
 ) -> Front
     requires { ⌜ Sound front (now queue) × Owned (now owners) × (front .free ≡ 64) × (front .head < front .tail) ⌝ }
-    ensures { λ r. ⌜ search-of r (now (queue .exit)) (now (links .exit)) ≡ expand (now (sets .entry)) (at (now (owners .entry))) (search-of front (now (queue .entry)) (now (links .entry))) ⌝ }
-    ensures { λ r. ⌜ Sound r (now (queue .exit)) ⌝ }
+    ensures { λ r. ⌜ Holds (expand (now (sets .entry)) (at (now (owners .entry))) (search-of front (now (queue .entry)) (now (links .entry)))) r (now (queue .exit)) (now (links .exit)) ⌝ }
 {
     let head = front.head;
     let clause = queue[head];
@@ -129,15 +127,14 @@ fn expand(
 
 // The search for one clause: until an augmenting path is found or the queue is empty.
 fn find_path(
-    sets: &[u64; 96],
+    sets: &[u64; MAX_CLAUSES],
     owners: &[u8; 64],
     clause: u8,
-    queue: &mut [u8; 96],
+    queue: &mut [u8; MAX_CLAUSES],
     links: &mut [u8; 64],
 ) -> Front
-    requires { ⌜ (length (now queue) ≡ 96) × Owned (now owners) × (clause < 96) × (now links ≡ no-links) ⌝ }
-    ensures { λ r. ⌜ search-of r (now (queue .exit)) (now (links .exit)) ≡ search-from bound (now (sets .entry)) (at (now (owners .entry))) (begin clause) ⌝ }
-    ensures { λ r. ⌜ Sound r (now (queue .exit)) ⌝ }
+    requires { ⌜ (length (now queue) ≡ max-clauses) × Owned (now owners) × (clause < max-clauses) × (now links ≡ no-links) ⌝ }
+    ensures { λ r. ⌜ Holds (search-from search-bound (now (sets .entry)) (at (now (owners .entry))) (begin clause)) r (now (queue .exit)) (now (links .exit)) ⌝ }
 {
     queue[0] = clause;
     let mut front = Front {
@@ -156,10 +153,15 @@ fn find_path(
 }
 
 // Re-matches along the path from v back to the clause, so that the first clauses and this one are matched. Calls itself once a link.
-fn rematch(table: &mut [u8; 96], owners: &mut [u8; 64], links: &[u8; 64], clause: usize, v: usize)
+fn rematch(
+    table: &mut [u8; MAX_CLAUSES],
+    owners: &mut [u8; 64],
+    links: &[u8; 64],
+    clause: usize,
+    v: usize,
+)
     requires { ⌜ Augments clause (now table) (now owners) (now links) v ⌝ }
-    ensures { λ _. ⌜ now (table .exit) ≡ padded 96 0 (rematch (now (links .entry)) (take clause (now (table .entry))) v) ⌝ }
-    ensures { λ _. ⌜ now (owners .exit) ≡ owners-of (rematch (now (links .entry)) (take clause (now (table .entry))) v) ⌝ }
+    ensures { λ _. ⌜ Stored (rematch (now (links .entry)) (take clause (now (table .entry))) v) (now (table .exit)) (now (owners .exit)) ⌝ }
 {
     let c = wide(links[v]);
     let old = wide(table[c]);
@@ -172,13 +174,13 @@ fn rematch(table: &mut [u8; 96], owners: &mut [u8; 64], links: &[u8; 64], clause
 
 // The next clause is matched too, unless its search fails.
 fn augment(
-    sets: &[u64; 96],
+    sets: &[u64; MAX_CLAUSES],
     clause: usize,
-    table: &mut [u8; 96],
+    table: &mut [u8; MAX_CLAUSES],
     owners: &mut [u8; 64],
-    queue: &mut [u8; 96],
+    queue: &mut [u8; MAX_CLAUSES],
 ) -> Front
-    requires { ⌜ Tables (now sets) clause (now table) (now owners) × Words (now sets) × (clause < 96) × (length (now queue) ≡ 96) ⌝ }
+    requires { ⌜ Tables (now sets) clause (now table) (now owners) × Words (now sets) × (clause < max-clauses) × (length (now queue) ≡ max-clauses) ⌝ }
     ensures { λ r. ⌜ Augmented (now (sets .entry)) (take clause (now (table .entry))) r (now (queue .exit)) (now (table .exit)) (now (owners .exit)) ⌝ }
 {
     let mut links = [0u8; 64];
@@ -190,12 +192,12 @@ fn augment(
     front
 }
 
-// One mark for each of 96 clauses: 1 for the first n clauses of the queue, 0 for the others.
-fn mark(queue: &[u8; 96], n: usize) -> [u8; 96]
-    requires { ⌜ (n ≤ 96) × (length (now queue) ≡ 96) × ((i : ℕ) → i < n → at (now queue) i < 96) ⌝ }
-    ensures { λ r. ⌜ r ≡ marks 96 (take n (now (queue .entry))) ⌝ }
+// One mark for each clause that there can be: 1 for the first n clauses of the queue, 0 for the others.
+fn mark(queue: &[u8; MAX_CLAUSES], n: usize) -> [u8; MAX_CLAUSES]
+    requires { ⌜ (n ≤ max-clauses) × (length (now queue) ≡ max-clauses) × ((i : ℕ) → i < n → at (now queue) i < max-clauses) ⌝ }
+    ensures { λ r. ⌜ r ≡ marks max-clauses (take n (now (queue .entry))) ⌝ }
 {
-    let mut table = [0u8; 96];
+    let mut table = [0u8; MAX_CLAUSES];
     let mut i: usize = 0;
     while i < n {
         let clause = wide(queue[i]);
@@ -206,13 +208,13 @@ fn mark(queue: &[u8; 96], n: usize) -> [u8; 96]
 }
 
 // Matches the first `count` clauses in order, each by its search, until all are matched or a search fails.
-pub fn match_sets(sets: &[u64; 96], count: usize) -> Matching
+pub fn match_sets(sets: &[u64; MAX_CLAUSES], count: usize) -> Matching
     requires { ⌜ Clauses (now sets) count ⌝ }
     ensures { λ r. ⌜ r ≡ packed count (outcome (take count (now (sets .entry)))) ⌝ }
 {
-    let mut table = [0u8; 96];
+    let mut table = [0u8; MAX_CLAUSES];
     let mut owners = [0u8; 64];
-    let mut queue = [0u8; 96];
+    let mut queue = [0u8; MAX_CLAUSES];
     let mut expansions: u64 = 0;
     let mut i: usize = 0;
     while i < count {

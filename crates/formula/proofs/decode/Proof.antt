@@ -18,10 +18,11 @@ abbrev μ-loop : tie.MeasureT-loop
 
 -- what is left behind the literals
 passed : (c : tie.After-read-literals Inv-loop μ-loop) → Reads (c .before .before .before .before .before .args .input .now) (c .read-literals .result) (c .before .loop .clauses)
-passed c = c .read-literals .ensures .0 .reads _ (c .before .loop .inv)
+passed c = c .read-literals .ensures .passes .reads _ (c .before .loop .inv)
 
 -- a record after which reading goes on
-turn : (c : tie.After-after Inv-loop μ-loop) → Turn (c .before .before .before .before .before .before .before .before .args .input .now) (c .before .before .before .read-literals .result) (c .before .before .before .before .loop .clauses) (c .after .given .0 .0)
+turn : (c : tie.After-after Inv-loop μ-loop)
+    → (let l = c .before .before .before in Turn (l .before .before .before .before .before .args .input .now) (l .read-literals .result) (l .before .loop .clauses) (c .after .given .0 .0))
 turn c = turn-next (whole _ _ _ (passed (c .before .before .before))) (sym (c .before .before .read-record .ensures) ∙ c .after .given .1)
 
 no-clauses-requires : tie.Need-no-clauses-requires Inv-loop μ-loop
@@ -37,7 +38,7 @@ read-literals-requires : tie.Need-read-literals-requires Inv-loop μ-loop
 read-literals-requires c κs = let w = c .loop .inv in rw (w .is) (w .inside, w .small)
 
 read-record-requires : tie.Need-read-record-requires Inv-loop μ-loop
-read-record-requires c κs = c .read-literals .ensures .0 .small
+read-record-requires c κs = c .read-literals .ensures .passes .small
 
 enum-known-after : tie.Need-enum-known-after Inv-loop μ-loop
 enum-known-after c = search needs
@@ -49,13 +50,13 @@ array-set-from-clauses : tie.Need-array-set-from-clauses Inv-loop μ-loop
 array-set-from-clauses c = turn (c .before .before .before .before .before) .stored (c .before .if1 .taken) .0
 
 loop-less : tie.Need-loop-less Inv-loop μ-loop
-loop-less c = omega (arith, turn (c .before .before .before .before .before), c .before .before .before .before .before .before .before .before .read-literals .ensures .0 .forward)
+loop-less c = let a = c .before .before .before .before .before in omega (arith, turn a, a .before .before .before .read-literals .ensures .passes .forward)
 
 loop-again : tie.Need-loop-again Inv-loop μ-loop
 loop-again c = turn (c .before .before .before .before .before) .stored (c .before .if1 .taken) .1
 
 loop-less-2 : tie.Need-loop-less-2 Inv-loop μ-loop
-loop-less-2 c = omega (arith, turn (c .before .before .before .before), c .before .before .before .before .before .before .before .read-literals .ensures .0 .forward)
+loop-less-2 c = let a = c .before .before .before .before in omega (arith, turn a, a .before .before .before .read-literals .ensures .passes .forward)
 
 loop-again-2 : tie.Need-loop-again-2 Inv-loop μ-loop
 loop-again-2 c = turn (c .before .before .before .before) .kept (c .if1 .left)

@@ -1,32 +1,31 @@
 -- `is_literal`: each return by the tests that led to it.
 use mathlib.Core.Bool.{true, _||_}
-use mathlib.Core.Logic.{⊎-elim}
 use mathlib.Core.Path.{_≡_}
 use Prim.Native.Nat.{_+_, _<_, _≤_}
 use native.Mathlib.Omega.{arith}
 use lib.Dec.{eqb}
 use lib.ListN.{length, getD}
-use borrow.Author.Tests.{eq-eqb, ne-eqb, lt-ltb, le-ltb}
-use Rattle.lists.proofs.TestLaws.{or-right}
+use borrow.Author.Tests.{lt-ltb, le-ltb}
+use Rattle.formula.proofs.KindLaws.{among-literal-kinds, below-literal-kinds, above-literal-kinds}
 use Rattle.formula.proofs.OneTo.{one-to-zero, one-to-above, one-to-within}
 use borrow.Author.Needs.{needs}
 use Rattle.formula.proofs.is_literal.Statement.{statement}
 use Rattle.formula.proofs.is_literal.Tie as tie
 
--- the tests before that of the variable's number
-abbrev entry : tie.Joined3 → tie.Start
-entry j = j .before .before .before .before .before
+-- the tests before that of the kind
+module _ (k : tie.After-shared-slice-known2) where
+  abbrev entry : tie.Start
+  entry = k .before .before .before .before
 
-past : (j : tie.Joined3) → 0 < entry j .args .r .at
-past j = omega (arith, j .before .before .before .if1 .left)
+  past : 0 < entry .args .r .at
+  past = omega (arith, k .before .before .if1 .left)
 
-inside : (j : tie.Joined3) → entry j .args .r .at + 1 < length (entry j .args .input .now)
-inside j = omega (arith, j .before .before .if2 .left)
+  inside : entry .args .r .at + 1 < length (entry .args .input .now)
+  inside = omega (arith, k .before .if2 .left)
 
-signed : (j : tie.Joined3) → (let k = getD (entry j .args .input .now) (entry j .args .r .at) 0 in eqb k 2 || eqb k 3 ≡ true)
-signed j =
-    let k = getD (entry j .args .input .now) (entry j .args .r .at) 0 in
-    ⊎-elim (λ w. or-right (eqb k 2) (eqb k 3) (eq-eqb k 3 (w .1 .left))) (λ w. rw (eq-eqb k 2 (w .left))) (j .if3 .came)
+-- the literal's kind
+signed : (m : tie.Then4) → (let a = entry (m .before .before) .args in let k = getD (a .input .now) (a .r .at) 0 in eqb k 2 || eqb k 3 ≡ true)
+signed m = among-literal-kinds _ (m .before .if3 .left) (m .if4 .taken)
 
 returns : tie.Need-returns
 returns c =
@@ -49,10 +48,15 @@ shared-slice-read-kind c = search needs
 
 returns-3 : tie.Need-returns-3
 returns-3 c =
-    let a = c .before .before .before .before .before .before .args in
-    let p : 0 < a .r .at = omega (arith, c .before .before .before .before .if1 .left) in
-    let q : a .r .at + 1 < length (a .input .now) = omega (arith, c .before .before .before .if2 .left) in
-    rw (lt-ltb 0 (a .r .at) p, lt-ltb (a .r .at + 1) (length (a .input .now)) q, ne-eqb _ 2 (c .before .if3 .taken), ne-eqb _ 3 (c .if4 .taken))
+    let k = c .before in
+    let a = entry k .args in
+    rw (lt-ltb 0 (a .r .at) (past k), lt-ltb (a .r .at + 1) (length (a .input .now)) (inside k), below-literal-kinds _ (c .if3 .taken))
+
+returns-4 : tie.Need-returns-4
+returns-4 c =
+    let k = c .before .before in
+    let a = entry k .args in
+    rw (lt-ltb 0 (a .r .at) (past k), lt-ltb (a .r .at + 1) (length (a .input .now)) (inside k), above-literal-kinds _ (c .if4 .left))
 
 add-b : tie.Need-add-b
 add-b c = search needs
@@ -60,17 +64,19 @@ add-b c = search needs
 shared-slice-read-b : tie.Need-shared-slice-read-b
 shared-slice-read-b c = search needs
 
-returns-4 : tie.Need-returns-4
-returns-4 c =
-    let j = c .before .before in
-    let a = entry j .args in
-    rw (lt-ltb 0 (a .r .at) (past j), lt-ltb (a .r .at + 1) (length (a .input .now)) (inside j), signed j, one-to-zero _ _ (c .if5 .taken))
-
 returns-5 : tie.Need-returns-5
 returns-5 c =
-    let j = c .before .before .before .before in
-    let a = entry j .args in
-    rw (lt-ltb 0 (a .r .at) (past j), lt-ltb (a .r .at + 1) (length (a .input .now)) (inside j), signed j, one-to-above _ _ (c .if6 .taken))
+    let m = c .before .before in
+    let k = m .before .before in
+    let a = entry k .args in
+    rw (lt-ltb 0 (a .r .at) (past k), lt-ltb (a .r .at + 1) (length (a .input .now)) (inside k), signed m, one-to-zero _ _ (c .if5 .taken))
+
+returns-6 : tie.Need-returns-6
+returns-6 c =
+    let m = c .before .before .before .before in
+    let k = m .before .before in
+    let a = entry k .args in
+    rw (lt-ltb 0 (a .r .at) (past k), lt-ltb (a .r .at + 1) (length (a .input .now)) (inside k), signed m, one-to-above _ _ (c .if6 .taken))
 
 wide-requires : tie.Need-wide-requires
 wide-requires c κs = search needs
@@ -81,15 +87,17 @@ sub-member c = search needs
 member-requires : tie.Need-member-requires
 member-requires c κs = search needs
 
-returns-6 : tie.Need-returns-6
-returns-6 c =
-    let j = c .before .before .before .before .before .before .before .before in
-    let a = entry j .args in
+returns-7 : tie.Need-returns-7
+returns-7 c =
+    let e = c .before .before .before .before in
+    let m = e .before .before .before .before in
+    let k = m .before .before in
+    let a = entry k .args in
     rw (
-      lt-ltb 0 (a .r .at) (past j),
-      lt-ltb (a .r .at + 1) (length (a .input .now)) (inside j),
-      signed j,
-      one-to-within _ _ (c .before .before .before .before .before .before .if5 .left) (c .before .before .before .before .if6 .left),
+      lt-ltb 0 (a .r .at) (past k),
+      lt-ltb (a .r .at + 1) (length (a .input .now)) (inside k),
+      signed m,
+      one-to-within _ _ (e .before .before .if5 .left) (e .if6 .left),
       c .member .ensures,
       c .before .wide .ensures,
     )
@@ -103,11 +111,12 @@ is-literal-spec =
     returns-2
     shared-slice-read-kind
     returns-3
+    returns-4
     add-b
     shared-slice-read-b
-    returns-4
     returns-5
+    returns-6
     wide-requires
     sub-member
     member-requires
-    returns-6)
+    returns-7)

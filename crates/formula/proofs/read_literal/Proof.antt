@@ -30,7 +30,9 @@ returns-3 c = simp (ne-eqb _ _ (c .before .before .before .if1 .left), lt-ltb _ 
 
 returns-4 : tie.Need-returns-4
 unfolding literal-event
-returns-4 c = simp (ne-eqb _ _ (c .before .before .before .before .before .if1 .left), lt-ltb _ _ (c .before .before .before .before .if2 .left), one-to-above (c .before .before .before .before .before .before .before .args .r .variables) _ (c .if4 .taken))
+returns-4 c =
+    let o = c .before .before .before .before in
+    simp (ne-eqb _ _ (o .before .if1 .left), lt-ltb _ _ (o .if2 .left), one-to-above (o .before .before .before .args .r .variables) _ (c .if4 .taken))
 
 wide-requires : tie.Need-wide-requires
 wide-requires c κs = search needs

@@ -44,7 +44,7 @@ loop-again : tie.Need-loop-again Inv-loop μ-loop
 loop-again c = rw (c .take-literal .ensures) (passes-more _ _ _ (c .before .before .before .loop .inv) (here (c .before)))
 
 returns : tie.Need-returns Inv-loop μ-loop
-returns c = (c .before .before .loop .inv, sym (c .before .is-literal .ensures) ∙ c .if1 .left)
+returns c = record { passes = c .before .before .loop .inv; last = sym (c .before .is-literal .ensures) ∙ c .if1 .left }
 
 pub read-literals-spec : {M : Type 1} → statement M
 read-literals-spec =

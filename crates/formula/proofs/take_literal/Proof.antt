@@ -18,14 +18,17 @@ wide-requires c κs = search needs
 sub-add-literal : tie.Need-sub-add-literal
 sub-add-literal c = search needs
 
-shared-slice-read-add-literal : tie.Need-shared-slice-read-add-literal
-shared-slice-read-add-literal c = search needs
+shared-slice-read-is-positive : tie.Need-shared-slice-read-is-positive
+shared-slice-read-is-positive c = search needs
+
+is-positive-requires : tie.Need-is-positive-requires
+is-positive-requires c κs = search needs
 
 add-literal-requires : tie.Need-add-literal-requires
 add-literal-requires c κs = search needs
 
 returns : tie.Need-returns
-returns c = rw (c .add-literal .ensures, c .before .before .wide .ensures)
+returns c = rw (c .add-literal .ensures, c .before .is-positive .ensures, c .before .before .before .wide .ensures)
 
 pub take-literal-spec : {M : Type 1} → statement M
 take-literal-spec =
@@ -36,6 +39,7 @@ take-literal-spec =
     shared-slice-read-wide
     wide-requires
     sub-add-literal
-    shared-slice-read-add-literal
+    shared-slice-read-is-positive
+    is-positive-requires
     add-literal-requires
     returns)
