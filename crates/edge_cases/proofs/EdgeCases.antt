@@ -23,7 +23,8 @@ use Rattle.walk.specs.Checkpoints.{start}
 use Rattle.walk.specs.PlainMachine.{Answer, found, spent, ended, Call, go-on, plain-call, plain-calls}
 use Rattle.walk.specs.WalkCall.{answered, walk-call}
 use Rattle.walk.proofs.Demands as demands
-use Rattle.printing.specs.Printed.{switches-word, rules-word, end-word, decimal-within, decimal, walk-lines, printed}
+use Rattle.writing.specs.Text.{decimal-within, decimal}
+use Rattle.printing.specs.Printed.{switches-word, rules-word, end-word, walk-lines, printed}
 
 -- 01's switch s, named as on or as off
 abbrev on : ℕ → Literal

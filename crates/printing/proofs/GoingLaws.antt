@@ -11,10 +11,10 @@ use Rattle.enumeration.specs.declared.Run.{Run}
 use Rattle.enumeration.specs.declared.State.{State}
 use Rattle.enumeration.specs.InnerState.{position-at, position-in, Holds, Ran, kind-of-answer, model-of-answer}
 use Rattle.enumeration.specs.InnerRead.{Node}
-use Rattle.printing.specs.Placed.{Room, Wrote}
+use Rattle.writing.specs.Placed.{Room, Wrote}
 use Rattle.printing.specs.Printed.{model-line, end-line, more-line, call-lines}
 use Rattle.printing.specs.InnerLines.{lines-from}
-use Rattle.printing.proofs.PlacedLaws.{placed-none, wrote-more}
+use Rattle.writing.proofs.PlacedLaws.{placed-none, wrote-more}
 
 -- the lines so far are written, and the others go on from s, with room for `left` models more
 pub record Going (K : Tree) (n at : ℕ) (before now : List ℕ) (s : State) (next left : ℕ) : Type 0 where

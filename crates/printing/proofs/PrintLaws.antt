@@ -5,7 +5,7 @@ use mathlib.Core.List.{List, _++_, map}
 use mathlib.Core.Path.{_≡_, refl, sym, ap, _∙_}
 use native.Mathlib.Omega.{arith}
 use lib.Dec.{ltb}
-use lib.ListN.{length, length-append}
+use lib.ListN.{length}
 use borrow.Author.Tests.{ltb-false, lt-ltb, le-ltb}
 use Rattle.lists.specs.Over.{over}
 use Rattle.lists.proofs.OverLaws.{over-length}
@@ -27,11 +27,10 @@ use Rattle.walk.specs.InnerStack.{empty, tree}
 use Rattle.walk.specs.InnerMachine.{down}
 use Rattle.enumeration.specs.InnerState.{Follows}
 use Rattle.enumeration.proofs.WalkLaws.{packed-is, succeeds-is, complete-follows}
-use Rattle.printing.specs.Placed.{Room, Wrote}
+use Rattle.writing.specs.Placed.{Wrote}
 use Rattle.printing.specs.Printed.{header, refusal-line, walk-lines, outcome-lines, decoding-lines, printed}
 use Rattle.printing.specs.InnerLines.{lines-from, Reads}
 use Rattle.printing.specs.Printing.{Printing, unwritten, printing}
-use Rattle.printing.proofs.PlacedLaws.{wrote-length}
 use Rattle.printing.proofs.PrintedLaws.{printed-length}
 use Rattle.printing.proofs.WalkLinesLaws.{lines-resumed}
 
@@ -90,20 +89,6 @@ module _ (s : List ℕ) (f : Formula) (R : Reads s f) where
         printed-outcome
         ∙ failure-lines (R .variables) (f .count) (R .clauses) o (sym (ap (λ (x : Matching). x .complete) p) ∙ t)
         ∙ ap (λ (x : Matching). refusal-line (Unmatched (x .marked))) (sym p)
-
--- ---- room
-
--- for the first part of a list
-pub room-front : (xs ys ws b : List ℕ) → ws ≡ xs ++ ys → Room 0 ws b → Room 0 xs b
-room-front xs ys ws b e h = let l = ap length e ∙ length-append xs ys in omega arith
-
--- and for the part behind it
-pub room-behind : (xs ys ws b c : List ℕ) (p : ℕ) → ws ≡ xs ++ ys → Room 0 ws b → Wrote xs 0 b c p → Room p ys c
-room-behind xs ys ws b c p e h w =
-    let l = ap length e ∙ length-append xs ys in
-    let n = w .next in
-    let k = wrote-length (room-front xs ys ws b e h) w in
-    omega arith
 
 -- ---- the act
 

@@ -10,7 +10,7 @@ use Rattle.formula.specs.Decode.{readable, decode}
 use Rattle.formula.specs.Format.{Literal}
 use Rattle.formula.specs.Masked.{formula-of}
 use Rattle.enumeration.specs.InnerState.{Follows}
-use Rattle.printing.specs.Placed.{Room}
+use Rattle.writing.specs.Placed.{Room}
 use Rattle.printing.specs.Printed.{model-line, end-line, more-line, call-lines, printed}
 
 module _ (K : Tree) (n : ℕ) where

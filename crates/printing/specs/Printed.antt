@@ -1,11 +1,7 @@
 -- 01, 'The printed walk': what the program prints for an input, byte for byte. Words are lists of ASCII bytes.
-use Prim.Native.Nat.{ℕ, zero, suc, _+_, _/_, _%_}
-use mathlib.Core.Bool.{cond}
+use Prim.Native.Nat.{ℕ, zero, suc}
 use mathlib.Core.List.{List, [], _∷_, _++_, map}
-use lib.Dec.{ltb}
 use lib.ListN.{length}
-use Rattle.lists.specs.Tabulated.{tabulated}
-use Rattle.masks.specs.Mask.{bit}
 use Rattle.formula.specs.declared.Refusal.{Refusal}
 use Rattle.formula.specs.declared.Refusal.the-variants.{Unmatched}
 use Rattle.formula.specs.Decode.{Decoding, readable, refused, decode}
@@ -13,6 +9,7 @@ use Rattle.formula.specs.Format.{Literal}
 use Rattle.formula.specs.Masked.{variables}
 use Rattle.formula.specs.Refusals.{listing}
 use Rattle.matching.specs.Search.{Outcome, success, failure, outcome}
+use Rattle.writing.specs.Text.{decimal, digits, line-of}
 use Rattle.walk.specs.PlainMachine.{Answer, found, spent, ended, plain-call}
 
 -- the words `switches`, `rules`, `end`, `more`, `refused`
@@ -30,28 +27,6 @@ more-word = 109 ∷ 111 ∷ 114 ∷ 101 ∷ []
 
 abbrev pub refused-word : List ℕ
 refused-word = 114 ∷ 101 ∷ 102 ∷ 117 ∷ 115 ∷ 101 ∷ 100 ∷ []
-
--- The digits of x, of which there are at most k: x itself if it is one digit, else the digits of x / 10 and then the last one.
-unfoldable pub decimal-within : ℕ → ℕ → List ℕ
-decimal-within zero x = []
-decimal-within (suc k) x = cond (ltb x 10) ((48 + x) ∷ []) (decimal-within k (x / 10) ++ ((48 + (x % 10)) ∷ []))
-
--- a number in decimal, without leading zeros: x has at most x + 1 digits
-unfoldable pub decimal : ℕ → List ℕ
-decimal x = decimal-within (suc x) x
-
--- 'n digits, switch 1 first': 1 if it is on, 0 if it is off
-abbrev pub digit : ℕ → ℕ → ℕ
-digit a i = cond (bit a i) 49 48
-
-abbrev pub digits : ℕ → ℕ → List ℕ
-digits n a = tabulated (digit a) n
-
--- 'One blank between words, and each line ends with a line feed (0A).'
-abbrev pub line-of : List (List ℕ) → List ℕ
-line-of [] = 10 ∷ []
-line-of (w ∷ []) = w ++ (10 ∷ [])
-line-of (w ∷ v ∷ ws) = w ++ (32 ∷ line-of (v ∷ ws))
 
 -- 'First line: `switches`, n, `rules`, m.'
 abbrev pub header : ℕ → ℕ → List ℕ

@@ -6,7 +6,7 @@ use Prim.Native.Nat.{ℕ, _≤_}
 use lib.ListN.{length}
 use borrow.Author.Needs.{needs}
 use Rattle.formula.proofs.MaskedLaws.{decoded-accepted, decoded-refused}
-use Rattle.printing.specs.Placed.{Room}
+use Rattle.writing.specs.Placed.{Room}
 use Rattle.printing.specs.Printed.{printed}
 use Rattle.printing.proofs.PrintedLaws.{printed-length}
 use Rattle.printing.proofs.PrintLaws.{refused-prints, accepts-reads, print-short, print-long, print-written}

@@ -6,11 +6,11 @@ use Prim.Native.Nat.{ℕ}
 use borrow.Author.Needs.{needs}
 use Rattle.walk.specs.InnerStack.{empty, tree}
 use Rattle.walk.specs.InnerMachine.{down}
-use Rattle.printing.specs.Placed.{Room}
+use Rattle.writing.specs.Placed.{Room}
 use Rattle.printing.specs.Printed.{header}
 use Rattle.printing.specs.InnerLines.{lines-from}
-use Rattle.printing.proofs.PlacedLaws.{wrote-more}
-use Rattle.printing.proofs.PrintLaws.{reads-fits, matched-follows, matched-prints, unmatched-prints, room-front, room-behind}
+use Rattle.writing.proofs.PlacedLaws.{wrote-more, room-front, room-behind}
+use Rattle.printing.proofs.PrintLaws.{reads-fits, matched-follows, matched-prints, unmatched-prints}
 use Rattle.printing.proofs.put_formula.Statement.{statement}
 use Rattle.printing.proofs.put_formula.Tie as tie
 
@@ -22,7 +22,7 @@ put-header-requires c κs =
     let b = c .before .before .before .before in
     let w = b .pre in
     let f = b .args .f in
-    room-front (header (f .variables) (f .count)) (lines-from (tree (w .reads .variables) (w .reads .clauses)) (f .variables) 1000 (down empty)) _ (b .args .buffer .now)
+    room-front 0 (header (f .variables) (f .count)) (lines-from (tree (w .reads .variables) (w .reads .clauses)) (f .variables) 1000 (down empty)) _ (b .args .buffer .now)
     (matched-prints _ _ (w .reads) _ (c .before .before .match-formula .ensures) (c .before .if1 .taken)) (w .room)
 
 put-walk-requires : tie.Need-put-walk-requires
@@ -34,7 +34,7 @@ put-walk-requires c κs =
       record {
         tree = tree (w .reads .variables) (w .reads .clauses);
         follows = matched-follows _ _ (w .reads) _ e t;
-        room = room-behind _ _ _ _ _ _ (matched-prints _ _ (w .reads) _ e t) (w .room) (c .before .before .before .put-header .ensures);
+        room = room-behind 0 _ _ _ _ _ _ (matched-prints _ _ (w .reads) _ e t) (w .room) (c .before .before .before .put-header .ensures);
       },
     )
 

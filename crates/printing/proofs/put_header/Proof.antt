@@ -4,7 +4,7 @@ use Prim.Native.Nat.{_≤_}
 use mathlib.Core.List.{append-assoc}
 use lib.ListN.{length}
 use Rattle.printing.proofs.LineLaws.{header-sum}
-use Rattle.printing.proofs.PlacedLaws.{wrote-more}
+use Rattle.writing.proofs.PlacedLaws.{wrote-more}
 use borrow.Author.Needs.{needs}
 use Rattle.printing.proofs.put_header.Statement.{statement}
 use Rattle.printing.proofs.put_header.Tie as tie

@@ -3,9 +3,9 @@ use native.Mathlib.Omega.{arith}
 use Prim.Native.Nat.{_≤_}
 use mathlib.Core.List.{append-assoc}
 use lib.ListN.{length}
-use Rattle.printing.specs.Printed.{digit}
+use Rattle.writing.specs.Text.{digit}
 use Rattle.printing.proofs.LineLaws.{model-line-sum}
-use Rattle.printing.proofs.PlacedLaws.{wrote-more}
+use Rattle.writing.proofs.PlacedLaws.{wrote-more}
 use Rattle.lists.proofs.TabulatedLaws.{length-tabulated}
 use borrow.Author.Needs.{needs}
 use Rattle.printing.proofs.put_model_line.Statement.{statement}

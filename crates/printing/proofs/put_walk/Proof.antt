@@ -8,11 +8,11 @@ use lib.ListN.{length}
 use Rattle.walk.specs.InnerStack.{Tree}
 use Rattle.walk.specs.InnerMachine.{resume}
 use Rattle.enumeration.specs.InnerState.{position-in, Follows, Ran}
-use Rattle.printing.specs.Placed.{Room}
+use Rattle.writing.specs.Placed.{Room}
 use Rattle.printing.specs.Printed.{model-line, end-line, more-line}
 use Rattle.printing.specs.InnerLines.{lines-from}
 use Rattle.printing.proofs.GoingLaws.{Going, going-first, lines-model, lines-end, lines-spent, lines-more, going-room, going-more, going-last, going-stop}
-use Rattle.printing.proofs.PlacedLaws.{wrote-length}
+use Rattle.writing.proofs.PlacedLaws.{wrote-length}
 use Rattle.printing.proofs.put_walk.Statement.{statement}
 use Rattle.printing.proofs.put_walk.Tie as tie
 

@@ -1,13 +1,13 @@
--- `printing::put_numbers` meets its contract: one writer behind the other.
+-- `writing::put_numbers` meets its contract: one writer behind the other.
 use native.Mathlib.Omega.{arith}
 use Prim.Native.Nat.{_≤_}
 use mathlib.Core.List.{append-assoc}
 use lib.ListN.{length}
-use Rattle.printing.proofs.LineLaws.{numbers-sum}
-use Rattle.printing.proofs.PlacedLaws.{wrote-more}
+use Rattle.writing.proofs.LineLaws.{numbers-sum}
+use Rattle.writing.proofs.PlacedLaws.{wrote-more}
 use borrow.Author.Needs.{needs}
-use Rattle.printing.proofs.put_numbers.Statement.{statement}
-use Rattle.printing.proofs.put_numbers.Tie as tie
+use Rattle.writing.proofs.put_numbers.Statement.{statement}
+use Rattle.writing.proofs.put_numbers.Tie as tie
 
 put-decimal-requires : tie.Need-put-decimal-requires
 put-decimal-requires c κs =

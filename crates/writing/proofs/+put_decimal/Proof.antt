@@ -1,21 +1,21 @@
--- `printing::put_decimal` meets its contract. Its measure is the number.
+-- `writing::put_decimal` meets its contract. Its measure is the number.
 use borrow.Author.Needs.{needs}
 use native.Mathlib.Omega.{arith}
 use mathlib.Core.Path.{ap}
 use lib.ListN.{length}
-use Rattle.printing.specs.Placed.{Room}
-use Rattle.printing.specs.Printed.{decimal}
-use Rattle.printing.proofs.DecimalLaws.{smaller, decimal-one, decimal-more, more-length}
-use Rattle.printing.proofs.PlacedLaws.{wrote-length, wrote-more}
+use Rattle.writing.specs.Placed.{Room}
+use Rattle.writing.specs.Text.{decimal}
+use Rattle.writing.proofs.DecimalLaws.{smaller, decimal-one, decimal-more, more-length}
+use Rattle.writing.proofs.PlacedLaws.{wrote-length, wrote-more}
 use Prim.Native.Nat.{ℕ, _/_, _<_, _≤_}
 use borrow.Fn.Kinds.{In}
 use borrow.Fn.PlainCycle.{Measures, is, falls, and}
-use Rattle.printing.proofs.put_decimal.Reads as put-decimal
-use Rattle.printing.proofs.put_decimal.Kinds as put-decimal-kinds
-use Rattle.printing.proofs.+put_decimal.Lts-put_decimal as put-decimal-lts
-use Rattle.printing.proofs.put_byte.Reads as put-byte-reads
-use Rattle.printing.proofs.+put_decimal.{statement}
-use Rattle.printing.proofs.+put_decimal.Tie.{close}
+use Rattle.writing.proofs.put_decimal.Reads as put-decimal
+use Rattle.writing.proofs.put_decimal.Kinds as put-decimal-kinds
+use Rattle.writing.proofs.+put_decimal.Lts-put_decimal as put-decimal-lts
+use Rattle.writing.proofs.put_byte.Reads as put-byte-reads
+use Rattle.writing.proofs.+put_decimal.{statement}
+use Rattle.writing.proofs.+put_decimal.Tie.{close}
 
 abbrev μ-put-decimal : Measures 1 put-decimal-kinds.ps ℕ
 μ-put-decimal κs a = a .0

@@ -1,4 +1,4 @@
--- `printing::put_word` meets its contract. The loop's invariant: the first i bytes are written.
+-- `writing::put_word` meets its contract. The loop's invariant: the first i bytes are written.
 use borrow.Author.Needs.{needs}
 use Prim.Native.Nat.{ℕ, _-_, _≤_}
 use native.Mathlib.Omega.{arith}
@@ -6,10 +6,10 @@ use mathlib.Core.Path.{_≡_, refl, ap, _∙_}
 use mathlib.Core.List.{List}
 use lib.ListN.{length, take, length-set}
 use lib.Seq.{take-length}
-use Rattle.printing.specs.Placed.{placed}
-use Rattle.printing.proofs.PlacedLaws.{placed-none, word-next}
-use Rattle.printing.proofs.put_word.Statement.{statement}
-use Rattle.printing.proofs.put_word.Tie as tie
+use Rattle.writing.specs.Placed.{placed}
+use Rattle.writing.proofs.PlacedLaws.{placed-none, word-next}
+use Rattle.writing.proofs.put_word.Statement.{statement}
+use Rattle.writing.proofs.put_word.Tie as tie
 
 abbrev Inv-loop : tie.InvT-loop
 Inv-loop word buffer₀ at i₀ buffer i = (i ≤ length word) × (length buffer ≡ length buffer₀) × (buffer ≡ placed at (take i word) buffer₀)

@@ -8,7 +8,7 @@ use lib.ListN.{length, take, drop, getD, set, take-append-drop, length-append, l
 use lib.Seq.{length-take-le, take-suc, set-split, take-at, drop-append-add, drop-drop}
 use Rattle.lists.specs.Tabulated.{tabulated}
 use Rattle.lists.proofs.TabulatedLaws.{length-tabulated, tabulated-more}
-use Rattle.printing.specs.Placed.{placed, Room, Wrote}
+use Rattle.writing.specs.Placed.{placed, Room, Wrote}
 
 module _ {A : Type 0} where
   -- the length stays
@@ -80,3 +80,17 @@ wrote-more {xs} {ys} {at} {p} {r} {b} {c} {d} h v w =
       buffer = w .buffer ∙ ap (λ (t : ℕ). placed t ys c) (v .next) ∙ ap (placed (at + length xs) ys) (v .buffer) ∙ placed-placed at xs ys b h;
       next = (let l = length-append xs ys in let m = v .next in let n = w .next in omega arith);
     }
+
+-- ---- room
+
+-- for the first part of a list
+pub room-front : (at : ℕ) (xs ys ws b : List ℕ) → ws ≡ xs ++ ys → Room at ws b → Room at xs b
+room-front at xs ys ws b e h = let l = ap length e ∙ length-append xs ys in omega arith
+
+-- and for the part behind it
+pub room-behind : (at : ℕ) (xs ys ws b c : List ℕ) (p : ℕ) → ws ≡ xs ++ ys → Room at ws b → Wrote xs at b c p → Room p ys c
+room-behind at xs ys ws b c p e h w =
+    let l = ap length e ∙ length-append xs ys in
+    let n = w .next in
+    let k = wrote-length (room-front at xs ys ws b e h) w in
+    omega arith

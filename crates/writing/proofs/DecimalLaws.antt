@@ -8,7 +8,7 @@ use native.Mathlib.Omega.{arith}
 use lib.Dec.{ltb}
 use lib.ListN.{length, getD, length-append, List·getD-append}
 use borrow.Author.Tests.{ltb-false, lt-ltb, le-ltb}
-use Rattle.printing.specs.Printed.{decimal-within, decimal}
+use Rattle.writing.specs.Text.{digit-zero, digit-one, decimal-within, decimal}
 
 -- a number below 10 ^ (k + 1) that has two digits or more: without its last digit it is below 10 ^ k, and smaller
 shorter : (k x : ℕ) → x < 10 ^ suc k → x / 10 < 10 ^ k
@@ -26,7 +26,7 @@ within-some : (k x : ℕ) → 1 ≤ length (decimal-within (suc k) x)
 unfolding decimal-within
 within-some k x = go (ltb x 10)
   where
-    go : (b : Bool) → 1 ≤ length (cond b ((48 + x) ∷ []) (decimal-within k (x / 10) ++ ((48 + (x % 10)) ∷ [])))
+    go : (b : Bool) → 1 ≤ length (cond b ((digit-zero + x) ∷ []) (decimal-within k (x / 10) ++ ((digit-zero + (x % 10)) ∷ [])))
     go true = omega arith
     go false = simp length-append (omega arith)
 
@@ -36,7 +36,7 @@ unfolding decimal-within
 within-length zero x = omega arith
 within-length (suc k) x = go (within-length k (x / 10)) (ltb x 10)
   where
-    go : length (decimal-within k (x / 10)) ≤ k → (b : Bool) → length (cond b ((48 + x) ∷ []) (decimal-within k (x / 10) ++ ((48 + (x % 10)) ∷ []))) ≤ suc k
+    go : length (decimal-within k (x / 10)) ≤ k → (b : Bool) → length (cond b ((digit-zero + x) ∷ []) (decimal-within k (x / 10) ++ ((digit-zero + (x % 10)) ∷ []))) ≤ suc k
     go h true = omega arith
     go h false = simp length-append (omega arith)
 
@@ -48,10 +48,10 @@ within-same (suc k) zero x h l = let t : x < 10 = omega arith in rw (lt-ltb x 10
 within-same (suc k) (suc j) x h l = go (ltb x 10) refl (λ t. within-same k j (x / 10) (shorter (suc k) x h) (let s = smaller x t in omega arith))
   where
     go : (b : Bool) → ltb x 10 ≡ b → (10 ≤ x → decimal-within (suc k) (x / 10) ≡ decimal-within (suc j) (x / 10))
-        → cond b ((48 + x) ∷ []) (decimal-within (suc k) (x / 10) ++ ((48 + (x % 10)) ∷ []))
-        ≡ cond b ((48 + x) ∷ []) (decimal-within (suc j) (x / 10) ++ ((48 + (x % 10)) ∷ []))
+        → cond b ((digit-zero + x) ∷ []) (decimal-within (suc k) (x / 10) ++ ((digit-zero + (x % 10)) ∷ []))
+        ≡ cond b ((digit-zero + x) ∷ []) (decimal-within (suc j) (x / 10) ++ ((digit-zero + (x % 10)) ∷ []))
     go true e f = refl
-    go false e f = ap (λ (d : List ℕ). d ++ ((48 + (x % 10)) ∷ [])) (f (ltb-false x 10 e))
+    go false e f = ap (λ (d : List ℕ). d ++ ((digit-zero + (x % 10)) ∷ [])) (f (ltb-false x 10 e))
 
 -- a number below 10 ^ k has at most k digits
 pub decimal-length : (k x : ℕ) → x < 10 ^ suc k → length (decimal x) ≤ suc k
@@ -59,12 +59,12 @@ unfolding decimal
 decimal-length k x h = rw (← within-same k x x h (omega arith)) (within-length (suc k) x)
 
 -- one digit
-pub decimal-one : (x : ℕ) → x < 10 → decimal x ≡ (48 + x) ∷ []
+pub decimal-one : (x : ℕ) → x < 10 → decimal x ≡ (digit-zero + x) ∷ []
 unfolding decimal decimal-within
 decimal-one x h = rw (lt-ltb x 10 h)
 
 -- the digits of x / 10, and then the last one
-pub decimal-more : (x : ℕ) → 10 ≤ x → decimal x ≡ decimal (x / 10) ++ ((48 + (x % 10)) ∷ [])
+pub decimal-more : (x : ℕ) → 10 ≤ x → decimal x ≡ decimal (x / 10) ++ ((digit-zero + (x % 10)) ∷ [])
 unfolding decimal decimal-within
 decimal-more zero h = absurd (omega arith)
 decimal-more (suc y) h =
@@ -73,18 +73,18 @@ decimal-more (suc y) h =
 
 -- one digit more
 pub more-length : (x : ℕ) → 10 ≤ x → length (decimal x) ≡ length (decimal (x / 10)) + 1
-more-length x h = ap length (decimal-more x h) ∙ length-append (decimal (x / 10)) ((48 + (x % 10)) ∷ [])
+more-length x h = ap length (decimal-more x h) ∙ length-append (decimal (x / 10)) ((digit-zero + (x % 10)) ∷ [])
 
 -- ---- the digits tell the number, and the first is not 0
 
 -- the number that digits tell, v being told by those before
 abbrev pub told : ℕ → List ℕ → ℕ
 told v [] = v
-told v (d ∷ ds) = told (v * 10 + (d - 48)) ds
+told v (d ∷ ds) = told (v * 10 + (d - digit-zero)) ds
 
 told-append : (v : ℕ) (xs ys : List ℕ) → told v (xs ++ ys) ≡ told (told v xs) ys
 told-append v [] ys = refl
-told-append v (x ∷ xs) ys = told-append (v * 10 + (x - 48)) xs ys
+told-append v (x ∷ xs) ys = told-append (v * 10 + (x - digit-zero)) xs ys
 
 within-told : (k x : ℕ) → x < 10 ^ suc k → told 0 (decimal-within (suc k) x) ≡ x
 unfolding decimal-within
@@ -92,26 +92,33 @@ within-told zero x h = rw (lt-ltb x 10 h) (omega arith)
 within-told (suc k) x h = go (ltb x 10) (within-told k (x / 10) (shorter (suc k) x h))
   where
     go : (b : Bool) → told 0 (decimal-within (suc k) (x / 10)) ≡ x / 10
-        → told 0 (cond b ((48 + x) ∷ []) (decimal-within (suc k) (x / 10) ++ ((48 + (x % 10)) ∷ []))) ≡ x
+        → told 0 (cond b ((digit-zero + x) ∷ []) (decimal-within (suc k) (x / 10) ++ ((digit-zero + (x % 10)) ∷ []))) ≡ x
     go true f = omega arith
-    go false f = told-append 0 (decimal-within (suc k) (x / 10)) ((48 + (x % 10)) ∷ []) ∙ rw f (omega (arith, div-add-mod' x 10))
+    go false f = told-append 0 (decimal-within (suc k) (x / 10)) ((digit-zero + (x % 10)) ∷ []) ∙ rw f (omega (arith, div-add-mod' x 10))
 
 pub decimal-told : (x : ℕ) → told 0 (decimal x) ≡ x
 unfolding decimal
 decimal-told x = within-told x x (below-power x)
 
-within-leads : (k x : ℕ) → x < 10 ^ suc k → 1 ≤ x → 49 ≤ getD (decimal-within (suc k) x) 0 0
+within-leads : (k x : ℕ) → x < 10 ^ suc k → 1 ≤ x → digit-one ≤ getD (decimal-within (suc k) x) 0 0
 unfolding decimal-within
 within-leads zero x h l = rw (lt-ltb x 10 h) (omega arith)
 within-leads (suc k) x h l = go (ltb x 10) refl (within-leads k (x / 10) (shorter (suc k) x h))
   where
-    go : (b : Bool) → ltb x 10 ≡ b → (1 ≤ x / 10 → 49 ≤ getD (decimal-within (suc k) (x / 10)) 0 0)
-        → 49 ≤ getD (cond b ((48 + x) ∷ []) (decimal-within (suc k) (x / 10) ++ ((48 + (x % 10)) ∷ []))) 0 0
+    go : (b : Bool) → ltb x 10 ≡ b → (1 ≤ x / 10 → digit-one ≤ getD (decimal-within (suc k) (x / 10)) 0 0)
+        → digit-one ≤ getD (cond b ((digit-zero + x) ∷ []) (decimal-within (suc k) (x / 10) ++ ((digit-zero + (x % 10)) ∷ []))) 0 0
     go true e f = omega arith
     go false e f =
         let t = ltb-false x 10 e in
-        rw (List·getD-append (decimal-within (suc k) (x / 10)) ((48 + (x % 10)) ∷ []) 0 0 (within-some k (x / 10))) (f (omega (arith, div-add-mod' x 10)))
+        rw (List·getD-append (decimal-within (suc k) (x / 10)) ((digit-zero + (x % 10)) ∷ []) 0 0 (within-some k (x / 10))) (f (omega (arith, div-add-mod' x 10)))
 
-pub decimal-leads : (x : ℕ) → 1 ≤ x → 49 ≤ getD (decimal x) 0 0
+pub decimal-leads : (x : ℕ) → 1 ≤ x → digit-one ≤ getD (decimal x) 0 0
 unfolding decimal
 decimal-leads x = within-leads x x (below-power x)
+
+-- ---- cases
+
+-- one digit, two, and a nought inside
+pub decimal-cases : (decimal 0 ≡ 48 ∷ []) × (decimal 9 ≡ 57 ∷ []) × (decimal 10 ≡ 49 ∷ 48 ∷ []) × (decimal 2048 ≡ 50 ∷ 48 ∷ 52 ∷ 56 ∷ [])
+unfolding decimal decimal-within
+decimal-cases = (refl, refl, refl, refl)

@@ -1,4 +1,4 @@
--- `printing::put_digits` meets its contract. The loop's invariant: the first i digits are written.
+-- `writing::put_digits` meets its contract. The loop's invariant: the first i digits are written.
 use borrow.Author.Needs.{needs}
 use Prim.Native.Nat.{ℕ, _-_, _≤_}
 use native.Mathlib.Omega.{arith}
@@ -6,11 +6,11 @@ use mathlib.Core.Path.{_≡_, refl, ap, _∙_}
 use lib.ListN.{length, length-set}
 use Rattle.lists.specs.Tabulated.{tabulated}
 use Rattle.lists.proofs.TabulatedLaws.{length-tabulated}
-use Rattle.printing.specs.Placed.{placed}
-use Rattle.printing.specs.Printed.{digit}
-use Rattle.printing.proofs.PlacedLaws.{placed-none, value-next}
-use Rattle.printing.proofs.put_digits.Statement.{statement}
-use Rattle.printing.proofs.put_digits.Tie as tie
+use Rattle.writing.specs.Placed.{placed}
+use Rattle.writing.specs.Text.{digit}
+use Rattle.writing.proofs.PlacedLaws.{placed-none, value-next}
+use Rattle.writing.proofs.put_digits.Statement.{statement}
+use Rattle.writing.proofs.put_digits.Tie as tie
 
 abbrev Inv-loop : tie.InvT-loop
 Inv-loop n a buffer₀ at i₀ buffer i = (i ≤ n) × (length buffer ≡ length buffer₀) × (buffer ≡ placed at (tabulated (digit a) i) buffer₀)
