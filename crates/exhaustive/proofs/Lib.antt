@@ -1,3 +1,3 @@
-pub mod TrialLaws
+pub mod AllModelsLaws
 pub mod ComparisonLaws
 pub mod SetLaws
