@@ -14,6 +14,7 @@ use crate::prints::print_vector;
 use crate::totals;
 use crate::totals::Totals;
 use crate::trying::compare_vector;
+use crate::walking::CHECKPOINT_SIZE;
 use crate::walking::Compared;
 use crate::walking::start_vector;
 use crate::walking::walk_vector;
@@ -41,7 +42,7 @@ fn fields_of(act: Act) -> usize
     match act {
         Act::Check => 14,
         Act::Judge => 104,
-        Act::Start => 50,
+        Act::Start => CHECKPOINT_SIZE,
         Act::Walk => 127,
         Act::Compare => 6,
         Act::Print => 0,

@@ -4,10 +4,12 @@ use mathlib.Core.List.{[], _∷_}
 use mathlib.Core.Path.{_≡_}
 use native.Mathlib.Omega.{arith}
 use lib.ListN.{length, length-append}
+use Rattle.limits.specs.Limits.{max-variables}
 use Rattle.lists.proofs.TabulatedLaws.{length-tabulated}
 use Rattle.writing.specs.Text.{decimal, digit, line-of}
 use Rattle.writing.proofs.DecimalLaws.{decimal-length}
 use Rattle.writing.proofs.LineLaws.{numbers-length}
+use Rattle.printing.specs.Printing.{max-header, max-model-line}
 use Rattle.printing.specs.Printed.{header, model-line, end-line, refused-line}
 
 -- ---- sums
@@ -20,10 +22,10 @@ model-line-sum n a s e = let z = length-tabulated (digit a) n in simp length-app
 
 -- ---- bounds
 
-pub header-length : (n m : ℕ) → n < 100 → m < 100 → length (header n m) ≤ 21
+pub header-length : (n m : ℕ) → n < 100 → m < 100 → length (header n m) ≤ max-header
 header-length n m h k = omega (arith, header-sum n m, decimal-length 1 n h, decimal-length 1 m k)
 
-pub model-line-length : (n a s e : ℕ) → n ≤ 48 → s < 100 → e < 10 ^ 7 → length (model-line n a s e) ≤ 60
+pub model-line-length : (n a s e : ℕ) → n ≤ max-variables → s < 100 → e < 10 ^ 7 → length (model-line n a s e) ≤ max-model-line
 model-line-length n a s e h k l = omega (arith, model-line-sum n a s e, numbers-length 1 6 s e k l)
 
 pub end-line-length : (s e : ℕ) → s < 100 → e < 10 ^ 7 → length (end-line s e) ≤ 15

@@ -51,25 +51,33 @@ refused-line number place = line-of (refused-word ∷ decimal number ∷ decimal
 abbrev pub refusal-line : Refusal → List ℕ
 refusal-line r = refused-line (listing r .number) (listing r .place)
 
--- What a call prints, and then the rest. A call that says spent would print nothing: on a budget of 96 none does.
+-- What a call prints, and then the rest. A call that says spent would print nothing: on a line's budget none does.
 abbrev pub call-lines : ℕ → Answer → ℕ → ℕ → List ℕ → List ℕ
 call-lines n (found a) steps expansions rest = model-line n a steps expansions ++ rest
 call-lines n spent steps expansions rest = []
 call-lines n ended steps expansions rest = end-line steps expansions
 
+-- the most models that are printed: 'After the 1,000th set-up the line `more` stands alone instead'
+abbrev pub max-models : ℕ
+max-models = 1000
+
+-- the budget of a line's call: 'A call allowed 96 moves or more brings a set-up or the end.' (demand 3)
+abbrev pub line-budget : ℕ
+line-budget = 96
+
 module _ (n : ℕ) (cs : List (List Literal)) where
-  -- The lines with k entries of the plain walk behind and room for j models more. A call of the plain machine on a budget of 96 goes on
+  -- The lines with k entries of the plain walk behind and room for j models more. A call of the plain machine on a line's budget goes on
   -- to the next model or to the end, so its steps and expansions are those 'since the line before'. 'After the 1,000th set-up the line
   -- `more` stands alone instead, even if that set-up was the last.'
   unfoldable pub walk-lines : ℕ → ℕ → List ℕ
   walk-lines zero k = more-line
   walk-lines (suc j) k =
-      let c = plain-call n cs 96 k in
+      let c = plain-call n cs line-budget k in
       call-lines n (c .answer) (c .steps) (c .expansions) (walk-lines j (c .behind))
 
 -- a formula that was read: refused by 10 if its clauses can't be matched
 abbrev pub outcome-lines : ℕ → List (List Literal) → Outcome → List ℕ
-outcome-lines n cs (success vs e) = header n (length cs) ++ walk-lines n cs 1000 0
+outcome-lines n cs (success vs e) = header n (length cs) ++ walk-lines n cs max-models 0
 outcome-lines n cs (failure taken e) = refusal-line (Unmatched (length taken))
 
 abbrev pub decoding-lines : Decoding → List ℕ

@@ -10,10 +10,22 @@ ghost use Rattle.walk.specs.InnerMachine.{down};
 ghost use Rattle.enumeration.specs.InnerState.{Follows};
 ghost use Rattle.printing.specs.InnerLines.{lines-from, Fitting, Reads, Printable};
 ghost use Rattle.printing.specs.Printing.{printing};
-ghost use Rattle.printing.specs.Printed.{header, model-line, end-line, more-line, refusal-line, printed};
+ghost use Rattle.printing.specs.Printed.{header, model-line, end-line, more-line, refusal-line, max-models, printed};
 use formula::Formula;
 use formula::Outcome;
 use formula::Refusal;
+
+// The most bytes of an input that is printed.
+pub const MAX_INPUT: usize = 16384;
+
+// The most models that are printed.
+pub const MAX_MODELS: usize = 1000;
+
+// The most bytes of a print: its first line, the models, and `more`.
+pub const MAX_PRINT: usize = 21 + MAX_MODELS * (limits::MAX_VARIABLES + 12) + 5;
+
+// The steps that a line's call is allowed: it brings a model or the end.
+const LINE_BUDGET: u32 = 96;
 
 // The first line: the numbers of variables and clauses.
 fn put_header(n: usize, m: usize, buffer: &mut [u8], at: usize) -> usize
@@ -72,16 +84,16 @@ fn put_refusal_line(refusal: Refusal, buffer: &mut [u8], at: usize) -> usize
     writing::put_numbers(number, place as u64, buffer, numbers)
 }
 
-// The lines of a walk from its start: at most 1,000 models, each by a run that goes on to the next one or to the end.
+// The lines of a walk from its start: its first models, each by a run that goes on to the next one or to the end.
 fn put_walk(f: Formula, buffer: &mut [u8], at: usize) -> usize
     requires { ⌜ FormulaFits f × Fitting f at (now buffer) ⌝ }
-    ensures { λ r. ⌜ ((K : Tree) → Follows f K → Wrote (lines-from K (f .variables) 1000 (down empty)) at (now (buffer .entry)) (now (buffer .exit)) r) ⌝ }
+    ensures { λ r. ⌜ ((K : Tree) → Follows f K → Wrote (lines-from K (f .variables) max-models (down empty)) at (now (buffer .entry)) (now (buffer .exit)) r) ⌝ }
 {
     let mut s = enumeration::root();
     let mut next = at;
-    let mut left: usize = 1000;
+    let mut left: usize = MAX_MODELS;
     while 0 < left {
-        let r = enumeration::go_on(f, s, 96);
+        let r = enumeration::go_on(f, s, LINE_BUDGET);
         if r.answer == 2 {
             return put_end_line(r.steps, r.expansions, buffer, next);
         }
@@ -112,10 +124,10 @@ fn put_formula(f: Formula, buffer: &mut [u8]) -> usize
 pub fn print(input: &[u8], buffer: &mut [u8]) -> usize
     ensures { λ r. ⌜ printing (now (input .entry)) (now (buffer .entry)) ≡ record { count = r; buffer = now (buffer .exit) } ⌝ }
 {
-    if buffer.len() < 60026 {
+    if buffer.len() < MAX_PRINT {
         return 0;
     }
-    if 16384 < input.len() {
+    if MAX_INPUT < input.len() {
         return 0;
     }
     let d = formula::decode(input);

@@ -7,6 +7,7 @@ use lib.ListN.{length}
 use borrow.Author.Needs.{needs}
 use Rattle.formula.proofs.MaskedLaws.{decoded-accepted, decoded-refused}
 use Rattle.writing.specs.Placed.{Room}
+use Rattle.printing.specs.Printing.{max-input, max-print}
 use Rattle.printing.specs.Printed.{printed}
 use Rattle.printing.proofs.PrintedLaws.{printed-length}
 use Rattle.printing.proofs.PrintLaws.{refused-prints, accepts-reads, print-short, print-long, print-written}
@@ -14,7 +15,7 @@ use Rattle.printing.proofs.print.Statement.{statement}
 use Rattle.printing.proofs.print.Tie as tie
 
 -- every print fits
-room : (s b : List ℕ) → length s ≤ 16384 → 60026 ≤ length b → Room 0 (printed s) b
+room : (s b : List ℕ) → length s ≤ max-input → max-print ≤ length b → Room 0 (printed s) b
 room s b h k = let l = printed-length s h in omega arith
 
 returns : tie.Need-returns

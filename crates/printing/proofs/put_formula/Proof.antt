@@ -7,7 +7,7 @@ use borrow.Author.Needs.{needs}
 use Rattle.walk.specs.InnerStack.{empty, tree}
 use Rattle.walk.specs.InnerMachine.{down}
 use Rattle.writing.specs.Placed.{Room}
-use Rattle.printing.specs.Printed.{header}
+use Rattle.printing.specs.Printed.{header, max-models}
 use Rattle.printing.specs.InnerLines.{lines-from}
 use Rattle.writing.proofs.PlacedLaws.{wrote-more, room-front, room-behind}
 use Rattle.printing.proofs.PrintLaws.{reads-fits, matched-follows, matched-prints, unmatched-prints}
@@ -22,7 +22,7 @@ put-header-requires c κs =
     let b = c .before .before .before .before in
     let w = b .pre in
     let f = b .args .f in
-    room-front 0 (header (f .variables) (f .count)) (lines-from (tree (w .reads .variables) (w .reads .clauses)) (f .variables) 1000 (down empty)) _ (b .args .buffer .now)
+    room-front 0 (header (f .variables) (f .count)) (lines-from (tree (w .reads .variables) (w .reads .clauses)) (f .variables) max-models (down empty)) _ (b .args .buffer .now)
     (matched-prints _ _ (w .reads) _ (c .before .before .match-formula .ensures) (c .before .if1 .taken)) (w .room)
 
 put-walk-requires : tie.Need-put-walk-requires
