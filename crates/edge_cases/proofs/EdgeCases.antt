@@ -4,6 +4,7 @@ use mathlib.Core.List.{[], _∷_, _++_}
 use mathlib.Core.Path.{_≡_, refl}
 use lib.ListN.{length}
 use borrow.Author.Tests.{le-ltb}
+use Rattle.limits.specs.Limits.{max-clauses}
 use Rattle.lists.specs.Padded.{padded}
 use Rattle.lists.specs.Tabulated.{tabulated}
 use Rattle.masks.specs.Mask.{bit, members}
@@ -63,14 +64,14 @@ printing = tt
 pub marked-cases : MarkedCases
 unfolding judging calling printing encoding
 marked-cases = record {
-  example-matching = λ b l. rw (le-ltb (length b) 96 l);
+  example-matching = λ b l. rw (le-ltb (length b) max-clauses l);
   example-printed = refl;
   three-pairs = refl;
   wrong-turn = refl;
   no-clauses = refl;
   no-bytes = refl;
-  empty-clause = λ b l. rw (le-ltb (length b) 96 l);
-  both-ways = λ b l. rw (le-ltb (length b) 96 l);
+  empty-clause = λ b l. rw (le-ltb (length b) max-clauses l);
+  both-ways = λ b l. rw (le-ltb (length b) max-clauses l);
   named-twice = refl;
   clause-not-ended = refl;
   tail-byte = refl;

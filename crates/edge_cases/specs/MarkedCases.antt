@@ -5,6 +5,7 @@ use mathlib.Core.Bool.{true, false}
 use mathlib.Core.List.{List, [], _∷_, _++_, map}
 use mathlib.Core.Path.{_≡_}
 use lib.ListN.{length, drop, replicate}
+use Rattle.limits.specs.Limits.{max-clauses}
 use Rattle.writing.specs.Text.{line-feed, blank}
 use Rattle.formula.specs.Decode.{Decoding, readable, refused, decode}
 use Rattle.formula.specs.Format.{Literal, formula-bytes}
@@ -14,7 +15,7 @@ use Rattle.matched.specs.Pairing.{Pairs}
 use Rattle.walk.specs.Checkpoints.{start}
 use Rattle.walk.specs.PlainMachine.{spent}
 use Rattle.walk.specs.WalkCall.{Kind, says-model, says-ended, Result, answered, walk-call, walk-calls}
-use Rattle.printing.specs.Printed.{switches-word, rules-word, end-word, printed}
+use Rattle.printing.specs.Printed.{switches-word, rules-word, end-word, line-budget, printed}
 
 -- ---- how the cases are written
 
@@ -46,9 +47,9 @@ model-at ds steps expansions = record { kind = says-model; model = assigned ds; 
 abbrev pub end-at : ℕ → ℕ → Line
 end-at steps expansions = record { kind = says-ended; model = 0; steps = steps; expansions = expansions }
 
--- the lines of the first k walk calls on an input: from the start, with budgets of 96, each of which brings a model or the end
+-- the lines of the first k walk calls on an input: from the start, on a line's budget, which brings a model or the end
 abbrev pub walked : List ℕ → ℕ → List Line
-walked s k = map line (walk-calls s start (replicate k 96))
+walked s k = map line (walk-calls s start (replicate k line-budget))
 
 -- the number and the place of the refusal that reading gives, zeros if it gives none
 abbrev pub refusal-of : Decoding → Listing
@@ -58,10 +59,10 @@ refusal-of (refused r) = listing r
 abbrev pub number-at : ℕ → ℕ → Listing
 number-at k p = record { number = k; place = p }
 
--- judge refuses by 10 with this place, and writes these marks into a buffer (01: slate) of at least 96 bytes
+-- judge refuses by 10 with this place, and writes these marks into a buffer (01: slate) that is not short
 abbrev pub UnmatchedAt : List ℕ → ℕ → List ℕ → Type 0
 UnmatchedAt s p marks =
-    (b : List ℕ) → 96 ≤ length b
+    (b : List ℕ) → max-clauses ≤ length b
     → judge s b ≡ record { answer = record { number = 10; place = p; variables = 0; clauses = 0 }; buffer = marks ++ drop (length marks) b }
 
 -- 'Input 01 02 02 01 02 02 04 03 01 03 02 04 05'
@@ -72,7 +73,7 @@ example = 1 ∷ 2 ∷ 2 ∷ 1 ∷ 2 ∷ 2 ∷ 4 ∷ 3 ∷ 1 ∷ 3 ∷ 2 ∷ 4 �
 
 pub record MarkedCases : Type 0 where
   -- 'the sheet above: slate 1, 2,'
-  pub example-matching : (b : List ℕ) → 96 ≤ length b → judge example b ≡ record { answer = accepted 2 2; buffer = 1 ∷ 2 ∷ drop 2 b }
+  pub example-matching : (b : List ℕ) → max-clauses ≤ length b → judge example b ≡ record { answer = accepted 2 2; buffer = 1 ∷ 2 ∷ drop 2 b }
   -- 'and the four lines': switches 2 rules 2, 01 2 2, 10 4 0, end 2 0
   pub example-printed : printed example
       ≡ (switches-word ++ (blank ∷ 50 ∷ blank ∷ [])) ++ (rules-word ++ (blank ∷ 50 ∷ line-feed ∷ []))
