@@ -19,7 +19,7 @@ use Rattle.splitting.specs.Stripping.{pure, not-naming, strip}
 use Rattle.splitting.specs.Choosing.{matched, trial, first-passing, candidates, among, listed, last, emptied, last-listed, choice}
 use Rattle.walk.specs.Plain.{assignment, node-walk, plain-walk}
 use Rattle.walk.specs.Checkpoints.{start, checkpoint-of, without-last, last-value, past-all, behind, checkpoint-after}
-use Rattle.walk.specs.PlainMachine.{go-on, plain-call, plain-calls}
+use Rattle.walk.specs.PlainMachine.{go-on, plain-call}
 use Rattle.walk.specs.WalkCall.{same-bytes, same, locate-from, located, walk-call, walk-calls}
 use Rattle.walk.proofs.Demands.{start-zero}
 use Rattle.printing.specs.Printed.{refused-word, walk-lines, printed}

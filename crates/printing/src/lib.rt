@@ -1,8 +1,7 @@
 // The printed walk (01): its lines as bytes, written into a lent buffer.
 ghost use mathlib.Core.Path.{_≡_};
-ghost use mathlib.Core.List.{List, [], _∷_};
-ghost use Prim.Native.Nat.{ℕ, _+_, _<_, _≤_};
-ghost use lib.ListN.{length};
+ghost use mathlib.Core.List.{List};
+ghost use Prim.Native.Nat.{ℕ, _≤_};
 ghost use Rattle.writing.specs.Placed.{Room, Wrote};
 ghost use Rattle.formula.specs.Masked.{FormulaFits};
 ghost use Rattle.walk.specs.InnerStack.{empty, Tree};

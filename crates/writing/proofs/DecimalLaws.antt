@@ -7,7 +7,9 @@ use native.Mathlib.Nat.{pow-suc, div-lt-iff-lt-mul, div-lt-self, div-add-mod'}
 use native.Mathlib.Omega.{arith}
 use lib.Dec.{ltb}
 use lib.ListN.{length, getD, length-append, List·getD-append}
-use borrow.Author.Tests.{ltb-false, lt-ltb, le-ltb}
+use borrow.Author.Tests.{ltb-true, ltb-false, lt-ltb, le-ltb}
+use Rattle.lists.specs.Every.{Every}
+use Rattle.lists.proofs.EveryLaws.{every-append}
 use Rattle.writing.specs.Text.{digit-zero, digit-one, decimal-within, decimal}
 
 -- a number below 10 ^ (k + 1) that has two digits or more: without its last digit it is below 10 ^ k, and smaller
@@ -75,7 +77,7 @@ decimal-more (suc y) h =
 pub more-length : (x : ℕ) → 10 ≤ x → length (decimal x) ≡ length (decimal (x / 10)) + 1
 more-length x h = ap length (decimal-more x h) ∙ length-append (decimal (x / 10)) ((digit-zero + (x % 10)) ∷ [])
 
--- ---- the digits tell the number, and the first is not 0
+-- ---- the digits tell the number, the first is not 0, and there is nothing else
 
 -- the number that digits tell, v being told by those before
 abbrev pub told : ℕ → List ℕ → ℕ
@@ -116,9 +118,20 @@ pub decimal-leads : (x : ℕ) → 1 ≤ x → digit-one ≤ getD (decimal x) 0 0
 unfolding decimal
 decimal-leads x = within-leads x x (below-power x)
 
--- ---- cases
+-- every byte is a digit
+abbrev pub IsDigit : ℕ → Type 0
+IsDigit d = (digit-zero ≤ d) × (d < digit-zero + 10)
 
--- one digit, two, and a nought inside
-pub decimal-cases : (decimal 0 ≡ 48 ∷ []) × (decimal 9 ≡ 57 ∷ []) × (decimal 10 ≡ 49 ∷ 48 ∷ []) × (decimal 2048 ≡ 50 ∷ 48 ∷ 52 ∷ 56 ∷ [])
-unfolding decimal decimal-within
-decimal-cases = (refl, refl, refl, refl)
+within-digits : (k x : ℕ) → Every IsDigit (decimal-within k x)
+unfolding decimal-within
+within-digits zero x = tt
+within-digits (suc k) x = go (ltb x 10) refl (within-digits k (x / 10))
+  where
+    go : (b : Bool) → ltb x 10 ≡ b → Every IsDigit (decimal-within k (x / 10))
+        → Every IsDigit (cond b ((digit-zero + x) ∷ []) (decimal-within k (x / 10) ++ ((digit-zero + (x % 10)) ∷ [])))
+    go true e h = let t = ltb-true x 10 e in ((omega arith, omega arith), tt)
+    go false e h = every-append IsDigit (decimal-within k (x / 10)) ((digit-zero + (x % 10)) ∷ []) h ((omega arith, omega arith), tt)
+
+pub decimal-digits : (x : ℕ) → Every IsDigit (decimal x)
+unfolding decimal
+decimal-digits x = within-digits (suc x) x
