@@ -27,14 +27,17 @@ put-header-requires c κs =
 
 put-walk-requires : tie.Need-put-walk-requires
 put-walk-requires c κs =
-    let w = c .before .before .before .before .before .before .before .before .pre in
-    let e = c .before .before .before .before .before .before .match-formula .ensures in
-    let t = c .before .before .before .before .before .if1 .taken in (
+    let header = c .before .before .before in
+    let branch = header .before .before in
+    let matching = branch .before in
+    let w = matching .before .before .pre in
+    let e = matching .match-formula .ensures in
+    let t = branch .if1 .taken in (
       reads-fits _ _ (w .reads),
       record {
         tree = tree (w .reads .variables) (w .reads .clauses);
         follows = matched-follows _ _ (w .reads) _ e t;
-        room = room-behind 0 _ _ _ _ _ _ (matched-prints _ _ (w .reads) _ e t) (w .room) (c .before .before .before .put-header .ensures);
+        room = room-behind 0 _ _ _ _ _ _ (matched-prints _ _ (w .reads) _ e t) (w .room) (header .put-header .ensures);
       },
     )
 
@@ -44,10 +47,13 @@ same-length c = search needs
 returns : tie.Need-returns
 returns c =
     λ s R.
-    let e = c .before .before .before .before .before .before .before .before .before .match-formula .ensures in
-    let t = c .before .before .before .before .before .before .before .before .if1 .taken in
+    let walk = c .before .before in
+    let header = walk .before .before .before .before in
+    let branch = header .before .before in
+    let e = branch .before .match-formula .ensures in
+    let t = branch .if1 .taken in
     rw (matched-prints s _ R _ e t)
-    (wrote-more (omega arith) (c .before .before .before .before .before .before .put-header .ensures) (c .before .before .put-walk .ensures _ (matched-follows s _ R _ e t)))
+    (wrote-more (omega arith) (header .put-header .ensures) (walk .put-walk .ensures _ (matched-follows s _ R _ e t)))
 
 put-refusal-line-requires : tie.Need-put-refusal-line-requires
 put-refusal-line-requires c κs =

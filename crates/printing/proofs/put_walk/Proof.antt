@@ -69,21 +69,23 @@ put-end-line-requires c κs = end-room (c .before .before .before) (omega arith)
 
 same-length : tie.Need-same-length Inv-loop μ-loop
 same-length c =
-    let g = c .before .before .before .before .before .before in
-    wrote-length (end-room g (omega arith)) (c .before .before .put-end-line .ensures) ∙ g .before .before .loop .inv .0
+    let line = c .before .before in
+    let g = line .before .before .before .before in
+    wrote-length (end-room g (omega arith)) (line .put-end-line .ensures) ∙ g .before .before .loop .inv .0
 
 returns : tie.Need-returns Inv-loop μ-loop
 returns c =
     λ K F.
-    let g = c .before .before .before .before .before .before in
+    let line = c .before .before in
+    let g = line .before .before .before .before in
     let l = g .before .before in
     let b = l .before .before .before in
     let v = b .pre .1 .room in
     going-last _ _ _ _ _ _ _ _ (l .loop .inv .1 K F) _ _ _ (omega arith)
-    (lines-end _ (b .args .f .variables) _ (l .loop .s) _ (ran g K F) (omega arith) (omega arith)) (c .before .before .put-end-line .ensures)
+    (lines-end _ (b .args .f .variables) _ (l .loop .s) _ (ran g K F) (omega arith) (omega arith)) (line .put-end-line .ensures)
 
 same-length-2 : tie.Need-same-length-2 Inv-loop μ-loop
-same-length-2 c = c .before .before .before .before .before .before .loop .inv .0
+same-length-2 c = let g = c .before .before .before .before in g .before .before .loop .inv .0
 
 returns-2 : tie.Need-returns-2 Inv-loop μ-loop
 returns-2 c =
@@ -107,12 +109,14 @@ loop-less c = search needs
 
 loop-again : tie.Need-loop-again Inv-loop μ-loop
 loop-again c =
-    let g = c .before .before .before .before .before .before .before .before .before in
+    let line = c .before .before .before in
+    let branch = line .before .before in
+    let g = branch .before .before .before .before in
     let l = g .before .before in
     let b = l .before .before .before in
     let v = b .pre .1 .room in
-    let e = c .before .before .before .before .before .if2 .left in
-    let w = c .before .before .before .put-model-line .ensures in (
+    let e = branch .if2 .left in
+    let w = line .put-model-line .ensures in (
       wrote-length (model-room g e) w ∙ l .loop .inv .0,
       λ K F.
           going-more _ _ _ _ _ _ _ _ (l .loop .inv .1 K F)

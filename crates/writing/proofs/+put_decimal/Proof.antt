@@ -69,8 +69,10 @@ put-decimal-returns : (t : ℕ) → put-decimal-lts.Need-returns (
   put-decimal.Post,
 ) (put-decimal-at t) put-decimal.Post
 put-decimal-returns t c =
-    let s = c .before .before .before .before .before .before in
-    rw (decimal-one (s .args .x) (c .before .before .before .before .if1 .taken)) (c .before .before .put-byte .ensures)
+    let byte = c .before .before in
+    let branch = byte .before .before in
+    let s = branch .before .before in
+    rw (decimal-one (s .args .x) (branch .if1 .taken)) (byte .put-byte .ensures)
 
 put-decimal-put-decimal-requires : (t : ℕ) → put-decimal-lts.Need-put-decimal-requires (
   put-byte-reads.Asked,
@@ -106,8 +108,9 @@ put-decimal-put-byte-requires-2 : (t : ℕ) → put-decimal-lts.Need-put-byte-re
   put-decimal.Post,
 ) (put-decimal-at t) put-decimal.Post
 put-decimal-put-byte-requires-2 t c κs =
-    let s = c .before .before .before .before .before .before .before in
-    let w = c .before .before .before .put-decimal .ensures in
+    let tens = c .before .before .before in
+    let s = tens .before .before .before .before in
+    let w = tens .put-decimal .ensures in
     let h : 10 ≤ s .args .x = omega arith in
     let m = more-length (s .args .x) h in
     let r : Room (s .args .at) (decimal (s .args .x / 10)) (s .args .buffer .now) = omega (arith, s .pre .1) in
@@ -128,10 +131,12 @@ put-decimal-returns-2 : (t : ℕ) → put-decimal-lts.Need-returns-2 (
   put-decimal.Post,
 ) (put-decimal-at t) put-decimal.Post
 put-decimal-returns-2 t c =
-    let s = c .before .before .before .before .before .before .before .before .before .before in
+    let byte = c .before .before in
+    let tens = byte .before .before .before .before in
+    let s = tens .before .before .before .before in
     let h : 10 ≤ s .args .x = omega arith in
     rw (decimal-more (s .args .x) h)
-    (wrote-more (omega (arith, s .pre .1)) (c .before .before .before .before .before .before .put-decimal .ensures) (c .before .before .put-byte2 .ensures))
+    (wrote-more (omega (arith, s .pre .1)) (tens .put-decimal .ensures) (byte .put-byte2 .ensures))
 
 pub +put-decimal-spec : {M : Type 1} → statement M
 +put-decimal-spec = close μ-put-decimal λ t. put-decimal-lts.spec (
