@@ -2,12 +2,15 @@
 use Prim.Native.Nat.{ℕ, _+_, _-_}
 use mathlib.Core.Bool.{Bool, cond, _&&_}
 use mathlib.Core.List.{List}
+use mathlib.Core.Path.{_≡_}
 use lib.Dec.{eqb}
 use lib.ListN.{getD, take, drop}
 use Rattle.limits.specs.Limits.{max-variables}
 use Rattle.walk.specs.Checkpoints.{Checkpoint, start}
 use Rattle.walk.specs.WalkCall.{Kind, says-model, says-spent, says-ended, says-refused, Result, walk-call}
+use Rattle.enumeration.specs.Values.{checkpoint-values}
 use Rattle.cases.specs.declared.corpus.Vector.{Vector}
+use Rattle.cases.specs.declared.walking.Compared.{Compared}
 use Rattle.cases.specs.declared.walking.Told.{Told}
 use Rattle.cases.specs.Answers.{plain, expected, same}
 use Rattle.cases.specs.Comparing.{first-wrong}
@@ -81,3 +84,8 @@ walk-agrees s v last =
 -- the checkpoint that the call returns
 unfoldable pub walk-leaves : List ℕ → Vector → Checkpoint → Checkpoint
 walk-leaves s v last = called s v last .checkpoint
+
+-- what a comparison gives: whether the vector agrees, and the checkpoint that the last call returned
+pub record Gives (agreeing : Bool) (leaving : Checkpoint) (r : Compared) : Type 0 where
+  pub agrees : r .agrees ≡ agreeing
+  pub leaves : checkpoint-values (r .last) ≡ leaving

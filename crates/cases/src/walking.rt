@@ -5,7 +5,7 @@ ghost use mathlib.Core.Path.{_≡_};
 ghost use lib.ListN.{length, getD, take, drop};
 ghost use Rattle.limits.specs.Limits.{max-variables};
 ghost use Rattle.enumeration.specs.Values.{checkpoint-values, values};
-ghost use Rattle.cases.specs.Walking.{written, expected-call, checkpoint-size, alike, checkpoint-at, origin, called, checkpoint-wrong, start-agrees, walk-agrees, walk-leaves};
+ghost use Rattle.cases.specs.Walking.{written, expected-call, checkpoint-size, alike, checkpoint-at, origin, called, checkpoint-wrong, start-agrees, walk-agrees, walk-leaves, Gives};
 use crate::answers::Answer;
 use crate::answers::bare;
 use crate::answers::equal;
@@ -208,8 +208,7 @@ pub fn start_vector(bytes: &[u8], v: Vector) -> bool
 // Whether the vector's call gives what it must, and the checkpoint that it returned; a difference is printed.
 pub fn walk_vector(bytes: &[u8], v: Vector, last: Checkpoint) -> Compared
     requires { ⌜ (v .start ≤ v .end) × (v .end + 127 ≤ length (now bytes)) ⌝ }
-    ensures { λ r. ⌜ r .agrees ≡ walk-agrees (now (bytes .entry)) v (checkpoint-values last) ⌝ }
-    ensures { λ r. ⌜ checkpoint-values (r .last) ≡ walk-leaves (now (bytes .entry)) v (checkpoint-values last) ⌝ }
+    ensures { λ r. ⌜ Gives (walk-agrees (now (bytes .entry)) v (checkpoint-values last)) (walk-leaves (now (bytes .entry)) v (checkpoint-values last)) r ⌝ }
 {
     let end = v.end;
     let wanted = expected_call(bytes, end);
