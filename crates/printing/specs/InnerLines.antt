@@ -8,7 +8,7 @@ use Rattle.walk.specs.WalkCall.{Kind, says-model, says-spent, says-ended, says-
 use Rattle.formula.specs.declared.Formula.{Formula}
 use Rattle.formula.specs.Decode.{readable, decode}
 use Rattle.formula.specs.Format.{Literal}
-use Rattle.formula.specs.Masked.{formula-of}
+use Rattle.formula.specs.Masked.{formula-of, FormulaFits}
 use Rattle.enumeration.specs.InnerState.{Follows}
 use Rattle.writing.specs.Placed.{Room}
 use Rattle.printing.specs.Printed.{model-line, end-line, more-line, call-lines, max-models, line-budget, printed}
@@ -21,8 +21,9 @@ module _ (K : Tree) (n : ℕ) where
       let r = resume K line-budget p in
       call-lines n (r .answer) (r .steps) (r .expansions) (lines-from j (r .position))
 
--- the formula's choices make a tree, and b has room for its lines from `at` on
+-- a formula within the limits, whose choices make a tree; and b has room for its lines from `at` on
 pub record Fitting (f : Formula) (at : ℕ) (b : List ℕ) : Type 0 where
+  pub fits : FormulaFits f
   pub tree : Tree
   pub follows : Follows f tree
   pub room : Room at (lines-from tree (f .variables) max-models (down empty)) b

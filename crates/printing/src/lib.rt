@@ -3,7 +3,6 @@ ghost use mathlib.Core.Path.{_≡_};
 ghost use mathlib.Core.List.{List};
 ghost use Prim.Native.Nat.{ℕ, _≤_};
 ghost use Rattle.writing.specs.Placed.{Room, Wrote};
-ghost use Rattle.formula.specs.Masked.{FormulaFits};
 ghost use Rattle.walk.specs.InnerStack.{empty, Tree};
 ghost use Rattle.walk.specs.InnerMachine.{down};
 ghost use Rattle.enumeration.specs.InnerState.{Follows};
@@ -85,7 +84,7 @@ fn put_refusal_line(refusal: Refusal, buffer: &mut [u8], at: usize) -> usize
 
 // The lines of a walk from its start: its first models, each by a run that goes on to the next one or to the end.
 fn put_walk(f: Formula, buffer: &mut [u8], at: usize) -> usize
-    requires { ⌜ FormulaFits f × Fitting f at (now buffer) ⌝ }
+    requires { ⌜ Fitting f at (now buffer) ⌝ }
     ensures { λ r. ⌜ ((K : Tree) → Follows f K → Wrote (lines-from K (f .variables) max-models (down empty)) at (now (buffer .entry)) (now (buffer .exit)) r) ⌝ }
 {
     let mut s = enumeration::root();

@@ -32,14 +32,13 @@ put-walk-requires c κs =
     let matching = branch .before in
     let w = matching .before .before .pre in
     let e = matching .match-formula .ensures in
-    let t = branch .if1 .taken in (
-      reads-fits _ _ (w .reads),
-      record {
-        tree = tree (w .reads .variables) (w .reads .clauses);
-        follows = matched-follows _ _ (w .reads) _ e t;
-        room = room-behind 0 _ _ _ _ _ _ (matched-prints _ _ (w .reads) _ e t) (w .room) (header .put-header .ensures);
-      },
-    )
+    let t = branch .if1 .taken in
+    record {
+      fits = reads-fits _ _ (w .reads);
+      tree = tree (w .reads .variables) (w .reads .clauses);
+      follows = matched-follows _ _ (w .reads) _ e t;
+      room = room-behind 0 _ _ _ _ _ _ (matched-prints _ _ (w .reads) _ e t) (w .room) (header .put-header .ensures);
+    }
 
 same-length : tie.Need-same-length
 same-length c = search needs

@@ -29,13 +29,13 @@ root-requires c κs = search needs
 loop-holds : tie.Need-loop-holds Inv-loop μ-loop
 loop-holds c =
     let b = c .before .before in
-    (refl, λ K F. going-first K (b .args .f .variables) (b .args .at) (b .args .buffer .now) (c .root .result) (c .root .ensures K (omega (arith, F .size, b .pre .0 .most))))
+    (refl, λ K F. going-first K (b .args .f .variables) (b .args .at) (b .args .buffer .now) (c .root .result) (c .root .ensures K (omega (arith, F .size, b .pre .fits .most))))
 
 go-on-requires : tie.Need-go-on-requires Inv-loop μ-loop
 go-on-requires c κs =
     let b = c .before .before .before .before in
-    let v = b .pre .1 in
-    (b .pre .0, record { tree = v .tree; follows = v .follows; holds = c .before .loop .inv .1 (v .tree) (v .follows) .holds })
+    let v = b .pre in
+    (v .fits, record { tree = v .tree; follows = v .follows; holds = c .before .loop .inv .1 (v .tree) (v .follows) .holds })
 
 -- what a run gives
 ran : (g : tie.After-go-on Inv-loop μ-loop) (K : Tree) → (let l = g .before .before in Follows (l .before .before .before .args .f) K → Ran K (g .go-on .result) (resume K line-budget (position-in (l .loop .s))))
@@ -47,7 +47,7 @@ end-room : (g : tie.After-go-on Inv-loop μ-loop) → g .go-on .result .answer �
 end-room g e =
     let l = g .before .before in
     let b = l .before .before .before in
-    let v = b .pre .1 in
+    let v = b .pre in
     let x = end-line (g .go-on .result .steps) (g .go-on .result .expansions) in
     going-room _ _ _ _ _ _ _ _ (l .loop .inv .1 (v .tree) (v .follows)) x []
     (lines-end _ (b .args .f .variables) _ (l .loop .s) _ (ran g (v .tree) (v .follows)) (omega arith) e ∙ sym (append-nil x)) (l .loop .inv .0) (v .room)
@@ -59,7 +59,7 @@ model-room : (g : tie.After-go-on Inv-loop μ-loop) → g .go-on .result .answer
 model-room g e =
     let l = g .before .before in
     let b = l .before .before .before in
-    let v = b .pre .1 in
+    let v = b .pre in
     going-room _ _ _ _ _ _ _ _ (l .loop .inv .1 (v .tree) (v .follows))
     (model-line (b .args .f .variables) (g .go-on .result .model) (g .go-on .result .steps) (g .go-on .result .expansions)) (lines-from (v .tree) (b .args .f .variables) (l .loop .left - 1) (position-in (g .go-on .result .state)))
     (lines-model _ (b .args .f .variables) _ (l .loop .s) _ (ran g (v .tree) (v .follows)) (omega arith) e) (l .loop .inv .0) (v .room)
@@ -80,7 +80,7 @@ returns c =
     let g = line .before .before .before .before in
     let l = g .before .before in
     let b = l .before .before .before in
-    let v = b .pre .1 .room in
+    let v = b .pre .room in
     going-last _ _ _ _ _ _ _ _ (l .loop .inv .1 K F) _ _ _ (omega arith)
     (lines-end _ (b .args .f .variables) _ (l .loop .s) _ (ran g K F) (omega arith) (omega arith)) (line .put-end-line .ensures)
 
@@ -99,7 +99,7 @@ returns-2 c =
 put-model-line-requires : tie.Need-put-model-line-requires Inv-loop μ-loop
 put-model-line-requires c κs =
     let g = c .before .before .before .before .before in
-    (omega (arith, g .before .before .before .before .before .pre .0 .most), model-room g (omega arith))
+    (omega (arith, g .before .before .before .before .before .pre .fits .most), model-room g (omega arith))
 
 sub-left : tie.Need-sub-left Inv-loop μ-loop
 sub-left c = search needs
@@ -114,7 +114,7 @@ loop-again c =
     let g = branch .before .before .before .before in
     let l = g .before .before in
     let b = l .before .before .before in
-    let v = b .pre .1 .room in
+    let v = b .pre .room in
     let e = branch .if2 .left in
     let w = line .put-model-line .ensures in (
       wrote-length (model-room g e) w ∙ l .loop .inv .0,
@@ -129,7 +129,7 @@ more-room : (c : tie.After-loop Inv-loop μ-loop) → (let l = c .before in l .l
 more-room c e =
     let l = c .before in
     let b = l .before .before .before in
-    let v = b .pre .1 in
+    let v = b .pre in
     going-room _ _ _ _ _ _ _ _ (l .loop .inv .1 (v .tree) (v .follows)) more-line [] (lines-more _ (b .args .f .variables) _ _ e) (l .loop .inv .0) (v .room)
 
 put-more-line-requires : tie.Need-put-more-line-requires Inv-loop μ-loop
@@ -145,7 +145,7 @@ returns-3 c =
     λ K F.
     let l = c .before .before .before .before .before in
     let b = l .before .before .before in
-    let v = b .pre .1 .room in
+    let v = b .pre .room in
     going-last _ _ _ _ _ _ _ _ (l .loop .inv .1 K F) _ _ _ (omega arith) (lines-more _ (b .args .f .variables) _ _ (omega arith)) (c .before .before .put-more-line .ensures)
 
 pub put-walk-spec : {M : Type 1} → statement M
