@@ -509,23 +509,30 @@ WALK_EDGES = [
 ]
 
 
-def check_edges():
-    for number, (given, assignment, *answer) in enumerate(CHECK_EDGES, 60000):
-        yield coded(number, bytes.fromhex(given), answer_of(*answer), little(assignment, 8))
+# The coder of an edge case gives its answer and its fields, from what follows the input.
+def check_edge(assignment, *answer):
+    return answer, little(assignment, 8)
 
 
-def judge_edges():
-    for number, (given, length, fill, *answer, written) in enumerate(JUDGE_EDGES, 61000):
-        yield coded(number, bytes.fromhex(given), answer_of(*answer), judge_fields(length, fill, bytes.fromhex(written)))
+def judge_edge(length, fill, *answer_written):
+    *answer, written = answer_written
+    return answer, judge_fields(length, fill, bytes.fromhex(written))
 
 
-def walk_edges():
-    for number, (given, origin, budget, says, refusal, place, model, returned, *counts) in enumerate(WALK_EDGES, 62000):
-        fields = walk_fields(model, *counts, returned, origin, budget)
-        yield coded(number, bytes.fromhex(given), answer_of(says, refusal, place), fields)
+def walk_edge(origin, budget, says, refusal, place, model, returned, *counts):
+    return (says, refusal, place), walk_fields(model, *counts, returned, origin, budget)
 
 
-EDGES = {'check': check_edges, 'judge': judge_edges, 'walk': walk_edges}
+# the number of the first case of an act, its cases and their coder
+EDGES = {'check': (60000, CHECK_EDGES, check_edge), 'judge': (61000, JUDGE_EDGES, judge_edge),
+         'walk': (62000, WALK_EDGES, walk_edge)}
+
+
+def edge_vectors(act):
+    first, cases, coder = EDGES[act]
+    for number, (given, *case) in enumerate(cases, first):
+        answer, fields = coder(*case)
+        yield coded(number, bytes.fromhex(given), answer_of(*answer), fields)
 
 
 def files_of(groups):
@@ -555,18 +562,20 @@ def main():
     data.mkdir(parents=True, exist_ok=True)
     for old in data.iterdir():
         old.unlink()
-    report = []
+    # what is written: a name, the names of its files, its groups of vectors, and what they are
+    sets = []
     for act, found in groups.items():
-        files = files_of(found)
-        assert len(files) <= len(LETTERS)
-        for letter, f in zip(LETTERS, files):
-            (data / (act if act == 'start' else act + letter)).write_bytes(f)
-        report.append((act, sum(map(len, found)), 'calls' if act == 'chain' else 'vectors'))
+        names = [act] if act == 'start' else [act + letter for letter in LETTERS]
+        sets.append((act, names, found, 'calls' if act == 'chain' else 'vectors'))
         if act in EDGES:
-            edges = list(EDGES[act]())
-            (joined,) = files_of([edges])
-            (data / f'{act}_edges').write_bytes(joined)
-            report.append((f'{act}_edges', len(edges), 'vectors'))
+            sets.append((f'{act}_edges', [f'{act}_edges'], [list(edge_vectors(act))], 'vectors'))
+    report = []
+    for name, names, found, unit in sets:
+        files = files_of(found)
+        assert len(files) <= len(names)
+        for file, content in zip(names, files):
+            (data / file).write_bytes(content)
+        report.append((name, sum(map(len, found)), unit))
     (CASES / 'stdout').write_text(''.join(f'{name}: {n} {unit}, 0 differences\n' for name, n, unit in report))
     for f in sorted(data.iterdir()):
         print(f'{f.name}: {f.stat().st_size} bytes')

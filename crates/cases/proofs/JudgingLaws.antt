@@ -3,6 +3,7 @@ use Prim.Native.Nat.{ℕ, _+_, _-_}
 use mathlib.Core.List.{List, _++_}
 use mathlib.Core.Path.{_≡_, refl}
 use lib.ListN.{getD, take, drop}
+use Rattle.limits.specs.Limits.{max-clauses}
 use Rattle.formula.specs.declared.Refusal.{Refusal}
 use Rattle.formula.specs.declared.Refusal.the-variants.{ShortBuffer, Truncated, UnknownKind, Misplaced, BadVariableCount, NoSuchVariable, RepeatedVariable, TooManyClauses, TrailingByte, Unmatched, ForeignCheckpoint, StrayVariable}
 use Rattle.formula.specs.Refusals.{listing}
@@ -47,7 +48,7 @@ pub compared :
     wanted ≡ expected s (v .end) →
     size ≡ getD s (v .end + 6) 0 →
     got ≡ judged (take (v .end - v .start) (drop (v .start) s)) size (getD s (v .end + 7) 0) →
-    wrong ≡ first-wrong s (v .end + 8) 96 (getD s (v .end + 7) 0) (got .array) →
+    wrong ≡ first-wrong s (v .end + 8) max-clauses (getD s (v .end + 7) 0) (got .array) →
     alike wanted (got .answer) wrong ≡ judge-agrees s v
 unfolding judge-agrees
 compared s v wanted size got wrong w z g f = rw (w, f, g, z)

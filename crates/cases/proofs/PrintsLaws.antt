@@ -10,7 +10,7 @@ use lib.ListN.{length, take, drop}
 use lib.Seq.{length-take-le, take-append-seam}
 use Rattle.lists.specs.Over.{over}
 use Rattle.printing.specs.Printed.{printed}
-use Rattle.printing.specs.Printing.{Printing, unwritten, printing}
+use Rattle.printing.specs.Printing.{max-input, max-print, Printing, unwritten, printing}
 use Rattle.printing.proofs.PrintLaws.{count-within}
 use Rattle.cases.specs.declared.corpus.Vector.{Vector}
 use Rattle.cases.specs.Comparing.{first-wrong}
@@ -19,11 +19,11 @@ use Rattle.cases.specs.Prints.{text-of, all-stand, prints, print-agrees}
 
 -- what print counts of the buffer is the text
 text-written :
-    (s b c : List ℕ) (r : ℕ) → 60026 ≤ length b → printing s b ≡ record { count = r; buffer = c } → take r c ≡ text-of s
+    (s b c : List ℕ) (r : ℕ) → max-print ≤ length b → printing s b ≡ record { count = r; buffer = c } → take r c ≡ text-of s
 unfolding printing
 text-written s b c r long e =
-    rw (← ap (λ (p : Printing). p .count) e, ← ap (λ (p : Printing). p .buffer) e, le-ltb (length b) 60026 long)
-    (go (ltb 16384 (length s)))
+    rw (← ap (λ (p : Printing). p .count) e, ← ap (λ (p : Printing). p .buffer) e, le-ltb (length b) max-print long)
+    (go (ltb max-input (length s)))
   where
     go : (x : Bool)
         → (let p = cond x (unwritten b) (record { count = length (printed s); buffer = over (printed s) b }) in take (p .count) (p .buffer))

@@ -15,7 +15,7 @@ use Rattle.enumeration.specs.Values.{checkpoint-values, answer-values, values}
 use Rattle.cases.specs.declared.corpus.Vector.{Vector}
 use Rattle.cases.specs.declared.walking.Told.{Told}
 use Rattle.cases.specs.Corpus.{four-bytes}
-use Rattle.cases.specs.Walking.{written, expected-call, alike, origin, called, checkpoint-wrong, start-agrees, walk-agrees}
+use Rattle.cases.specs.Walking.{checkpoint-size, written, expected-call, alike, origin, called, checkpoint-wrong, start-agrees, walk-agrees}
 
 -- a byte of the trail is two places on in the checkpoint
 pub past-two :
@@ -27,16 +27,16 @@ past-two mode length trail (suc (suc i)) h = let e : suc (suc i) - 2 ≡ i = ome
 
 -- what was copied from a part of a list is the whole of an array of the part's length
 pub copied :
-    (s old new : List ℕ) (at : ℕ) →
-    at + 48 ≤ length s →
-    length old ≡ 48 →
-    (let part = take (at + 48 - at) (drop at s) in new ≡ take (length part) part ++ drop (length part) old) →
-    new ≡ take 48 (drop at s)
-copied s old new at h l f =
-    let d : at + 48 - at ≡ 48 = omega arith in
-    let m : 48 ≤ length (drop at s) = rw length-drop (omega arith) in
-    let n : length (take 48 (drop at s)) ≡ 48 = length-take-le 48 (drop at s) m in
-    let z : drop 48 old ≡ [] = rw (← l) (drop-length old) in
+    (k : ℕ) (s old new : List ℕ) (at : ℕ) →
+    at + k ≤ length s →
+    length old ≡ k →
+    (let part = take (at + k - at) (drop at s) in new ≡ take (length part) part ++ drop (length part) old) →
+    new ≡ take k (drop at s)
+copied k s old new at h l f =
+    let d : at + k - at ≡ k = omega arith in
+    let m : k ≤ length (drop at s) = rw length-drop (omega arith) in
+    let n : length (take k (drop at s)) ≡ k = length-take-le k (drop at s) m in
+    let z : drop k old ≡ [] = rw (← l) (drop-length old) in
     f ∙ rw (d, take-length, n, z, append-nil)
 
 -- the values of an answer have the checkpoint beside it
@@ -59,7 +59,7 @@ calling s v last from budget r f b e = rw (e, f, b)
 
 pub start-compared :
     (s : List ℕ) (v : Vector) (c : Checkpoint) (wrong : ℕ) →
-    c ≡ start → wrong ≡ checkpoint-wrong s (v .end) c → eqb wrong 50 ≡ start-agrees s v
+    c ≡ start → wrong ≡ checkpoint-wrong s (v .end) c → eqb wrong checkpoint-size ≡ start-agrees s v
 unfolding start-agrees
 start-compared s v c wrong e f = rw (f, e)
 

@@ -1,7 +1,8 @@
 -- Bytes that a call gives, compared with those that the corpus has.
-use Prim.Native.Nat.{ℕ, zero, suc, _+_}
+use Prim.Native.Nat.{ℕ, zero, suc, _+_, _≤_}
 use mathlib.Core.Bool.{cond}
 use mathlib.Core.List.{List}
+use mathlib.Core.Path.{_≡_}
 use lib.Dec.{eqb, ltb}
 use lib.ListN.{length, getD}
 
@@ -18,3 +19,8 @@ wrong-from s at kept fill got (suc k) i =
 -- the first of all places, else how many they are
 unfoldable pub first-wrong : List ℕ → ℕ → ℕ → ℕ → List ℕ → ℕ
 first-wrong s at kept fill got = wrong-from s at kept fill got (length got) 0
+
+-- the place that the search gives
+pub record WrongAt (s : List ℕ) (at kept fill : ℕ) (got : List ℕ) (r : ℕ) : Type 0 where
+  pub place : r ≡ first-wrong s at kept fill got
+  pub within : r ≤ length got

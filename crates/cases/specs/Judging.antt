@@ -4,6 +4,7 @@ use mathlib.Core.Bool.{Bool, _&&_}
 use mathlib.Core.List.{List, _++_}
 use lib.Dec.{eqb}
 use lib.ListN.{getD, take, drop, replicate}
+use Rattle.limits.specs.Limits.{max-clauses}
 use Rattle.matched.specs.Judge.{judge}
 use Rattle.matched.specs.Judge.{Answer as Values}
 use Rattle.cases.specs.declared.answers.Answer.{Answer}
@@ -45,4 +46,4 @@ unfoldable pub judge-agrees : List ℕ → Vector → Bool
 judge-agrees s v =
     let fill = getD s (v .end + 7) 0 in
     let j = judged (take (v .end - v .start) (drop (v .start) s)) (getD s (v .end + 6) 0) fill in
-    alike (expected s (v .end)) (j .answer) (first-wrong s (v .end + 8) 96 fill (j .array))
+    alike (expected s (v .end)) (j .answer) (first-wrong s (v .end + 8) max-clauses fill (j .array))

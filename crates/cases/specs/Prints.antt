@@ -5,13 +5,14 @@ use mathlib.Core.List.{List, []}
 use lib.Dec.{eqb, ltb}
 use lib.ListN.{length, take, drop}
 use Rattle.printing.specs.Printed.{printed}
+use Rattle.printing.specs.Printing.{max-input}
 use Rattle.cases.specs.declared.corpus.Vector.{Vector}
 use Rattle.cases.specs.Comparing.{first-wrong}
 use Rattle.cases.specs.Corpus.{two-bytes}
 
 -- what print writes: nothing for an input that it does not read
 abbrev pub text-of : List ℕ → List ℕ
-text-of s = cond (ltb 16384 (length s)) [] (printed s)
+text-of s = cond (ltb max-input (length s)) [] (printed s)
 
 -- there are as many bytes as must be, and the first wrong one would stand behind them
 abbrev pub all-stand : ℕ → ℕ → ℕ → Bool

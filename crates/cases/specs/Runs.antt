@@ -1,5 +1,5 @@
 -- The vectors of a file, each by its act.
-use Prim.Native.Nat.{ℕ, zero, suc, _+_}
+use Prim.Native.Nat.{ℕ, zero, suc, _+_, _≤_}
 use mathlib.Core.Bool.{Bool, cond}
 use mathlib.Core.List.{List}
 use mathlib.Core.Path.{_≡_}
@@ -18,16 +18,21 @@ use Rattle.cases.specs.Judging.{judge-agrees}
 use Rattle.cases.specs.Prints.{print-agrees}
 use Rattle.cases.specs.Totals.{counted, Grown}
 use Rattle.cases.specs.Trying.{compare-agrees}
-use Rattle.cases.specs.Walking.{start-agrees, walk-agrees, walk-leaves}
+use Rattle.cases.specs.Walking.{checkpoint-size, start-agrees, walk-agrees, walk-leaves}
 
 -- the size of the fields of an act's vector
 abbrev pub size-of : Act → ℕ
 size-of Check = 14
 size-of Judge = 104
-size-of Start = 50
+size-of Start = checkpoint-size
 size-of Walk = 127
 size-of Compare = 6
 size-of Print = 0
+
+-- and what the program takes for it, at most as much as a walk's
+pub record FieldsOf (act : Act) (r : ℕ) : Type 0 where
+  pub size : r ≡ size-of act
+  pub few : r ≤ size-of Walk
 
 -- the act gives what the vector expects
 abbrev pub agrees : Act → List ℕ → Vector → Checkpoint → Bool
@@ -62,6 +67,11 @@ run-from (suc k) act s at t last =
 -- all vectors, counted on from totals; the start checkpoint stands for that of a last call
 unfoldable pub run-of : Act → List ℕ → Totals → Run
 run-of act s t = run-from (length s) act s 0 t start
+
+-- a run over all vectors, and how much the totals have grown by it
+pub record Ran (act : Act) (s : List ℕ) (t : Totals) (r : Run) : Type 0 where
+  pub run : r ≡ run-of act s t
+  pub grown : Grown (length s) t (r .totals)
 
 -- from t to r by a file: by some bytes, since no contract can say which a file has
 pub record AfterFile (act : Act) (t r : Totals) : Type 0 where

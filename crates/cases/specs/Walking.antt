@@ -2,11 +2,15 @@
 use Prim.Native.Nat.{ℕ, _+_, _-_}
 use mathlib.Core.Bool.{Bool, cond, _&&_}
 use mathlib.Core.List.{List}
+use mathlib.Core.Path.{_≡_}
 use lib.Dec.{eqb}
 use lib.ListN.{getD, take, drop}
+use Rattle.limits.specs.Limits.{max-variables}
 use Rattle.walk.specs.Checkpoints.{Checkpoint, start}
 use Rattle.walk.specs.WalkCall.{Kind, says-model, says-spent, says-ended, says-refused, Result, walk-call}
+use Rattle.enumeration.specs.Values.{checkpoint-values}
 use Rattle.cases.specs.declared.corpus.Vector.{Vector}
+use Rattle.cases.specs.declared.walking.Compared.{Compared}
 use Rattle.cases.specs.declared.walking.Told.{Told}
 use Rattle.cases.specs.Answers.{plain, expected, same}
 use Rattle.cases.specs.Comparing.{first-wrong}
@@ -36,9 +40,13 @@ expected-call s at = record {
   expansions = four-bytes s (at + 18);
 }
 
+-- the bytes of a checkpoint: its mode, its length and its trail
+abbrev pub checkpoint-size : ℕ
+checkpoint-size = 2 + max-variables
+
 -- the checkpoint at an offset: its mode, its length, its trail
 abbrev pub checkpoint-at : List ℕ → ℕ → Checkpoint
-checkpoint-at s at = record { mode = getD s at 0; length = getD s (at + 1) 0; bytes = take 48 (drop (at + 2) s) }
+checkpoint-at s at = record { mode = getD s at 0; length = getD s (at + 1) 0; bytes = take max-variables (drop (at + 2) s) }
 
 -- the checkpoint that the call gets, by the byte at an offset: 0 the one that follows, 1 the start checkpoint, else the last
 abbrev pub origin : List ℕ → ℕ → Checkpoint → Checkpoint
@@ -50,22 +58,22 @@ unfoldable pub called : List ℕ → Vector → Checkpoint → Result
 called s v last =
     walk-call (take (v .end - v .start) (drop (v .start) s)) (origin s (v .end + 72) last) (four-bytes s (v .end + 123))
 
--- where the checkpoint first has another byte than stands in s from an offset on; 50 if nowhere
+-- where the checkpoint first has another byte than stands in s from an offset on; its size if nowhere
 unfoldable pub checkpoint-wrong : List ℕ → ℕ → Checkpoint → ℕ
 checkpoint-wrong s at c =
     cond (eqb (c .mode) (getD s at 0))
-    (cond (eqb (c .length) (getD s (at + 1) 0)) (2 + first-wrong s (at + 2) 48 0 (c .bytes)) 1)
+    (cond (eqb (c .length) (getD s (at + 1) 0)) (2 + first-wrong s (at + 2) max-variables 0 (c .bytes)) 1)
     0
 
 -- no byte of the checkpoint is wrong, and all else is the same
 abbrev pub alike : Told → Told → ℕ → Bool
 alike a b wrong =
-    eqb wrong 50 && eqb (a .model) (b .model) && eqb (a .steps) (b .steps) && eqb (a .expansions) (b .expansions)
+    eqb wrong checkpoint-size && eqb (a .model) (b .model) && eqb (a .steps) (b .steps) && eqb (a .expansions) (b .expansions)
     && same (a .answer) (b .answer)
 
 -- the start checkpoint is the expected one
 unfoldable pub start-agrees : List ℕ → Vector → Bool
-start-agrees s v = eqb (checkpoint-wrong s (v .end) start) 50
+start-agrees s v = eqb (checkpoint-wrong s (v .end) start) checkpoint-size
 
 -- the vector's call gives what it must
 unfoldable pub walk-agrees : List ℕ → Vector → Checkpoint → Bool
@@ -76,3 +84,8 @@ walk-agrees s v last =
 -- the checkpoint that the call returns
 unfoldable pub walk-leaves : List ℕ → Vector → Checkpoint → Checkpoint
 walk-leaves s v last = called s v last .checkpoint
+
+-- what a comparison gives: whether the vector agrees, and the checkpoint that the last call returned
+pub record Gives (agreeing : Bool) (leaving : Checkpoint) (r : Compared) : Type 0 where
+  pub agrees : r .agrees ≡ agreeing
+  pub leaves : checkpoint-values (r .last) ≡ leaving

@@ -2,7 +2,7 @@
 ghost use Prim.Native.Nat.{_+_, _≤_};
 ghost use mathlib.Core.Path.{_≡_};
 ghost use lib.ListN.{length};
-ghost use Rattle.cases.specs.Comparing.{wanted-byte, first-wrong};
+ghost use Rattle.cases.specs.Comparing.{wanted-byte, WrongAt};
 
 // The byte that must stand at i: those before `kept` stand in the file from an offset on, and the others are the fill.
 pub fn wanted_byte(bytes: &[u8], at: usize, kept: usize, fill: u8, i: usize) -> u8
@@ -18,7 +18,7 @@ pub fn wanted_byte(bytes: &[u8], at: usize, kept: usize, fill: u8, i: usize) -> 
 // Where the bytes that a call gave first have another than they must; how many they are, if nowhere.
 pub fn first_wrong(bytes: &[u8], at: usize, kept: usize, fill: u8, got: &[u8]) -> usize
     requires { ⌜ at + kept ≤ length (now bytes) ⌝ }
-    ensures { λ r. ⌜ (r ≡ first-wrong (now (bytes .entry)) at kept fill (now (got .entry))) × (r ≤ length (now (got .entry))) ⌝ }
+    ensures { λ r. ⌜ WrongAt (now (bytes .entry)) at kept fill (now (got .entry)) r ⌝ }
 {
     let mut i: usize = 0;
     while i < got.len() {

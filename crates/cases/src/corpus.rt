@@ -1,8 +1,8 @@
 // Numbers and vectors in a file of the corpus.
-ghost use Prim.Native.Nat.{_+_, _<_, _≤_};
+ghost use Prim.Native.Nat.{_+_, _≤_};
 ghost use mathlib.Core.Path.{_≡_};
 ghost use lib.ListN.{length};
-ghost use Rattle.cases.specs.Corpus.{two-bytes, four-bytes, eight-bytes, framed};
+ghost use Rattle.cases.specs.Corpus.{two-bytes, four-bytes, eight-bytes, Read, framed};
 
 // A vector: its number, where its input starts, and where the input ends and the fields start.
 pub struct Vector {
@@ -18,21 +18,21 @@ pub enum Framed {
 }
 
 pub fn wide(x: u8) -> u64
-    ensures { λ r. ⌜ (r ≡ x) × (r < 256) ⌝ }
+    ensures { λ r. ⌜ Read x 256 r ⌝ }
 {
     x as u64
 }
 
 pub fn two_bytes(bytes: &[u8], at: usize) -> u64
     requires { ⌜ at + 2 ≤ length (now bytes) ⌝ }
-    ensures { λ r. ⌜ (r ≡ two-bytes (now (bytes .entry)) at) × (r < 65536) ⌝ }
+    ensures { λ r. ⌜ Read (two-bytes (now (bytes .entry)) at) 65536 r ⌝ }
 {
     wide(bytes[at]) + 256 * wide(bytes[at + 1])
 }
 
 pub fn four_bytes(bytes: &[u8], at: usize) -> u64
     requires { ⌜ at + 4 ≤ length (now bytes) ⌝ }
-    ensures { λ r. ⌜ (r ≡ four-bytes (now (bytes .entry)) at) × (r < 4294967296) ⌝ }
+    ensures { λ r. ⌜ Read (four-bytes (now (bytes .entry)) at) 4294967296 r ⌝ }
 {
     two_bytes(bytes, at) + 65536 * two_bytes(bytes, at + 2)
 }

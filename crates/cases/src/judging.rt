@@ -75,7 +75,7 @@ pub fn judge_vector(bytes: &[u8], v: Vector) -> bool
     let got = judge_filled(&bytes[start..end], size, fill);
     let answer = got.answer;
     let array = got.array;
-    let wrong = first_wrong(bytes, end + 8, 96, fill, &array);
+    let wrong = first_wrong(bytes, end + 8, limits::MAX_CLAUSES, fill, &array);
     if agree(wanted, answer, wrong) {
         return true;
     }
@@ -83,7 +83,7 @@ pub fn judge_vector(bytes: &[u8], v: Vector) -> bool
     if wrong < 256 {
         report::wrong_byte(
             wrong,
-            wanted_byte(bytes, end + 8, 96, fill, wrong),
+            wanted_byte(bytes, end + 8, limits::MAX_CLAUSES, fill, wrong),
             array[wrong],
         );
     }

@@ -66,7 +66,7 @@ fn run_files(name: &[u8], count: u8, act: Act, unit: &[u8])
     let mut t = totals::none();
     let mut i: u8 = 0;
     while i < count {
-        path[end] = 97 + i;
+        path[end] = b'a' + i;
         t = run_file(t, &path[..end + 1], act);
         i += 1;
     }

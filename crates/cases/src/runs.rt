@@ -1,10 +1,10 @@
 // The vectors of a file, each by its act.
 ghost use Prim.Native.Nat.{_+_, _≤_};
-ghost use mathlib.Core.Path.{_≡_};
 ghost use lib.ListN.{length};
 ghost use Rattle.enumeration.specs.Values.{checkpoint-values};
-ghost use Rattle.cases.specs.Runs.{size-of, agrees, leaves, run-of};
-ghost use Rattle.cases.specs.Totals.{Room, Grown};
+ghost use Rattle.cases.specs.Runs.{size-of, FieldsOf, agrees, leaves, Ran};
+ghost use Rattle.cases.specs.Totals.{Room};
+ghost use Rattle.cases.specs.Walking.{Gives};
 use crate::checking::check_vector;
 use crate::corpus::Framed;
 use crate::corpus::Vector;
@@ -14,6 +14,7 @@ use crate::prints::print_vector;
 use crate::totals;
 use crate::totals::Totals;
 use crate::trying::compare_vector;
+use crate::walking::CHECKPOINT_SIZE;
 use crate::walking::Compared;
 use crate::walking::start_vector;
 use crate::walking::walk_vector;
@@ -36,12 +37,12 @@ pub struct Run {
 
 // The size of the fields of an act's vector: the expected answer, and the act's own.
 fn fields_of(act: Act) -> usize
-    ensures { λ r. ⌜ (r ≡ size-of act) × (r ≤ 127) ⌝ }
+    ensures { λ r. ⌜ FieldsOf act r ⌝ }
 {
     match act {
         Act::Check => 14,
         Act::Judge => 104,
-        Act::Start => 50,
+        Act::Start => CHECKPOINT_SIZE,
         Act::Walk => 127,
         Act::Compare => 6,
         Act::Print => 0,
@@ -51,8 +52,7 @@ fn fields_of(act: Act) -> usize
 // Whether the act gives what the vector expects, and the checkpoint of the last walk call; a difference is printed.
 fn run_vector(bytes: &[u8], v: Vector, act: Act, last: Checkpoint) -> Compared
     requires { ⌜ (v .start ≤ v .end) × (v .end + size-of act ≤ length (now bytes)) ⌝ }
-    ensures { λ r. ⌜ r .agrees ≡ agrees act (now (bytes .entry)) v (checkpoint-values last) ⌝ }
-    ensures { λ r. ⌜ checkpoint-values (r .last) ≡ leaves act (now (bytes .entry)) v (checkpoint-values last) ⌝ }
+    ensures { λ r. ⌜ Gives (agrees act (now (bytes .entry)) v (checkpoint-values last)) (leaves act (now (bytes .entry)) v (checkpoint-values last)) r ⌝ }
 {
     match act {
         Act::Check => Compared {
@@ -82,8 +82,7 @@ fn run_vector(bytes: &[u8], v: Vector, act: Act, last: Checkpoint) -> Compared
 // All vectors of a file, up to one that runs past its end, counted on from the totals so far.
 pub fn run_all(bytes: &[u8], act: Act, t: Totals) -> Run
     requires { ⌜ Room (length (now bytes)) t ⌝ }
-    ensures { λ r. ⌜ r ≡ run-of act (now (bytes .entry)) t ⌝ }
-    ensures { λ r. ⌜ Grown (length (now (bytes .entry))) t (r .totals) ⌝ }
+    ensures { λ r. ⌜ Ran act (now (bytes .entry)) t r ⌝ }
 {
     let fields = fields_of(act);
     let mut at: usize = 0;

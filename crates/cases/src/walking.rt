@@ -3,8 +3,9 @@ ghost use Prim.Native.Nat.{_+_, _<_, _≤_};
 ghost use mathlib.Core.List.{_∷_};
 ghost use mathlib.Core.Path.{_≡_};
 ghost use lib.ListN.{length, getD, take, drop};
+ghost use Rattle.limits.specs.Limits.{max-variables};
 ghost use Rattle.enumeration.specs.Values.{checkpoint-values, values};
-ghost use Rattle.cases.specs.Walking.{written, expected-call, alike, checkpoint-at, origin, called, checkpoint-wrong, start-agrees, walk-agrees, walk-leaves};
+ghost use Rattle.cases.specs.Walking.{written, expected-call, checkpoint-size, alike, checkpoint-at, origin, called, checkpoint-wrong, start-agrees, walk-agrees, walk-leaves, Gives};
 use crate::answers::Answer;
 use crate::answers::bare;
 use crate::answers::equal;
@@ -17,6 +18,9 @@ use crate::corpus::four_bytes;
 use crate::report;
 use enumeration::Checkpoint;
 use enumeration::Walked;
+
+// The bytes of a checkpoint: its mode, its length and its trail.
+pub const CHECKPOINT_SIZE: usize = 2 + limits::MAX_VARIABLES;
 
 // What a call gives beside its checkpoint: the answer, the model or 0, and the steps and expansions made.
 pub struct Told {
@@ -81,7 +85,7 @@ fn expected_call(bytes: &[u8], at: usize) -> Told
 fn agree(wanted: Told, got: Told, wrong: usize) -> bool
     ensures { λ r. ⌜ r ≡ alike wanted got wrong ⌝ }
 {
-    if wrong != 50 {
+    if wrong != CHECKPOINT_SIZE {
         return false;
     }
     if wanted.model != got.model {
@@ -98,19 +102,19 @@ fn agree(wanted: Told, got: Told, wrong: usize) -> bool
     equal(wanted_answer, answer)
 }
 
-fn trail_at(bytes: &[u8], at: usize) -> [u8; 48]
-    requires { ⌜ at + 48 ≤ length (now bytes) ⌝ }
-    ensures { λ r. ⌜ r ≡ take 48 (drop at (now (bytes .entry))) ⌝ }
+fn trail_at(bytes: &[u8], at: usize) -> [u8; limits::MAX_VARIABLES]
+    requires { ⌜ at + max-variables ≤ length (now bytes) ⌝ }
+    ensures { λ r. ⌜ r ≡ take max-variables (drop at (now (bytes .entry))) ⌝ }
 {
-    let mut trail = [0u8; 48];
-    let end = at + 48;
+    let mut trail = [0u8; limits::MAX_VARIABLES];
+    let end = at + limits::MAX_VARIABLES;
     bytes::copy(&bytes[at..end], &mut trail);
     trail
 }
 
 // The checkpoint at an offset.
 fn checkpoint_at(bytes: &[u8], at: usize) -> Checkpoint
-    requires { ⌜ at + 50 ≤ length (now bytes) ⌝ }
+    requires { ⌜ at + checkpoint-size ≤ length (now bytes) ⌝ }
     ensures { λ r. ⌜ checkpoint-values r ≡ checkpoint-at (now (bytes .entry)) at ⌝ }
 {
     Checkpoint {
@@ -122,7 +126,7 @@ fn checkpoint_at(bytes: &[u8], at: usize) -> Checkpoint
 
 // The checkpoint that the call gets, by the byte at an offset: 0 the one that follows, 1 the start checkpoint, else the last.
 fn call_origin(bytes: &[u8], at: usize, last: Checkpoint) -> Checkpoint
-    requires { ⌜ at + 51 ≤ length (now bytes) ⌝ }
+    requires { ⌜ at + 1 + checkpoint-size ≤ length (now bytes) ⌝ }
     ensures { λ r. ⌜ checkpoint-values r ≡ origin (now (bytes .entry)) at (checkpoint-values last) ⌝ }
 {
     let from = bytes[at];
@@ -149,7 +153,7 @@ fn call(bytes: &[u8], v: Vector, last: Checkpoint) -> Walked
 
 // The byte of a checkpoint at i: its mode, its length, its trail.
 fn checkpoint_byte(c: Checkpoint, i: usize) -> u8
-    requires { ⌜ i < 50 ⌝ }
+    requires { ⌜ i < checkpoint-size ⌝ }
     ensures { λ r. ⌜ r ≡ getD (c .mode ∷ (c .length ∷ c .bytes)) i 0 ⌝ }
 {
     if i == 0 {
@@ -162,9 +166,9 @@ fn checkpoint_byte(c: Checkpoint, i: usize) -> u8
     trail[i - 2]
 }
 
-// Where the checkpoint first has another byte than stands in the file from an offset on; 50 if nowhere.
+// Where the checkpoint first has another byte than stands in the file from an offset on; its size if nowhere.
 fn checkpoint_wrong(bytes: &[u8], at: usize, c: Checkpoint) -> usize
-    requires { ⌜ at + 50 ≤ length (now bytes) ⌝ }
+    requires { ⌜ at + checkpoint-size ≤ length (now bytes) ⌝ }
     ensures { λ r. ⌜ r ≡ checkpoint-wrong (now (bytes .entry)) at (checkpoint-values c) ⌝ }
 {
     if c.mode != bytes[at] {
@@ -174,26 +178,26 @@ fn checkpoint_wrong(bytes: &[u8], at: usize, c: Checkpoint) -> usize
         return 1;
     }
     let trail = c.bytes;
-    2 + first_wrong(bytes, at + 2, 48, 0, &trail)
+    2 + first_wrong(bytes, at + 2, limits::MAX_VARIABLES, 0, &trail)
 }
 
 fn report_byte(bytes: &[u8], at: usize, c: Checkpoint, wrong: usize)
-    requires { ⌜ at + 50 ≤ length (now bytes) ⌝ }
+    requires { ⌜ at + checkpoint-size ≤ length (now bytes) ⌝ }
 {
-    if wrong < 50 {
+    if wrong < CHECKPOINT_SIZE {
         report::wrong_byte(wrong, bytes[at + wrong], checkpoint_byte(c, wrong));
     }
 }
 
 // Whether the start checkpoint is the expected one; a difference is printed.
 pub fn start_vector(bytes: &[u8], v: Vector) -> bool
-    requires { ⌜ v .end + 50 ≤ length (now bytes) ⌝ }
+    requires { ⌜ v .end + checkpoint-size ≤ length (now bytes) ⌝ }
     ensures { λ r. ⌜ r ≡ start-agrees (now (bytes .entry)) v ⌝ }
 {
     let end = v.end;
     let c = enumeration::start_checkpoint();
     let wrong = checkpoint_wrong(bytes, end, c);
-    if wrong == 50 {
+    if wrong == CHECKPOINT_SIZE {
         return true;
     }
     report::other_checkpoint(v.number);
@@ -204,8 +208,7 @@ pub fn start_vector(bytes: &[u8], v: Vector) -> bool
 // Whether the vector's call gives what it must, and the checkpoint that it returned; a difference is printed.
 pub fn walk_vector(bytes: &[u8], v: Vector, last: Checkpoint) -> Compared
     requires { ⌜ (v .start ≤ v .end) × (v .end + 127 ≤ length (now bytes)) ⌝ }
-    ensures { λ r. ⌜ r .agrees ≡ walk-agrees (now (bytes .entry)) v (checkpoint-values last) ⌝ }
-    ensures { λ r. ⌜ checkpoint-values (r .last) ≡ walk-leaves (now (bytes .entry)) v (checkpoint-values last) ⌝ }
+    ensures { λ r. ⌜ Gives (walk-agrees (now (bytes .entry)) v (checkpoint-values last)) (walk-leaves (now (bytes .entry)) v (checkpoint-values last)) r ⌝ }
 {
     let end = v.end;
     let wanted = expected_call(bytes, end);

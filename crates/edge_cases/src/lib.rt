@@ -1,1 +1,1 @@
-// Theory only: the cases at the edges that document 01 marks to be proved. See proofs/EdgeCases.antt.
+// Theory only: the cases at the edges that document 01 marks to be proved. See specs/MarkedCases.antt.

@@ -11,26 +11,26 @@ use Rattle.enumeration.specs.declared.Run.{Run}
 use Rattle.enumeration.specs.declared.State.{State}
 use Rattle.enumeration.specs.InnerState.{position-at, position-in, Holds, Ran, kind-of-answer, model-of-answer}
 use Rattle.enumeration.specs.InnerRead.{Node}
-use Rattle.printing.specs.Placed.{Room, Wrote}
-use Rattle.printing.specs.Printed.{model-line, end-line, more-line, call-lines}
+use Rattle.writing.specs.Placed.{Room, Wrote}
+use Rattle.printing.specs.Printed.{model-line, end-line, more-line, call-lines, max-models, line-budget}
 use Rattle.printing.specs.InnerLines.{lines-from}
-use Rattle.printing.proofs.PlacedLaws.{placed-none, wrote-more}
+use Rattle.writing.proofs.PlacedLaws.{placed-none, wrote-more}
 
 -- the lines so far are written, and the others go on from s, with room for `left` models more
 pub record Going (K : Tree) (n at : ℕ) (before now : List ℕ) (s : State) (next left : ℕ) : Type 0 where
   pub holds : Holds K s
   pub written : List ℕ
   pub wrote : Wrote written at before now next
-  pub same : lines-from K n 1000 (down empty) ≡ written ++ lines-from K n left (position-in s)
+  pub same : lines-from K n max-models (down empty) ≡ written ++ lines-from K n left (position-in s)
 
 -- nothing is written yet
-pub going-first : (K : Tree) (n at : ℕ) (before : List ℕ) (s : State) → Node K empty s → Going K n at before before s at 1000
+pub going-first : (K : Tree) (n at : ℕ) (before : List ℕ) (s : State) → Node K empty s → Going K n at before before s at max-models
 going-first K n at before s h =
     record {
       holds = h .holds;
       written = [];
       wrote = record { buffer = placed-none at before; next = omega arith };
-      same = ap (lines-from K n 1000) (sym (ap₂ position-at (h .place) (h .stack)));
+      same = ap (lines-from K n max-models) (sym (ap₂ position-at (h .place) (h .stack)));
     }
 
 -- ---- what a run prints
@@ -53,25 +53,25 @@ module _ (n s e : ℕ) (rest : List ℕ) where
 
 -- one call in front
 lines-next : (K : Tree) (n left : ℕ) (p : Position) → 0 < left
-    → (let q = resume K 96 p in lines-from K n left p ≡ call-lines n (q .answer) (q .steps) (q .expansions) (lines-from K n (left - 1) (q .position)))
+    → (let q = resume K line-budget p in lines-from K n left p ≡ call-lines n (q .answer) (q .steps) (q .expansions) (lines-from K n (left - 1) (q .position)))
 unfolding lines-from
 lines-next K n zero p h = absurd (omega arith)
 lines-next K n (suc j) p h = let e : suc j - 1 ≡ j = omega arith in rw e
 
-module _ (K : Tree) (n left : ℕ) (s : State) (r : Run) (R : Ran K r (resume K 96 (position-in s))) (some : 0 < left) where
+module _ (K : Tree) (n left : ℕ) (s : State) (r : Run) (R : Ran K r (resume K line-budget (position-in s))) (some : 0 < left) where
   pub lines-model : r .answer ≡ 0 → lines-from K n left (position-in s) ≡ model-line n (r .model) (r .steps) (r .expansions) ++ lines-from K n (left - 1) (position-in (r .state))
   lines-model e =
-      let q = resume K 96 (position-in s) in
+      let q = resume K line-budget (position-in s) in
       lines-next K n left (position-in s) some ∙ rw (R .model, R .steps, R .expansions, R .position) (call-model n (q .steps) (q .expansions) _ (q .answer) (sym (R .answer) ∙ e))
 
   pub lines-end : r .answer ≡ 2 → lines-from K n left (position-in s) ≡ end-line (r .steps) (r .expansions)
   lines-end e =
-      let q = resume K 96 (position-in s) in
+      let q = resume K line-budget (position-in s) in
       lines-next K n left (position-in s) some ∙ rw (R .steps, R .expansions) (call-end n (q .steps) (q .expansions) _ (q .answer) (sym (R .answer) ∙ e))
 
   pub lines-spent : (r .answer ≡ 2 → ⊥) → (r .answer ≡ 0 → ⊥) → lines-from K n left (position-in s) ≡ []
   lines-spent h k =
-      let q = resume K 96 (position-in s) in
+      let q = resume K line-budget (position-in s) in
       lines-next K n left (position-in s) some ∙ call-spent n (q .steps) (q .expansions) _ (q .answer) (λ x. h (R .answer ∙ x)) (λ x. k (R .answer ∙ x))
 
 -- after the last
@@ -84,7 +84,7 @@ lines-more K n left p e = rw e
 module _ (K : Tree) (n at : ℕ) (before now : List ℕ) (s : State) (next left : ℕ) (g : Going K n at before now s next left) where
   -- there is room for the line that comes
   pub going-room : (x rest : List ℕ) → lines-from K n left (position-in s) ≡ x ++ rest → length now ≡ length before
-      → Room at (lines-from K n 1000 (down empty)) before → Room next x now
+      → Room at (lines-from K n max-models (down empty)) before → Room next x now
   going-room x rest e l h =
       let a = ap length (g .same) ∙ length-append (g .written) _ in
       let b = ap length e ∙ length-append x rest in
@@ -105,9 +105,9 @@ module _ (K : Tree) (n at : ℕ) (before now : List ℕ) (s : State) (next left 
 
   -- the last line
   pub going-last : (x now′ : List ℕ) (next′ : ℕ) → at ≤ length before → lines-from K n left (position-in s) ≡ x → Wrote x next now now′ next′
-      → Wrote (lines-from K n 1000 (down empty)) at before now′ next′
+      → Wrote (lines-from K n max-models (down empty)) at before now′ next′
   going-last x now′ next′ h e w = rw (g .same, e) (wrote-more h (g .wrote) w)
 
   -- no line more
-  pub going-stop : lines-from K n left (position-in s) ≡ [] → Wrote (lines-from K n 1000 (down empty)) at before now next
+  pub going-stop : lines-from K n left (position-in s) ≡ [] → Wrote (lines-from K n max-models (down empty)) at before now next
   going-stop e = rw (g .same, e, append-nil (g .written)) (g .wrote)

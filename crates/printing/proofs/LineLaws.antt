@@ -4,14 +4,15 @@ use mathlib.Core.List.{[], _∷_}
 use mathlib.Core.Path.{_≡_}
 use native.Mathlib.Omega.{arith}
 use lib.ListN.{length, length-append}
+use Rattle.limits.specs.Limits.{max-variables}
 use Rattle.lists.proofs.TabulatedLaws.{length-tabulated}
-use Rattle.printing.specs.Printed.{decimal, digit, line-of, header, model-line, end-line, refused-line}
-use Rattle.printing.proofs.DecimalLaws.{decimal-length}
+use Rattle.writing.specs.Text.{decimal, digit, line-of}
+use Rattle.writing.proofs.DecimalLaws.{decimal-length}
+use Rattle.writing.proofs.LineLaws.{numbers-length}
+use Rattle.printing.specs.Printing.{max-header, max-model-line}
+use Rattle.printing.specs.Printed.{header, model-line, end-line, refused-line}
 
 -- ---- sums
-
-pub numbers-sum : (x y : ℕ) → length (line-of (decimal x ∷ decimal y ∷ [])) ≡ length (decimal x) + length (decimal y) + 2
-numbers-sum x y = simp length-append (omega arith)
 
 pub header-sum : (n m : ℕ) → length (header n m) ≡ 17 + length (decimal n) + length (decimal m)
 header-sum n m = simp length-append (omega arith)
@@ -21,18 +22,14 @@ model-line-sum n a s e = let z = length-tabulated (digit a) n in simp length-app
 
 -- ---- bounds
 
-pub header-length : (n m : ℕ) → n < 100 → m < 100 → length (header n m) ≤ 21
+pub header-length : (n m : ℕ) → n < 100 → m < 100 → length (header n m) ≤ max-header
 header-length n m h k = omega (arith, header-sum n m, decimal-length 1 n h, decimal-length 1 m k)
 
--- two numbers, the second of at most 7 digits
-numbers-length : (s e : ℕ) → s < 100 → e < 10 ^ 7 → length (line-of (decimal s ∷ decimal e ∷ [])) ≤ 11
-numbers-length s e k l = omega (arith, numbers-sum s e, decimal-length 1 s k, decimal-length 6 e l)
-
-pub model-line-length : (n a s e : ℕ) → n ≤ 48 → s < 100 → e < 10 ^ 7 → length (model-line n a s e) ≤ 60
-model-line-length n a s e h k l = omega (arith, model-line-sum n a s e, numbers-length s e k l)
+pub model-line-length : (n a s e : ℕ) → n ≤ max-variables → s < 100 → e < 10 ^ 7 → length (model-line n a s e) ≤ max-model-line
+model-line-length n a s e h k l = omega (arith, model-line-sum n a s e, numbers-length 1 6 s e k l)
 
 pub end-line-length : (s e : ℕ) → s < 100 → e < 10 ^ 7 → length (end-line s e) ≤ 15
-end-line-length s e k l = omega (arith, numbers-length s e k l)
+end-line-length s e k l = omega (arith, numbers-length 1 6 s e k l)
 
 pub refused-line-length : (number place : ℕ) → number < 100 → place < 10 ^ 5 → length (refused-line number place) ≤ 17
-refused-line-length number place k l = omega (arith, numbers-sum number place, decimal-length 1 number k, decimal-length 4 place l)
+refused-line-length number place k l = omega (arith, numbers-length 1 4 number place k l)

@@ -5,7 +5,7 @@ use mathlib.Core.List.{List, _++_, map}
 use mathlib.Core.Path.{_≡_, refl, sym, ap, _∙_}
 use native.Mathlib.Omega.{arith}
 use lib.Dec.{ltb}
-use lib.ListN.{length, length-append}
+use lib.ListN.{length}
 use borrow.Author.Tests.{ltb-false, lt-ltb, le-ltb}
 use Rattle.lists.specs.Over.{over}
 use Rattle.lists.proofs.OverLaws.{over-length}
@@ -27,11 +27,10 @@ use Rattle.walk.specs.InnerStack.{empty, tree}
 use Rattle.walk.specs.InnerMachine.{down}
 use Rattle.enumeration.specs.InnerState.{Follows}
 use Rattle.enumeration.proofs.WalkLaws.{packed-is, succeeds-is, complete-follows}
-use Rattle.printing.specs.Placed.{Room, Wrote}
-use Rattle.printing.specs.Printed.{header, refusal-line, walk-lines, outcome-lines, decoding-lines, printed}
+use Rattle.writing.specs.Placed.{Wrote}
+use Rattle.printing.specs.Printed.{header, refusal-line, max-models, walk-lines, outcome-lines, decoding-lines, printed}
 use Rattle.printing.specs.InnerLines.{lines-from, Reads}
-use Rattle.printing.specs.Printing.{Printing, unwritten, printing}
-use Rattle.printing.proofs.PlacedLaws.{wrote-length}
+use Rattle.printing.specs.Printing.{max-input, max-print, Printing, unwritten, printing}
 use Rattle.printing.proofs.PrintedLaws.{printed-length}
 use Rattle.printing.proofs.WalkLinesLaws.{lines-resumed}
 
@@ -45,7 +44,7 @@ pub accepts-reads : (s : List ℕ) (f : Formula) → Accepts s f → Reads s f
 accepts-reads s f a = record { variables = a .variables; clauses = a .clauses; reads = a .reads; formula = a .formula }
 
 -- by the matching's outcome
-success-lines : (n : ℕ) (cs : List (List Literal)) (o : Outcome) → succeeds o ≡ true → outcome-lines n cs o ≡ header n (length cs) ++ walk-lines n cs 1000 0
+success-lines : (n : ℕ) (cs : List (List Literal)) (o : Outcome) → succeeds o ≡ true → outcome-lines n cs o ≡ header n (length cs) ++ walk-lines n cs max-models 0
 success-lines n cs (success vs e) t = refl
 success-lines n cs (failure taken e) t = absurd (false≢true t)
 
@@ -72,15 +71,15 @@ module _ (s : List ℕ) (f : Formula) (R : Reads s f) where
 
     -- and the lines of its walk are printed
     pub matched-prints : m .complete ≡ true
-        → printed s ≡ header (f .variables) (f .count) ++ lines-from (tree (R .variables) (R .clauses)) (f .variables) 1000 (down empty)
+        → printed s ≡ header (f .variables) (f .count) ++ lines-from (tree (R .variables) (R .clauses)) (f .variables) max-models (down empty)
     matched-prints t =
         let n = R .variables in
         let cs = R .clauses in
         let a = succeeds-is f m e n cs (R .formula) sized t in
         printed-outcome
         ∙ success-lines n cs (outcome (map variables cs)) a
-        ∙ ap (λ (l : List ℕ). header n (length cs) ++ l) (lines-resumed s n cs (R .reads) (succeeds-matched (map variables cs) (masks-words sized) a) 1000)
-        ∙ ap (λ (g : Formula). header (g .variables) (g .count) ++ lines-from (tree n cs) (g .variables) 1000 (down empty)) (sym (R .formula))
+        ∙ ap (λ (l : List ℕ). header n (length cs) ++ l) (lines-resumed s n cs (R .reads) (succeeds-matched (map variables cs) (masks-words sized) a) max-models)
+        ∙ ap (λ (g : Formula). header (g .variables) (g .count) ++ lines-from (tree n cs) (g .variables) max-models (down empty)) (sym (R .formula))
 
     -- not complete: the refusal
     pub unmatched-prints : m .complete ≡ false → printed s ≡ refusal-line (Unmatched (m .marked))
@@ -91,53 +90,39 @@ module _ (s : List ℕ) (f : Formula) (R : Reads s f) where
         ∙ failure-lines (R .variables) (f .count) (R .clauses) o (sym (ap (λ (x : Matching). x .complete) p) ∙ t)
         ∙ ap (λ (x : Matching). refusal-line (Unmatched (x .marked))) (sym p)
 
--- ---- room
-
--- for the first part of a list
-pub room-front : (xs ys ws b : List ℕ) → ws ≡ xs ++ ys → Room 0 ws b → Room 0 xs b
-room-front xs ys ws b e h = let l = ap length e ∙ length-append xs ys in omega arith
-
--- and for the part behind it
-pub room-behind : (xs ys ws b c : List ℕ) (p : ℕ) → ws ≡ xs ++ ys → Room 0 ws b → Wrote xs 0 b c p → Room p ys c
-room-behind xs ys ws b c p e h w =
-    let l = ap length e ∙ length-append xs ys in
-    let n = w .next in
-    let k = wrote-length (room-front xs ys ws b e h) w in
-    omega arith
-
 -- ---- the act
 
 -- a short buffer
-pub print-short : (s b : List ℕ) → length b < 60026 → printing s b ≡ unwritten b
+pub print-short : (s b : List ℕ) → length b < max-print → printing s b ≡ unwritten b
 unfolding printing
-print-short s b h = rw (lt-ltb (length b) 60026 h)
+print-short s b h = rw (lt-ltb (length b) max-print h)
 
-module _ (s b : List ℕ) (long : 60026 ≤ length b) where
+module _ (s b : List ℕ) (long : max-print ≤ length b) where
   -- a long input
-  pub print-long : 16384 < length s → printing s b ≡ unwritten b
+  pub print-long : max-input < length s → printing s b ≡ unwritten b
   unfolding printing
-  print-long h = rw (le-ltb (length b) 60026 long, lt-ltb 16384 (length s) h)
+  print-long h = rw (le-ltb (length b) max-print long, lt-ltb max-input (length s) h)
 
   -- the whole print
-  pub print-written : (c : List ℕ) (r : ℕ) → length s ≤ 16384 → Wrote (printed s) 0 b c r → printing s b ≡ record { count = r; buffer = c }
+  pub print-written : (c : List ℕ) (r : ℕ) → length s ≤ max-input → Wrote (printed s) 0 b c r → printing s b ≡ record { count = r; buffer = c }
   unfolding printing
   print-written c r h w =
       let z : 0 + length (printed s) ≡ length (printed s) = omega arith in
-      rw (le-ltb (length b) 60026 long, le-ltb 16384 (length s) h, w .next, w .buffer, z)
+      rw (le-ltb (length b) max-print long, le-ltb max-input (length s) h, w .next, w .buffer, z)
 
 -- no more bytes are counted than the buffer has
 pub count-within : (s b c : List ℕ) (r : ℕ) → printing s b ≡ record { count = r; buffer = c } → r ≤ length c
 unfolding printing
 count-within s b c r e =
     rw (← ap (λ (p : Printing). p .count) e, ← ap (λ (p : Printing). p .buffer) e)
-    (go (ltb (length b) 60026) (ltb 16384 (length s)) refl refl)
+    (go (ltb (length b) max-print) (ltb max-input (length s)) refl refl)
   where
-    go : (x y : Bool) → ltb (length b) 60026 ≡ x → ltb 16384 (length s) ≡ y
+    go : (x y : Bool) → ltb (length b) max-print ≡ x → ltb max-input (length s) ≡ y
         → (let p = cond x (unwritten b) (cond y (unwritten b) (record { count = length (printed s); buffer = over (printed s) b })) in p .count ≤ length (p .buffer))
     go true y h k = omega arith
     go false true h k = omega arith
     go false false h k =
-        let l = ltb-false (length b) 60026 h in
-        let m = ltb-false 16384 (length s) k in
+        let l = ltb-false (length b) max-print h in
+        let m = ltb-false max-input (length s) k in
         let n = printed-length s (omega arith) in
         rw (over-length (printed s) b (omega arith)) (omega arith)

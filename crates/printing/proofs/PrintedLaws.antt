@@ -8,6 +8,7 @@ use native.Mathlib.Omega.{arith}
 use lib.Bits.{or-lt}
 use lib.ListN.{length, getD, replicate, length-append, length-map, List·getD-map}
 use lib.Pow.{pow-pos}
+use Rattle.limits.specs.Limits.{max-variables}
 use Rattle.lists.proofs.EveryLaws.{every-getD}
 use Rattle.masks.proofs.SizeLaws.{size-le}
 use Rattle.formula.specs.declared.Refusal.{Refusal}
@@ -28,29 +29,30 @@ use Rattle.walk.specs.WalkCall.{says-model, says-ended, kind-of, plain-result}
 use Rattle.walk.specs.Gaps.{gap-after, gaps-from, gaps, PacedLater, Paced}
 use Rattle.walk.proofs.Demands.{demand-3}
 use Rattle.walk.proofs.FormulaLaws.{call-plain, last-plain}
-use Rattle.printing.specs.Printed.{header, model-line, refused-line, call-lines, walk-lines, outcome-lines, decoding-lines, printed}
+use Rattle.printing.specs.Printing.{max-input, max-model-line, max-print}
+use Rattle.printing.specs.Printed.{header, model-line, more-line, refused-line, call-lines, max-models, line-budget, walk-lines, outcome-lines, decoding-lines, printed}
 use Rattle.printing.proofs.LineLaws.{header-length, model-line-length, end-line-length, refused-line-length}
 
 -- ---- the lines of a walk
 
 -- n variables, at most B expansions for one assignment
-module _ (n B : ℕ) (cs : List (List Literal)) (few : n ≤ 48) (cheap : n * B < 10 ^ 7) where
-  -- the walk calls from k entries behind, j of them with budgets of 96
+module _ (n B : ℕ) (cs : List (List Literal)) (few : n ≤ max-variables) (cheap : n * B < 10 ^ 7) where
+  -- the walk calls from k entries behind, j of them on a line's budget
   abbrev from : ℕ → ℕ → List ℕ → Type 0
-  from j k x = PacedLater n B x (gaps (map (plain-result n cs) (plain-calls n cs k (replicate j 96))))
+  from j k x = PacedLater n B x (gaps (map (plain-result n cs) (plain-calls n cs k (replicate j line-budget))))
 
   -- after a model
-  later-short : (j k : ℕ) (x : List ℕ) → from j k x → length (walk-lines n cs j k) ≤ 60 * j + 5
+  later-short : (j k : ℕ) (x : List ℕ) → from j k x → length (walk-lines n cs j k) ≤ max-model-line * j + length more-line
   unfolding walk-lines plain-calls gaps-from
   later-short zero k x p = omega arith
   later-short (suc j) k x p =
-      let c = plain-call n cs 96 k in
+      let c = plain-call n cs line-budget k in
       go (c .answer) (c .steps) (c .expansions) (c .behind) _ p (later-short j (c .behind))
     where
       go : (a : Answer) (s e b : ℕ) (bytes : List ℕ)
-          → PacedLater n B x (gap-after (kind-of a) (0 + s) (0 + e) bytes (λ c′ e′. gaps-from c′ e′ (map (plain-result n cs) (plain-calls n cs b (replicate j 96)))))
-          → ((y : List ℕ) → from j b y → length (walk-lines n cs j b) ≤ 60 * j + 5)
-          → length (call-lines n a s e (walk-lines n cs j b)) ≤ 60 * suc j + 5
+          → PacedLater n B x (gap-after (kind-of a) (0 + s) (0 + e) bytes (λ c′ e′. gaps-from c′ e′ (map (plain-result n cs) (plain-calls n cs b (replicate j line-budget)))))
+          → ((y : List ℕ) → from j b y → length (walk-lines n cs j b) ≤ max-model-line * j + length more-line)
+          → length (call-lines n a s e (walk-lines n cs j b)) ≤ max-model-line * suc j + length more-line
       go (found a) s e b bytes p ih =
           let i = ih bytes (p .3) in
           let l = model-line-length n a s e few (omega (arith, p .1)) (omega (arith, p .2)) in
@@ -59,16 +61,16 @@ module _ (n B : ℕ) (cs : List (List Literal)) (few : n ≤ 48) (cheap : n * B 
       go ended s e b bytes p ih = let l = end-line-length s e (omega (arith, p .0)) (omega (arith, p .1)) in omega arith
 
   -- from the start
-  first-short : (j k : ℕ) → Paced n B (gaps (map (plain-result n cs) (plain-calls n cs k (replicate j 96)))) → length (walk-lines n cs j k) ≤ 60 * j + 5
+  first-short : (j k : ℕ) → Paced n B (gaps (map (plain-result n cs) (plain-calls n cs k (replicate j line-budget)))) → length (walk-lines n cs j k) ≤ max-model-line * j + length more-line
   unfolding walk-lines plain-calls gaps-from
   first-short zero k p = omega arith
   first-short (suc j) k p =
-      let c = plain-call n cs 96 k in
+      let c = plain-call n cs line-budget k in
       go (c .answer) (c .steps) (c .expansions) (c .behind) _ p
     where
       go : (a : Answer) (s e b : ℕ) (bytes : List ℕ)
-          → Paced n B (gap-after (kind-of a) (0 + s) (0 + e) bytes (λ c′ e′. gaps-from c′ e′ (map (plain-result n cs) (plain-calls n cs b (replicate j 96)))))
-          → length (call-lines n a s e (walk-lines n cs j b)) ≤ 60 * suc j + 5
+          → Paced n B (gap-after (kind-of a) (0 + s) (0 + e) bytes (λ c′ e′. gaps-from c′ e′ (map (plain-result n cs) (plain-calls n cs b (replicate j line-budget)))))
+          → length (call-lines n a s e (walk-lines n cs j b)) ≤ max-model-line * suc j + length more-line
       go (found a) s e b bytes p =
           let i = later-short j b bytes (p .2) in
           let l = model-line-length n a s e few (omega (arith, p .0)) (omega (arith, p .1)) in
@@ -99,16 +101,16 @@ clauses-few n cs vs z w =
 -- ---- the whole
 
 -- 'at most n × n × m × (m + 1) reaches are made: 5,419,008 for n = m = 48'
-cost : (n m : ℕ) → n ≤ 48 → m ≤ 48 → n * (n * m * (m + 1)) ≤ 5419008
+cost : (n m : ℕ) → n ≤ max-variables → m ≤ max-variables → n * (n * m * (m + 1)) ≤ 5419008
 cost n m h k = let l : m + 1 ≤ 49 = omega arith in let c = mul-le-mul h (mul-le-mul (mul-le-mul h k) l) in omega arith
 
 walk-short : (s : List ℕ) (n : ℕ) (cs : List (List Literal)) (vs : List ℕ) → decode s ≡ readable n cs → Pairs cs vs → (j : ℕ)
-    → length (walk-lines n cs j 0) ≤ 60 * j + 5
+    → length (walk-lines n cs j 0) ≤ max-model-line * j + length more-line
 walk-short s n cs vs e w j =
     let z = accepted-only s n cs e .sized in
     let m = clauses-few n cs vs z w in
     let c = cost n (length cs) (z .most) (omega (arith, z .most)) in
-    let d = demand-3 s n cs e vs w (replicate j 96) in
+    let d = demand-3 s n cs e vs w (replicate j line-budget) in
     first-short n (n * length cs * (length cs + 1)) cs (z .most) (omega arith) j 0 (rw (d .plain) at (d .paced))
 
 -- a refusal's place is within the input
@@ -123,25 +125,25 @@ place-le (variable-repeated n sign v l m o) h = omega arith
 place-le (clause-extra cs l) h = omega arith
 place-le (byte-extra x s) h = omega arith
 
-refused-short : (s : List ℕ) (r : Refusal) → decode s ≡ refused r → length s ≤ 16384 → length (refused-line (listing r .number) (listing r .place)) ≤ 17
+refused-short : (s : List ℕ) (r : Refusal) → decode s ≡ refused r → length s ≤ max-input → length (refused-line (listing r .number) (listing r .place)) ≤ 17
 refused-short s r e h =
     let w = refused-only s r e in
     let p = place-le (w .given) (ap length (w .bytes) ∙ length-append (written (w .before)) (w .rest)) in
     refused-line-length (listing r .number) (listing r .place) (omega (arith, numbers s r e .1)) (omega arith)
 
--- at most 60,026 bytes are printed
-pub printed-length : (s : List ℕ) → length s ≤ 16384 → length (printed s) ≤ 60026
+-- the most bytes that are printed, 60,026
+pub printed-length : (s : List ℕ) → length s ≤ max-input → length (printed s) ≤ max-print
 unfolding printed
 printed-length s h = go (decode s) refl
   where
-    walked : (n : ℕ) (cs : List (List Literal)) → decode s ≡ readable n cs → (o : Outcome) → outcome (map variables cs) ≡ o → length (outcome-lines n cs o) ≤ 60026
+    walked : (n : ℕ) (cs : List (List Literal)) → decode s ≡ readable n cs → (o : Outcome) → outcome (map variables cs) ≡ o → length (outcome-lines n cs o) ≤ max-print
     walked n cs e (success vs x) q =
         let z = accepted-only s n cs e .sized in
         let w = matches-pairs cs vs (success-matches (map variables cs) vs x (masks-words z) q) in
         let m = clauses-few n cs vs z w in
         let a = header-length n (length cs) (omega (arith, z .most)) (omega (arith, z .most)) in
-        let b = walk-short s n cs vs e w 1000 in
-        rw (length-append (header n (length cs)) (walk-lines n cs 1000 0)) (omega arith)
+        let b = walk-short s n cs vs e w max-models in
+        rw (length-append (header n (length cs)) (walk-lines n cs max-models 0)) (omega arith)
     walked n cs e (failure taken x) q =
         let z = accepted-only s n cs e .sized in
         let f = failure-few (map variables cs) taken x (masks-words z) q in
@@ -149,7 +151,7 @@ printed-length s h = go (decode s) refl
         let a = refused-line-length 10 (length taken) (omega arith) (omega (arith, z .few)) in
         omega arith
 
-    go : (d : Decoding) → decode s ≡ d → length (decoding-lines d) ≤ 60026
+    go : (d : Decoding) → decode s ≡ d → length (decoding-lines d) ≤ max-print
     go (readable n cs) e = walked n cs e (outcome (map variables cs)) refl
     go (refused r) e = let a = refused-short s r e h in omega arith
 
@@ -159,13 +161,13 @@ not-spent : (a : Answer) → (kind-of a ≡ says-model) ⊎ (kind-of a ≡ says-
 not-spent a (inl h) e = let z : _≡_ {A = ℕ} 0 1 = cc in omega arith
 not-spent a (inr h) e = let z : _≡_ {A = ℕ} 0 1 = cc in omega arith
 
--- after j calls on budgets of 96, the next one on that budget brings a model or the end
+-- after j calls on a line's budget, the next one on it brings a model or the end
 pub never-spent : (s : List ℕ) (n : ℕ) (cs : List (List Literal)) (vs : List ℕ) → decode s ≡ readable n cs → Pairs cs vs → (j : ℕ)
-    → plain-call n cs 96 (state-after n cs 0 (replicate j 96)) .answer ≡ spent → ⊥
-never-spent s n cs vs e w j = not-spent (plain-call n cs 96 (state-after n cs 0 (replicate j 96)) .answer) (rw (call-plain s n cs e m bs 96) at (rw (last-plain s n cs e m bs) at (demand-3 s n cs e vs w bs .ample 96 (omega arith))))
+    → plain-call n cs line-budget (state-after n cs 0 (replicate j line-budget)) .answer ≡ spent → ⊥
+never-spent s n cs vs e w j = not-spent (plain-call n cs line-budget (state-after n cs 0 (replicate j line-budget)) .answer) (rw (call-plain s n cs e m bs line-budget) at (rw (last-plain s n cs e m bs) at (demand-3 s n cs e vs w bs .ample line-budget (omega arith))))
   where
     bs : List ℕ
-    bs = replicate j 96
+    bs = replicate j line-budget
 
     m : Matched (map variables cs)
     m = (vs, pairs-matches cs vs w)

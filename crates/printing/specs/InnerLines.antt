@@ -8,24 +8,25 @@ use Rattle.walk.specs.WalkCall.{Kind, says-model, says-spent, says-ended, says-
 use Rattle.formula.specs.declared.Formula.{Formula}
 use Rattle.formula.specs.Decode.{readable, decode}
 use Rattle.formula.specs.Format.{Literal}
-use Rattle.formula.specs.Masked.{formula-of}
+use Rattle.formula.specs.Masked.{formula-of, FormulaFits}
 use Rattle.enumeration.specs.InnerState.{Follows}
-use Rattle.printing.specs.Placed.{Room}
-use Rattle.printing.specs.Printed.{model-line, end-line, more-line, call-lines, printed}
+use Rattle.writing.specs.Placed.{Room}
+use Rattle.printing.specs.Printed.{model-line, end-line, more-line, call-lines, max-models, line-budget, printed}
 
 module _ (K : Tree) (n : ℕ) where
   -- from a position, with room for j models more
   unfoldable pub lines-from : ℕ → Position → List ℕ
   lines-from zero p = more-line
   lines-from (suc j) p =
-      let r = resume K 96 p in
+      let r = resume K line-budget p in
       call-lines n (r .answer) (r .steps) (r .expansions) (lines-from j (r .position))
 
--- the formula's choices make a tree, and b has room for its lines from `at` on
+-- a formula within the limits, whose choices make a tree; and b has room for its lines from `at` on
 pub record Fitting (f : Formula) (at : ℕ) (b : List ℕ) : Type 0 where
+  pub fits : FormulaFits f
   pub tree : Tree
   pub follows : Follows f tree
-  pub room : Room at (lines-from tree (f .variables) 1000 (down empty)) b
+  pub room : Room at (lines-from tree (f .variables) max-models (down empty)) b
 
 -- s encodes the formula
 pub record Reads (s : List ℕ) (f : Formula) : Type 0 where

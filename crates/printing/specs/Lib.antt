@@ -1,4 +1,3 @@
 pub mod InnerLines
-pub mod Placed
 pub mod Printed
 pub mod Printing

@@ -1,11 +1,7 @@
 -- 01, 'The printed walk': what the program prints for an input, byte for byte. Words are lists of ASCII bytes.
-use Prim.Native.Nat.{ℕ, zero, suc, _+_, _/_, _%_}
-use mathlib.Core.Bool.{cond}
+use Prim.Native.Nat.{ℕ, zero, suc}
 use mathlib.Core.List.{List, [], _∷_, _++_, map}
-use lib.Dec.{ltb}
 use lib.ListN.{length}
-use Rattle.lists.specs.Tabulated.{tabulated}
-use Rattle.masks.specs.Mask.{bit}
 use Rattle.formula.specs.declared.Refusal.{Refusal}
 use Rattle.formula.specs.declared.Refusal.the-variants.{Unmatched}
 use Rattle.formula.specs.Decode.{Decoding, readable, refused, decode}
@@ -13,6 +9,7 @@ use Rattle.formula.specs.Format.{Literal}
 use Rattle.formula.specs.Masked.{variables}
 use Rattle.formula.specs.Refusals.{listing}
 use Rattle.matching.specs.Search.{Outcome, success, failure, outcome}
+use Rattle.writing.specs.Text.{decimal, digits, line-of}
 use Rattle.walk.specs.PlainMachine.{Answer, found, spent, ended, plain-call}
 
 -- the words `switches`, `rules`, `end`, `more`, `refused`
@@ -30,28 +27,6 @@ more-word = 109 ∷ 111 ∷ 114 ∷ 101 ∷ []
 
 abbrev pub refused-word : List ℕ
 refused-word = 114 ∷ 101 ∷ 102 ∷ 117 ∷ 115 ∷ 101 ∷ 100 ∷ []
-
--- The digits of x, of which there are at most k: x itself if it is one digit, else the digits of x / 10 and then the last one.
-unfoldable pub decimal-within : ℕ → ℕ → List ℕ
-decimal-within zero x = []
-decimal-within (suc k) x = cond (ltb x 10) ((48 + x) ∷ []) (decimal-within k (x / 10) ++ ((48 + (x % 10)) ∷ []))
-
--- a number in decimal, without leading zeros: x has at most x + 1 digits
-unfoldable pub decimal : ℕ → List ℕ
-decimal x = decimal-within (suc x) x
-
--- 'n digits, switch 1 first': 1 if it is on, 0 if it is off
-abbrev pub digit : ℕ → ℕ → ℕ
-digit a i = cond (bit a i) 49 48
-
-abbrev pub digits : ℕ → ℕ → List ℕ
-digits n a = tabulated (digit a) n
-
--- 'One blank between words, and each line ends with a line feed (0A).'
-abbrev pub line-of : List (List ℕ) → List ℕ
-line-of [] = 10 ∷ []
-line-of (w ∷ []) = w ++ (10 ∷ [])
-line-of (w ∷ v ∷ ws) = w ++ (32 ∷ line-of (v ∷ ws))
 
 -- 'First line: `switches`, n, `rules`, m.'
 abbrev pub header : ℕ → ℕ → List ℕ
@@ -76,25 +51,33 @@ refused-line number place = line-of (refused-word ∷ decimal number ∷ decimal
 abbrev pub refusal-line : Refusal → List ℕ
 refusal-line r = refused-line (listing r .number) (listing r .place)
 
--- What a call prints, and then the rest. A call that says spent would print nothing: on a budget of 96 none does.
+-- What a call prints, and then the rest. A call that says spent would print nothing: on a line's budget none does.
 abbrev pub call-lines : ℕ → Answer → ℕ → ℕ → List ℕ → List ℕ
 call-lines n (found a) steps expansions rest = model-line n a steps expansions ++ rest
 call-lines n spent steps expansions rest = []
 call-lines n ended steps expansions rest = end-line steps expansions
 
+-- the most models that are printed: 'After the 1,000th set-up the line `more` stands alone instead'
+abbrev pub max-models : ℕ
+max-models = 1000
+
+-- the budget of a line's call: 'A call allowed 96 moves or more brings a set-up or the end.' (demand 3)
+abbrev pub line-budget : ℕ
+line-budget = 96
+
 module _ (n : ℕ) (cs : List (List Literal)) where
-  -- The lines with k entries of the plain walk behind and room for j models more. A call of the plain machine on a budget of 96 goes on
+  -- The lines with k entries of the plain walk behind and room for j models more. A call of the plain machine on a line's budget goes on
   -- to the next model or to the end, so its steps and expansions are those 'since the line before'. 'After the 1,000th set-up the line
   -- `more` stands alone instead, even if that set-up was the last.'
   unfoldable pub walk-lines : ℕ → ℕ → List ℕ
   walk-lines zero k = more-line
   walk-lines (suc j) k =
-      let c = plain-call n cs 96 k in
+      let c = plain-call n cs line-budget k in
       call-lines n (c .answer) (c .steps) (c .expansions) (walk-lines j (c .behind))
 
 -- a formula that was read: refused by 10 if its clauses can't be matched
 abbrev pub outcome-lines : ℕ → List (List Literal) → Outcome → List ℕ
-outcome-lines n cs (success vs e) = header n (length cs) ++ walk-lines n cs 1000 0
+outcome-lines n cs (success vs e) = header n (length cs) ++ walk-lines n cs max-models 0
 outcome-lines n cs (failure taken e) = refusal-line (Unmatched (length taken))
 
 abbrev pub decoding-lines : Decoding → List ℕ

@@ -1,100 +1,40 @@
-// The printed walk (01): its lines as bytes, written into a lent buffer. A writer is given the offset at which it starts, and answers
-// with the one behind what it wrote.
+// The printed walk (01): its lines as bytes, written into a lent buffer.
 ghost use mathlib.Core.Path.{_≡_};
-ghost use mathlib.Core.List.{List, [], _∷_};
-ghost use Prim.Native.Nat.{ℕ, _+_, _<_, _≤_};
-ghost use lib.ListN.{length};
-ghost use Rattle.printing.specs.Placed.{Room, Wrote};
-ghost use Rattle.formula.specs.Masked.{FormulaFits};
+ghost use mathlib.Core.List.{List};
+ghost use Prim.Native.Nat.{ℕ, _≤_};
+ghost use Rattle.writing.specs.Placed.{Room, Wrote};
 ghost use Rattle.walk.specs.InnerStack.{empty, Tree};
 ghost use Rattle.walk.specs.InnerMachine.{down};
 ghost use Rattle.enumeration.specs.InnerState.{Follows};
 ghost use Rattle.printing.specs.InnerLines.{lines-from, Fitting, Reads, Printable};
 ghost use Rattle.printing.specs.Printing.{printing};
-ghost use Rattle.printing.specs.Printed.{decimal, digit, digits, line-of, header, model-line, end-line, more-line, refusal-line, printed};
+ghost use Rattle.printing.specs.Printed.{header, model-line, end-line, more-line, refusal-line, max-models, printed};
 use formula::Formula;
 use formula::Outcome;
 use formula::Refusal;
 
-// One byte.
-fn put_byte(x: u8, buffer: &mut [u8], at: usize) -> usize
-    requires { ⌜ at < length (now buffer) ⌝ }
-    ensures { λ r. ⌜ Wrote (x ∷ []) at (now (buffer .entry)) (now (buffer .exit)) r ⌝ }
-{
-    buffer[at] = x;
-    at + 1
-}
+// The most bytes of an input that is printed.
+pub const MAX_INPUT: usize = 16384;
 
-// A word.
-fn put_word(word: &[u8], buffer: &mut [u8], at: usize) -> usize
-    requires { ⌜ Room at (now word) (now buffer) ⌝ }
-    ensures { λ r. ⌜ Wrote (now (word .entry)) at (now (buffer .entry)) (now (buffer .exit)) r ⌝ }
-{
-    let mut i: usize = 0;
-    while i < word.len() {
-        buffer[at + i] = word[i];
-        i += 1;
-    }
-    at + i
-}
+// The most models that are printed.
+pub const MAX_MODELS: usize = 1000;
 
-// A number in decimal: the digits before the last one first.
-fn put_decimal(x: u64, buffer: &mut [u8], at: usize) -> usize
-    requires { ⌜ Room at (decimal x) (now buffer) ⌝ }
-    ensures { λ r. ⌜ Wrote (decimal x) at (now (buffer .entry)) (now (buffer .exit)) r ⌝ }
-{
-    if x < 10 {
-        return put_byte(48 + x as u8, buffer, at);
-    }
-    let next = put_decimal(x / 10, buffer, at);
-    put_byte(48 + (x % 10) as u8, buffer, next)
-}
+// The most bytes of a print: its first line, the models, and `more`.
+pub const MAX_PRINT: usize = 21 + MAX_MODELS * (limits::MAX_VARIABLES + 12) + 5;
 
-// The digit of variable i of an assignment.
-fn digit_of(a: u64, i: usize) -> u8
-    requires { ⌜ i < 64 ⌝ }
-    ensures { λ r. ⌜ r ≡ digit a i ⌝ }
-{
-    if masks::member(a, i) {
-        return b'1';
-    }
-    b'0'
-}
-
-// The digits of the first n variables of an assignment.
-fn put_digits(n: usize, a: u64, buffer: &mut [u8], at: usize) -> usize
-    requires { ⌜ (n ≤ 64) × (at + n ≤ length (now buffer)) ⌝ }
-    ensures { λ r. ⌜ Wrote (digits n a) at (now (buffer .entry)) (now (buffer .exit)) r ⌝ }
-{
-    let mut i: usize = 0;
-    while i < n {
-        buffer[at + i] = digit_of(a, i);
-        i += 1;
-    }
-    at + i
-}
-
-// Two numbers at the end of a line.
-fn put_numbers(x: u64, y: u64, buffer: &mut [u8], at: usize) -> usize
-    requires { ⌜ Room at (line-of (decimal x ∷ decimal y ∷ [])) (now buffer) ⌝ }
-    ensures { λ r. ⌜ Wrote (line-of (decimal x ∷ decimal y ∷ [])) at (now (buffer .entry)) (now (buffer .exit)) r ⌝ }
-{
-    let blank = put_decimal(x, buffer, at);
-    let second = put_byte(b' ', buffer, blank);
-    let feed = put_decimal(y, buffer, second);
-    put_byte(b'\n', buffer, feed)
-}
+// The steps that a line's call is allowed: it brings a model or the end.
+const LINE_BUDGET: u32 = 96;
 
 // The first line: the numbers of variables and clauses.
 fn put_header(n: usize, m: usize, buffer: &mut [u8], at: usize) -> usize
     requires { ⌜ Room at (header n m) (now buffer) ⌝ }
     ensures { λ r. ⌜ Wrote (header n m) at (now (buffer .entry)) (now (buffer .exit)) r ⌝ }
 {
-    let first = put_word(b"switches ", buffer, at);
-    let word = put_decimal(n as u64, buffer, first);
-    let second = put_word(b" rules ", buffer, word);
-    let feed = put_decimal(m as u64, buffer, second);
-    put_byte(b'\n', buffer, feed)
+    let first = writing::put_word(b"switches ", buffer, at);
+    let word = writing::put_decimal(n as u64, buffer, first);
+    let second = writing::put_word(b" rules ", buffer, word);
+    let feed = writing::put_decimal(m as u64, buffer, second);
+    writing::put_byte(b'\n', buffer, feed)
 }
 
 // The line of a model of n variables.
@@ -109,9 +49,9 @@ fn put_model_line(
     requires { ⌜ (n ≤ 64) × Room at (model-line n a steps expansions) (now buffer) ⌝ }
     ensures { λ r. ⌜ Wrote (model-line n a steps expansions) at (now (buffer .entry)) (now (buffer .exit)) r ⌝ }
 {
-    let blank = put_digits(n, a, buffer, at);
-    let numbers = put_byte(b' ', buffer, blank);
-    put_numbers(steps, expansions, buffer, numbers)
+    let blank = writing::put_digits(n, a, buffer, at);
+    let numbers = writing::put_byte(b' ', buffer, blank);
+    writing::put_numbers(steps, expansions, buffer, numbers)
 }
 
 // The line at the end of a walk.
@@ -119,8 +59,8 @@ fn put_end_line(steps: u64, expansions: u64, buffer: &mut [u8], at: usize) -> us
     requires { ⌜ Room at (end-line steps expansions) (now buffer) ⌝ }
     ensures { λ r. ⌜ Wrote (end-line steps expansions) at (now (buffer .entry)) (now (buffer .exit)) r ⌝ }
 {
-    let numbers = put_word(b"end ", buffer, at);
-    put_numbers(steps, expansions, buffer, numbers)
+    let numbers = writing::put_word(b"end ", buffer, at);
+    writing::put_numbers(steps, expansions, buffer, numbers)
 }
 
 // The line after the last model that is listed.
@@ -128,7 +68,7 @@ fn put_more_line(buffer: &mut [u8], at: usize) -> usize
     requires { ⌜ Room at more-line (now buffer) ⌝ }
     ensures { λ r. ⌜ Wrote more-line at (now (buffer .entry)) (now (buffer .exit)) r ⌝ }
 {
-    put_word(b"more\n", buffer, at)
+    writing::put_word(b"more\n", buffer, at)
 }
 
 // The line of a refusal.
@@ -138,20 +78,20 @@ fn put_refusal_line(refusal: Refusal, buffer: &mut [u8], at: usize) -> usize
 {
     let number = formula::number_of(refusal);
     let place = formula::place_of(refusal);
-    let numbers = put_word(b"refused ", buffer, at);
-    put_numbers(number, place as u64, buffer, numbers)
+    let numbers = writing::put_word(b"refused ", buffer, at);
+    writing::put_numbers(number, place as u64, buffer, numbers)
 }
 
-// The lines of a walk from its start: at most 1,000 models, each by a run that goes on to the next one or to the end.
+// The lines of a walk from its start: its first models, each by a run that goes on to the next one or to the end.
 fn put_walk(f: Formula, buffer: &mut [u8], at: usize) -> usize
-    requires { ⌜ FormulaFits f × Fitting f at (now buffer) ⌝ }
-    ensures { λ r. ⌜ ((K : Tree) → Follows f K → Wrote (lines-from K (f .variables) 1000 (down empty)) at (now (buffer .entry)) (now (buffer .exit)) r) ⌝ }
+    requires { ⌜ Fitting f at (now buffer) ⌝ }
+    ensures { λ r. ⌜ ((K : Tree) → Follows f K → Wrote (lines-from K (f .variables) max-models (down empty)) at (now (buffer .entry)) (now (buffer .exit)) r) ⌝ }
 {
     let mut s = enumeration::root();
     let mut next = at;
-    let mut left: usize = 1000;
+    let mut left: usize = MAX_MODELS;
     while 0 < left {
-        let r = enumeration::go_on(f, s, 96);
+        let r = enumeration::go_on(f, s, LINE_BUDGET);
         if r.answer == 2 {
             return put_end_line(r.steps, r.expansions, buffer, next);
         }
@@ -182,10 +122,10 @@ fn put_formula(f: Formula, buffer: &mut [u8]) -> usize
 pub fn print(input: &[u8], buffer: &mut [u8]) -> usize
     ensures { λ r. ⌜ printing (now (input .entry)) (now (buffer .entry)) ≡ record { count = r; buffer = now (buffer .exit) } ⌝ }
 {
-    if buffer.len() < 60026 {
+    if buffer.len() < MAX_PRINT {
         return 0;
     }
-    if 16384 < input.len() {
+    if MAX_INPUT < input.len() {
         return 0;
     }
     let d = formula::decode(input);

@@ -47,7 +47,7 @@ returns-2 c =
     let r = c .before .before .before .run-all in
     record {
       bytes = _;
-      totals = ap (λ (x : Run). x .totals) (r .ensures .0);
+      totals = ap (λ (x : Run). x .totals) (r .ensures .run);
       grown = record { vectors = omega arith; differences = omega arith };
     }
 

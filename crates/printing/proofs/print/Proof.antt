@@ -6,7 +6,8 @@ use Prim.Native.Nat.{ℕ, _≤_}
 use lib.ListN.{length}
 use borrow.Author.Needs.{needs}
 use Rattle.formula.proofs.MaskedLaws.{decoded-accepted, decoded-refused}
-use Rattle.printing.specs.Placed.{Room}
+use Rattle.writing.specs.Placed.{Room}
+use Rattle.printing.specs.Printing.{max-input, max-print}
 use Rattle.printing.specs.Printed.{printed}
 use Rattle.printing.proofs.PrintedLaws.{printed-length}
 use Rattle.printing.proofs.PrintLaws.{refused-prints, accepts-reads, print-short, print-long, print-written}
@@ -14,8 +15,12 @@ use Rattle.printing.proofs.print.Statement.{statement}
 use Rattle.printing.proofs.print.Tie as tie
 
 -- every print fits
-room : (s b : List ℕ) → length s ≤ 16384 → 60026 ≤ length b → Room 0 (printed s) b
+room : (s b : List ℕ) → length s ≤ max-input → max-print ≤ length b → Room 0 (printed s) b
 room s b h k = let l = printed-length s h in omega arith
+
+-- the entry
+abbrev entry : tie.After-decode → tie.Start
+entry d = d .before .before .before .before .before
 
 returns : tie.Need-returns
 returns c = let b = c .before .before .before in print-short (b .args .input .now) (b .args .buffer .now) (omega arith)
@@ -31,8 +36,10 @@ enum-known-outcome c = search needs
 
 put-refusal-line-requires : tie.Need-put-refusal-line-requires
 put-refusal-line-requires c κs =
-    let b = c .before .before .before .before .before .before .before .before .before in
-    subst (λ (l : List ℕ). Room 0 l (b .args .buffer .now)) (refused-prints (b .args .input .now) _ (decoded-refused _ _ _ (c .before .before .before .before .decode .ensures) (c .before .before .outcome .given .1)))
+    let o = c .before .before in
+    let d = o .before .before in
+    let b = entry d in
+    subst (λ (l : List ℕ). Room 0 l (b .args .buffer .now)) (refused-prints (b .args .input .now) _ (decoded-refused _ _ _ (d .decode .ensures) (o .outcome .given .1)))
     (room (b .args .input .now) (b .args .buffer .now) (omega arith) (omega arith))
 
 enum-told : tie.Need-enum-told
@@ -40,10 +47,12 @@ enum-told c = search needs
 
 put-formula-requires : tie.Need-put-formula-requires
 put-formula-requires c κs =
-    let b = c .before .before .before .before .before .before .before .before .before in
+    let t = c .before .before in
+    let d = t .before .before in
+    let b = entry d in
     record {
       input = b .args .input .now;
-      reads = accepts-reads _ _ (decoded-accepted _ _ (c .before .before .before .before .decode .ensures) (c .before .before .enum-told .given .1));
+      reads = accepts-reads _ _ (decoded-accepted _ _ (d .decode .ensures) (t .enum-told .given .1));
       room = room (b .args .input .now) (b .args .buffer .now) (omega arith) (omega arith);
     }
 
@@ -52,18 +61,24 @@ same-length c = search needs
 
 returns-3 : tie.Need-returns-3
 returns-3 c =
-    let b = c .before .before .before .before .before .before .before .before .before .before .before .before in
-    let d = decoded-refused (b .args .input .now) _ _ (c .before .before .before .before .before .before .before .decode .ensures) (c .before .before .before .before .before .outcome .given .1) in
-    print-written (b .args .input .now) (b .args .buffer .now) (omega arith) _ _ (omega arith) (rw (refused-prints (b .args .input .now) _ d) (c .before .before .put-refusal-line .ensures))
+    let line = c .before .before in
+    let o = line .before .before .before in
+    let d = o .before .before in
+    let b = entry d in
+    let r = decoded-refused (b .args .input .now) _ _ (d .decode .ensures) (o .outcome .given .1) in
+    print-written (b .args .input .now) (b .args .buffer .now) (omega arith) _ _ (omega arith) (rw (refused-prints (b .args .input .now) _ r) (line .put-refusal-line .ensures))
 
 same-length-2 : tie.Need-same-length-2
 same-length-2 c = search needs
 
 returns-4 : tie.Need-returns-4
 returns-4 c =
-    let b = c .before .before .before .before .before .before .before .before .before .before .before .before in
-    let a = decoded-accepted (b .args .input .now) _ (c .before .before .before .before .before .before .before .decode .ensures) (c .before .before .before .before .before .enum-told .given .1) in
-    print-written (b .args .input .now) (b .args .buffer .now) (omega arith) _ _ (omega arith) (c .before .before .put-formula .ensures _ (accepts-reads _ _ a))
+    let lines = c .before .before in
+    let t = lines .before .before .before in
+    let d = t .before .before in
+    let b = entry d in
+    let a = decoded-accepted (b .args .input .now) _ (d .decode .ensures) (t .enum-told .given .1) in
+    print-written (b .args .input .now) (b .args .buffer .now) (omega arith) _ _ (omega arith) (lines .put-formula .ensures _ (accepts-reads _ _ a))
 
 pub print-spec : {M : Type 1} → statement M
 print-spec =

@@ -2,7 +2,7 @@
 use native.Mathlib.Omega.{arith}
 use Prim.Native.Nat.{_≤_}
 use lib.ListN.{length}
-use Rattle.printing.proofs.PlacedLaws.{wrote-more}
+use Rattle.writing.proofs.PlacedLaws.{wrote-more}
 use borrow.Author.Needs.{needs}
 use Rattle.printing.proofs.put_end_line.Statement.{statement}
 use Rattle.printing.proofs.put_end_line.Tie as tie
@@ -21,9 +21,11 @@ same-length c = search needs
 
 returns : tie.Need-returns
 returns c =
-    let s = c .before .before .before .before .before .before .before .before .before .before in
+    let numbers = c .before .before in
+    let word = numbers .before .before .before .before in
+    let s = word .before .before .before .before in
     let h : s .args .at ≤ length (s .args .buffer .now) = omega arith in
-    wrote-more h (c .before .before .before .before .before .before .put-word .ensures) (c .before .before .put-numbers .ensures)
+    wrote-more h (word .put-word .ensures) (numbers .put-numbers .ensures)
 
 pub put-end-line-spec : {M : Type 1} → statement M
 put-end-line-spec =

@@ -3,25 +3,32 @@ use native.Mathlib.Omega.{arith}
 use Prim.Native.Nat.{_≤_}
 use mathlib.Core.List.{append-assoc}
 use lib.ListN.{length}
-use Rattle.printing.specs.Printed.{digit}
+use Rattle.writing.specs.Text.{digit}
 use Rattle.printing.proofs.LineLaws.{model-line-sum}
-use Rattle.printing.proofs.PlacedLaws.{wrote-more}
+use Rattle.writing.proofs.PlacedLaws.{wrote-more}
 use Rattle.lists.proofs.TabulatedLaws.{length-tabulated}
 use borrow.Author.Needs.{needs}
 use Rattle.printing.proofs.put_model_line.Statement.{statement}
 use Rattle.printing.proofs.put_model_line.Tie as tie
+
+-- the entry, from behind each call
+abbrev from-digits : tie.After-put-digits → tie.Start
+from-digits c = c .before .before .before
+
+abbrev from-blank : tie.After-put-byte → tie.Start
+from-blank c = from-digits (c .before .before .before .before)
 
 put-digits-requires : tie.Need-put-digits-requires
 put-digits-requires c κs = let s = c .before .before in (s .pre .0, omega (arith, model-line-sum (s .args .n) (s .args .a) (s .args .steps) (s .args .expansions), length-tabulated (digit (s .args .a)) (s .args .n)))
 
 put-byte-requires : tie.Need-put-byte-requires
 put-byte-requires c κs =
-    let s = c .before .before .before .before .before .before in
+    let s = from-digits (c .before .before .before) in
     omega (arith, model-line-sum (s .args .n) (s .args .a) (s .args .steps) (s .args .expansions), length-tabulated (digit (s .args .a)) (s .args .n))
 
 put-numbers-requires : tie.Need-put-numbers-requires
 put-numbers-requires c κs =
-    let s = c .before .before .before .before .before .before .before .before .before .before in
+    let s = from-blank (c .before .before .before) in
     omega (arith, model-line-sum (s .args .n) (s .args .a) (s .args .steps) (s .args .expansions), length-tabulated (digit (s .args .a)) (s .args .n))
 
 same-length : tie.Need-same-length
@@ -29,10 +36,13 @@ same-length c = search needs
 
 returns : tie.Need-returns
 returns c =
-    let s = c .before .before .before .before .before .before .before .before .before .before .before .before .before in
+    let numbers = c .before .before in
+    let blank = numbers .before .before .before .before in
+    let digits = blank .before .before .before .before in
+    let s = from-digits digits in
     let h : s .args .at ≤ length (s .args .buffer .now) = omega arith in
     simp append-assoc at
-    (wrote-more h (wrote-more h (c .before .before .before .before .before .before .before .before .before .before .put-digits .ensures) (c .before .before .before .before .before .before .put-byte .ensures)) (c .before .before .put-numbers .ensures))
+    (wrote-more h (wrote-more h (digits .put-digits .ensures) (blank .put-byte .ensures)) (numbers .put-numbers .ensures))
 
 pub put-model-line-spec : {M : Type 1} → statement M
 put-model-line-spec =

@@ -2,7 +2,7 @@
 use native.Mathlib.Omega.{arith}
 use Prim.Native.Nat.{_≤_}
 use lib.ListN.{length}
-use Rattle.printing.proofs.PlacedLaws.{wrote-more}
+use Rattle.writing.proofs.PlacedLaws.{wrote-more}
 use borrow.Author.Needs.{needs}
 use Rattle.printing.proofs.put_refusal_line.Statement.{statement}
 use Rattle.printing.proofs.put_refusal_line.Tie as tie
@@ -20,16 +20,23 @@ put-word-requires : tie.Need-put-word-requires
 put-word-requires c κs = search needs
 
 put-numbers-requires : tie.Need-put-numbers-requires
-put-numbers-requires c κs = rw (c .before .before .before .before .before .before .before .number-of .ensures, c .before .before .before .before .before .before .place-of .ensures) (omega arith)
+put-numbers-requires c κs =
+    let word = c .before .before .before in
+    let place = word .before .before .before in
+    rw (place .before .number-of .ensures, place .place-of .ensures) (omega arith)
 
 same-length : tie.Need-same-length
 same-length c = search needs
 
 returns : tie.Need-returns
 returns c =
-    let s = c .before .before .before .before .before .before .before .before .before .before .before .before in
+    let numbers = c .before .before in
+    let word = numbers .before .before .before .before in
+    let place = word .before .before .before in
+    let number = place .before in
+    let s = number .before .before in
     let h : s .args .at ≤ length (s .args .buffer .now) = omega arith in
-    rw (← c .before .before .before .before .before .before .before .before .before .before .number-of .ensures, ← c .before .before .before .before .before .before .before .before .before .place-of .ensures) (wrote-more h (c .before .before .before .before .before .before .put-word .ensures) (c .before .before .put-numbers .ensures))
+    rw (← number .number-of .ensures, ← place .place-of .ensures) (wrote-more h (word .put-word .ensures) (numbers .put-numbers .ensures))
 
 pub put-refusal-line-spec : {M : Type 1} → statement M
 put-refusal-line-spec =

@@ -8,11 +8,11 @@ use lib.ListN.{length}
 use Rattle.walk.specs.InnerStack.{Tree}
 use Rattle.walk.specs.InnerMachine.{resume}
 use Rattle.enumeration.specs.InnerState.{position-in, Follows, Ran}
-use Rattle.printing.specs.Placed.{Room}
-use Rattle.printing.specs.Printed.{model-line, end-line, more-line}
+use Rattle.writing.specs.Placed.{Room}
+use Rattle.printing.specs.Printed.{model-line, end-line, more-line, line-budget}
 use Rattle.printing.specs.InnerLines.{lines-from}
 use Rattle.printing.proofs.GoingLaws.{Going, going-first, lines-model, lines-end, lines-spent, lines-more, going-room, going-more, going-last, going-stop}
-use Rattle.printing.proofs.PlacedLaws.{wrote-length}
+use Rattle.writing.proofs.PlacedLaws.{wrote-length}
 use Rattle.printing.proofs.put_walk.Statement.{statement}
 use Rattle.printing.proofs.put_walk.Tie as tie
 
@@ -29,16 +29,16 @@ root-requires c κs = search needs
 loop-holds : tie.Need-loop-holds Inv-loop μ-loop
 loop-holds c =
     let b = c .before .before in
-    (refl, λ K F. going-first K (b .args .f .variables) (b .args .at) (b .args .buffer .now) (c .root .result) (c .root .ensures K (omega (arith, F .size, b .pre .0 .most))))
+    (refl, λ K F. going-first K (b .args .f .variables) (b .args .at) (b .args .buffer .now) (c .root .result) (c .root .ensures K (omega (arith, F .size, b .pre .fits .most))))
 
 go-on-requires : tie.Need-go-on-requires Inv-loop μ-loop
 go-on-requires c κs =
     let b = c .before .before .before .before in
-    let v = b .pre .1 in
-    (b .pre .0, record { tree = v .tree; follows = v .follows; holds = c .before .loop .inv .1 (v .tree) (v .follows) .holds })
+    let v = b .pre in
+    (v .fits, record { tree = v .tree; follows = v .follows; holds = c .before .loop .inv .1 (v .tree) (v .follows) .holds })
 
 -- what a run gives
-ran : (g : tie.After-go-on Inv-loop μ-loop) (K : Tree) → (let l = g .before .before in Follows (l .before .before .before .args .f) K → Ran K (g .go-on .result) (resume K 96 (position-in (l .loop .s))))
+ran : (g : tie.After-go-on Inv-loop μ-loop) (K : Tree) → (let l = g .before .before in Follows (l .before .before .before .args .f) K → Ran K (g .go-on .result) (resume K line-budget (position-in (l .loop .s))))
 ran g K F = g .go-on .ensures K F (g .before .before .loop .inv .1 K F .holds)
 
 -- room for the end's line
@@ -47,7 +47,7 @@ end-room : (g : tie.After-go-on Inv-loop μ-loop) → g .go-on .result .answer �
 end-room g e =
     let l = g .before .before in
     let b = l .before .before .before in
-    let v = b .pre .1 in
+    let v = b .pre in
     let x = end-line (g .go-on .result .steps) (g .go-on .result .expansions) in
     going-room _ _ _ _ _ _ _ _ (l .loop .inv .1 (v .tree) (v .follows)) x []
     (lines-end _ (b .args .f .variables) _ (l .loop .s) _ (ran g (v .tree) (v .follows)) (omega arith) e ∙ sym (append-nil x)) (l .loop .inv .0) (v .room)
@@ -59,7 +59,7 @@ model-room : (g : tie.After-go-on Inv-loop μ-loop) → g .go-on .result .answer
 model-room g e =
     let l = g .before .before in
     let b = l .before .before .before in
-    let v = b .pre .1 in
+    let v = b .pre in
     going-room _ _ _ _ _ _ _ _ (l .loop .inv .1 (v .tree) (v .follows))
     (model-line (b .args .f .variables) (g .go-on .result .model) (g .go-on .result .steps) (g .go-on .result .expansions)) (lines-from (v .tree) (b .args .f .variables) (l .loop .left - 1) (position-in (g .go-on .result .state)))
     (lines-model _ (b .args .f .variables) _ (l .loop .s) _ (ran g (v .tree) (v .follows)) (omega arith) e) (l .loop .inv .0) (v .room)
@@ -69,21 +69,23 @@ put-end-line-requires c κs = end-room (c .before .before .before) (omega arith)
 
 same-length : tie.Need-same-length Inv-loop μ-loop
 same-length c =
-    let g = c .before .before .before .before .before .before in
-    wrote-length (end-room g (omega arith)) (c .before .before .put-end-line .ensures) ∙ g .before .before .loop .inv .0
+    let line = c .before .before in
+    let g = line .before .before .before .before in
+    wrote-length (end-room g (omega arith)) (line .put-end-line .ensures) ∙ g .before .before .loop .inv .0
 
 returns : tie.Need-returns Inv-loop μ-loop
 returns c =
     λ K F.
-    let g = c .before .before .before .before .before .before in
+    let line = c .before .before in
+    let g = line .before .before .before .before in
     let l = g .before .before in
     let b = l .before .before .before in
-    let v = b .pre .1 .room in
+    let v = b .pre .room in
     going-last _ _ _ _ _ _ _ _ (l .loop .inv .1 K F) _ _ _ (omega arith)
-    (lines-end _ (b .args .f .variables) _ (l .loop .s) _ (ran g K F) (omega arith) (omega arith)) (c .before .before .put-end-line .ensures)
+    (lines-end _ (b .args .f .variables) _ (l .loop .s) _ (ran g K F) (omega arith) (omega arith)) (line .put-end-line .ensures)
 
 same-length-2 : tie.Need-same-length-2 Inv-loop μ-loop
-same-length-2 c = c .before .before .before .before .before .before .loop .inv .0
+same-length-2 c = let g = c .before .before .before .before in g .before .before .loop .inv .0
 
 returns-2 : tie.Need-returns-2 Inv-loop μ-loop
 returns-2 c =
@@ -97,7 +99,7 @@ returns-2 c =
 put-model-line-requires : tie.Need-put-model-line-requires Inv-loop μ-loop
 put-model-line-requires c κs =
     let g = c .before .before .before .before .before in
-    (omega (arith, g .before .before .before .before .before .pre .0 .most), model-room g (omega arith))
+    (omega (arith, g .before .before .before .before .before .pre .fits .most), model-room g (omega arith))
 
 sub-left : tie.Need-sub-left Inv-loop μ-loop
 sub-left c = search needs
@@ -107,12 +109,14 @@ loop-less c = search needs
 
 loop-again : tie.Need-loop-again Inv-loop μ-loop
 loop-again c =
-    let g = c .before .before .before .before .before .before .before .before .before in
+    let line = c .before .before .before in
+    let branch = line .before .before in
+    let g = branch .before .before .before .before in
     let l = g .before .before in
     let b = l .before .before .before in
-    let v = b .pre .1 .room in
-    let e = c .before .before .before .before .before .if2 .left in
-    let w = c .before .before .before .put-model-line .ensures in (
+    let v = b .pre .room in
+    let e = branch .if2 .left in
+    let w = line .put-model-line .ensures in (
       wrote-length (model-room g e) w ∙ l .loop .inv .0,
       λ K F.
           going-more _ _ _ _ _ _ _ _ (l .loop .inv .1 K F)
@@ -125,7 +129,7 @@ more-room : (c : tie.After-loop Inv-loop μ-loop) → (let l = c .before in l .l
 more-room c e =
     let l = c .before in
     let b = l .before .before .before in
-    let v = b .pre .1 in
+    let v = b .pre in
     going-room _ _ _ _ _ _ _ _ (l .loop .inv .1 (v .tree) (v .follows)) more-line [] (lines-more _ (b .args .f .variables) _ _ e) (l .loop .inv .0) (v .room)
 
 put-more-line-requires : tie.Need-put-more-line-requires Inv-loop μ-loop
@@ -141,7 +145,7 @@ returns-3 c =
     λ K F.
     let l = c .before .before .before .before .before in
     let b = l .before .before .before in
-    let v = b .pre .1 .room in
+    let v = b .pre .room in
     going-last _ _ _ _ _ _ _ _ (l .loop .inv .1 K F) _ _ _ (omega arith) (lines-more _ (b .args .f .variables) _ _ (omega arith)) (c .before .before .put-more-line .ensures)
 
 pub put-walk-spec : {M : Type 1} → statement M

@@ -44,12 +44,13 @@ wide-requires-4 c κs = search needs
 
 returns : tie.Need-returns
 returns c =
+    let place = c .before .before .before .before in
     rw (
-      c .before .before .before .before .before .before .before .wide .ensures .0,
-      c .before .before .before .before .before .wide2 .ensures .0,
-      c .before .before .before .before .two-bytes .ensures .0,
-      c .before .before .wide3 .ensures .0,
-      c .wide4 .ensures .0,
+      place .before .before .before .wide .ensures .value,
+      place .before .wide2 .ensures .value,
+      place .two-bytes .ensures .value,
+      c .before .before .wide3 .ensures .value,
+      c .wide4 .ensures .value,
     )
 
 pub expected-at-spec : {M : Type 1} → statement M

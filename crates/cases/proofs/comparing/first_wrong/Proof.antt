@@ -27,11 +27,13 @@ wanted-byte-requires c κs = search needs
 
 returns : tie.Need-returns Inv-loop μ-loop
 returns c =
-    let l = c .before .before .before .before .loop in (
-      sym (wrong-here _ _ _ _ _ _ _ (c .before .before .before .loop-test .taken)
-          (λ e. c .if1 .taken (e ∙ sym (c .before .wanted-byte .ensures)))) ∙ l .inv .1,
-      l .inv .0,
-    )
+    let l = c .before .before .before .before .loop in
+    record {
+      place =
+          sym (wrong-here _ _ _ _ _ _ _ (c .before .before .before .loop-test .taken)
+          (λ e. c .if1 .taken (e ∙ sym (c .before .wanted-byte .ensures)))) ∙ l .inv .1;
+      within = l .inv .0;
+    }
 
 add-i : tie.Need-add-i Inv-loop μ-loop
 add-i c = search needs
@@ -50,7 +52,7 @@ loop-again c =
 returns-2 : tie.Need-returns-2 Inv-loop μ-loop
 returns-2 c =
     let l = c .before .loop in
-    (sym (none-wrong _ _ _ _ _ _ _ (c .loop-test .left)) ∙ l .inv .1, l .inv .0)
+    record { place = sym (none-wrong _ _ _ _ _ _ _ (c .loop-test .left)) ∙ l .inv .1; within = l .inv .0 }
 
 pub first-wrong-spec : {M : Type 1} → statement M
 first-wrong-spec =

@@ -40,7 +40,7 @@ add-t10 : tie.Need-add-t10
 add-t10 c = search needs
 
 returns-3 : tie.Need-returns-3
-returns-3 c = rw (c .two-bytes2 .ensures .0, c .before .before .two-bytes .ensures .0) (sym (framed-whole _ _ _ (omega arith) (omega arith)))
+returns-3 c = rw (c .two-bytes2 .ensures .value, c .before .before .two-bytes .ensures .value) (sym (framed-whole _ _ _ (omega arith) (omega arith)))
 
 pub frame-spec : {M : Type 1} → statement M
 frame-spec =

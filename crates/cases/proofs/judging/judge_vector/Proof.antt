@@ -6,9 +6,18 @@ use Rattle.cases.proofs.JudgingLaws.{compared}
 use Rattle.cases.proofs.judging.judge_vector.Statement.{statement}
 use Rattle.cases.proofs.judging.judge_vector.Tie as tie
 
--- the entry
+-- the call, the buffer's size, the expected answer, and the entry
+abbrev judging : tie.After-agree → tie.After-judge-filled
+judging c = c .before .before .before .before .before
+
+abbrev sizing : tie.After-agree → tie.After-wide
+sizing c = judging c .before .before .before
+
+abbrev expecting : tie.After-agree → tie.After-expected-at
+expecting c = sizing c .before .before
+
 abbrev entry : tie.After-agree → tie.Start
-entry c = c .before .before .before .before .before .before .before .before .before .before .before .before
+entry c = expecting c .before .before
 
 -- what the comparison gives
 told :
@@ -17,10 +26,10 @@ told :
 told c =
     c .agree .ensures
     ∙ compared _ _ _ _ _ _
-    (c .before .before .before .before .before .before .before .before .before .before .expected-at .ensures)
-    (c .before .before .before .before .before .before .before .before .wide .ensures .0)
-    (c .before .before .before .before .before .judge-filled .ensures)
-    (c .before .first-wrong .ensures .0)
+    (expecting c .expected-at .ensures)
+    (sizing c .wide .ensures .value)
+    (judging c .judge-filled .ensures)
+    (c .before .first-wrong .ensures .place)
 
 expected-at-requires : tie.Need-expected-at-requires
 expected-at-requires c κs = search needs

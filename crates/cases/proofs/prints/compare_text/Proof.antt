@@ -11,12 +11,13 @@ use Rattle.cases.proofs.prints.compare_text.Tie as tie
 -- what the comparison gives
 told :
     (c : tie.After-agree) →
-    let a = c .before .before .before .before .before .before .before .before .before .args in
+    let p = c .before .before .before .before in
+    let a = p .before .before .before .before .before .args in
     c .agree .result ≡ prints (a .bytes .now) (a .start) (a .middle) (a .end)
 told c =
     let p = c .before .before .before .before in
     c .agree .ensures
-    ∙ text-compared _ _ _ _ _ _ _ _ _ (p .before .before .before .large-buffer .ensures) (p .print .ensures) refl (c .before .first-wrong .ensures .0)
+    ∙ text-compared _ _ _ _ _ _ _ _ _ (p .before .before .before .large-buffer .ensures) (p .print .ensures) refl (c .before .first-wrong .ensures .place)
 
 large-buffer-requires : tie.Need-large-buffer-requires
 large-buffer-requires c κs = search needs
@@ -64,10 +65,10 @@ part-other-text-end : tie.Need-part-other-text-end
 part-other-text-end c = search needs
 
 array-share-prefix-buffer-2 : tie.Need-array-share-prefix-buffer-2
-array-share-prefix-buffer-2 c = count-within _ _ _ _ (c .before .before .before .before .before .before .print .ensures)
+array-share-prefix-buffer-2 c = let a = c .before .before in count-within _ _ _ _ (a .before .before .before .before .print .ensures)
 
 slice-aggregate-other-text : tie.Need-slice-aggregate-other-text
-slice-aggregate-other-text c = sym (length-take-le _ _ (count-within _ _ _ _ (c .before .before .before .before .before .before .before .print .ensures)))
+slice-aggregate-other-text c = let a = c .before .before .before in sym (length-take-le _ _ (count-within _ _ _ _ (a .before .before .before .before .print .ensures)))
 
 other-text-requires : tie.Need-other-text-requires
 other-text-requires c κs = search needs

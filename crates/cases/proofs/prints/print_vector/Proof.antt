@@ -26,7 +26,7 @@ no-input-requires-2 c κs = search needs
 returns-2 : tie.Need-returns-2
 returns-2 c =
     let t = c .before .before in
-    sym (no-input _ _ (t .before .if1 .left) (rw (t .two-bytes .ensures .0) at (c .before .if2 .taken)))
+    sym (no-input _ _ (t .before .if1 .left) (rw (t .two-bytes .ensures .value) at (c .before .if2 .taken)))
 
 add-compare-text : tie.Need-add-compare-text
 add-compare-text c = search needs
@@ -44,7 +44,7 @@ returns-3 : tie.Need-returns-3
 returns-3 c =
     let e = c .before .before .before in
     let t = e .before in
-    let z = t .two-bytes .ensures .0 in
+    let z = t .two-bytes .ensures .value in
     rw z at (c .compare-text .ensures) ∙ sym (whole-input _ _ (t .before .if1 .left) (rw z at (e .if2 .left)))
 
 pub print-vector-spec : {M : Type 1} → statement M

@@ -33,7 +33,7 @@ loop-holds c = (
   omega arith,
   record { vectors = omega arith; differences = omega arith },
   rw (c .start-checkpoint .ensures) (stands-first _ _ _),
-  c .before .fields-of .ensures .0,
+  c .before .fields-of .ensures .size,
 )
 
 frame-requires : tie.Need-frame-requires Inv-loop μ-loop
@@ -44,11 +44,13 @@ enum-told c = search needs
 
 returns : tie.Need-returns Inv-loop μ-loop
 returns c =
-    let l = c .before .before .before .before .loop in (
-      stands-broken _ _ _ _ _ _ (l .inv .2) (c .before .before .before .loop-test .taken)
-          (rw (l .inv .3) at (sym (c .before .before .frame .ensures) ∙ c .enum-told .given .1)),
-      record { vectors = omega arith; differences = omega arith },
-    )
+    let l = c .before .before .before .before .loop in
+    record {
+      run =
+          stands-broken _ _ _ _ _ _ (l .inv .2) (c .before .before .before .loop-test .taken)
+          (rw (l .inv .3) at (sym (c .before .before .frame .ensures) ∙ c .enum-told .given .1));
+      grown = record { vectors = omega arith; differences = omega arith };
+    }
 
 enum-known-v : tie.Need-enum-known-v Inv-loop μ-loop
 enum-known-v c = search needs
@@ -56,9 +58,10 @@ enum-known-v c = search needs
 -- where the vector lies
 placed :
     (c : tie.After-v Inv-loop μ-loop) →
-    Within (c .before .before .before .before .before .before .before .before .args .bytes .now)
-    (c .before .before .before .before .loop .at)
-    (c .before .before .before .before .before .before .fields-of .result)
+    let l = c .before .before .before .before in
+    Within (l .before .before .before .before .args .bytes .now)
+    (l .loop .at)
+    (l .before .before .fields-of .result)
     (c .v .given .0 .0)
 placed c = within _ _ _ _ (sym (c .before .before .frame .ensures) ∙ c .v .given .1)
 
@@ -87,17 +90,17 @@ loop-again c =
     rw (c .before .before .count .ensures) (
       omega arith,
       record { vectors = omega arith; differences = omega arith },
-      rw (r .ensures .0, r .ensures .1)
+      rw (r .ensures .agrees, r .ensures .leaves)
           (rw (l .inv .3)
           (stands-next _ _ _ _ _ _ (l .inv .2) _ (v .before .before .before .loop-test .taken) (rw (l .inv .3) at e))),
       l .inv .3,
     )
 
 returns-2 : tie.Need-returns-2 Inv-loop μ-loop
-returns-2 c = (
-  stands-done _ _ _ _ _ _ (c .before .loop .inv .2) (c .loop-test .left),
-  record { vectors = omega arith; differences = omega arith },
-)
+returns-2 c = record {
+  run = stands-done _ _ _ _ _ _ (c .before .loop .inv .2) (c .loop-test .left);
+  grown = record { vectors = omega arith; differences = omega arith };
+}
 
 pub run-all-spec : {M : Type 1} → statement M
 run-all-spec =

@@ -43,22 +43,22 @@ print-vector-requires c κs =
     let p = rw (c .enum-told6 .given .1) at (c .before .before .before .pre) in (p .0, omega arith)
 
 returns : tie.Need-returns
-returns c = rw (c .before .enum-told .given .1) (c .check-vector .ensures, refl)
+returns c = rw (c .before .enum-told .given .1) (record { agrees = c .check-vector .ensures; leaves = refl })
 
 returns-2 : tie.Need-returns-2
-returns-2 c = rw (c .before .enum-told2 .given .1) (c .judge-vector .ensures, refl)
+returns-2 c = rw (c .before .enum-told2 .given .1) (record { agrees = c .judge-vector .ensures; leaves = refl })
 
 returns-3 : tie.Need-returns-3
-returns-3 c = rw (c .before .enum-told3 .given .1) (c .start-vector .ensures, refl)
+returns-3 c = rw (c .before .enum-told3 .given .1) (record { agrees = c .start-vector .ensures; leaves = refl })
 
 returns-4 : tie.Need-returns-4
 returns-4 c = rw (c .before .enum-told4 .given .1) (c .walk-vector .ensures)
 
 returns-5 : tie.Need-returns-5
-returns-5 c = rw (c .before .enum-told5 .given .1) (c .compare-vector .ensures, refl)
+returns-5 c = rw (c .before .enum-told5 .given .1) (record { agrees = c .compare-vector .ensures; leaves = refl })
 
 returns-6 : tie.Need-returns-6
-returns-6 c = rw (c .before .enum-told6 .given .1) (c .print-vector .ensures, refl)
+returns-6 c = rw (c .before .enum-told6 .given .1) (record { agrees = c .print-vector .ensures; leaves = refl })
 
 pub run-vector-spec : {M : Type 1} → statement M
 run-vector-spec =

@@ -12,14 +12,17 @@ returns-2 c = rw (eq-eqb _ _ (c .before .before .before .if1 .left), ne-eqb _ _ 
 
 returns-3 : tie.Need-returns-3
 returns-3 c =
-    rw (eq-eqb _ _ (c .before .before .before .before .before .before .if1 .left), eq-eqb _ _ (c .before .before .before .if2 .left), ne-eqb _ _ (c .if3 .taken))
+    let model = c .before .before .before in
+    rw (eq-eqb _ _ (model .before .before .before .if1 .left), eq-eqb _ _ (model .if2 .left), ne-eqb _ _ (c .if3 .taken))
 
 returns-4 : tie.Need-returns-4
 returns-4 c =
+    let steps = c .before .before .before in
+    let model = steps .before .before .before in
     rw (
-      eq-eqb _ _ (c .before .before .before .before .before .before .before .before .before .if1 .left),
-      eq-eqb _ _ (c .before .before .before .before .before .before .if2 .left),
-      eq-eqb _ _ (c .before .before .before .if3 .left),
+      eq-eqb _ _ (model .before .before .before .if1 .left),
+      eq-eqb _ _ (model .if2 .left),
+      eq-eqb _ _ (steps .if3 .left),
       ne-eqb _ _ (c .if4 .taken),
     )
 
@@ -28,12 +31,14 @@ equal-requires c κs = search needs
 
 returns-5 : tie.Need-returns-5
 returns-5 c =
-    let d = c .before .before .before in
+    let expansions = c .before .before .before in
+    let steps = expansions .before .before .before in
+    let model = steps .before .before .before in
     rw (
-      eq-eqb _ _ (d .before .before .before .before .before .before .before .before .before .if1 .left),
-      eq-eqb _ _ (d .before .before .before .before .before .before .if2 .left),
-      eq-eqb _ _ (d .before .before .before .if3 .left),
-      eq-eqb _ _ (d .if4 .left),
+      eq-eqb _ _ (model .before .before .before .if1 .left),
+      eq-eqb _ _ (model .if2 .left),
+      eq-eqb _ _ (steps .if3 .left),
+      eq-eqb _ _ (expansions .if4 .left),
     )
     (c .equal .ensures)
 

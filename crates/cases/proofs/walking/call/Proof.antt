@@ -35,7 +35,7 @@ returns : tie.Need-returns
 returns c =
     calling _ _ _ _ _ _
     (c .before .before .before .call-origin .ensures)
-    (c .before .before .four-bytes .ensures .0)
+    (c .before .before .four-bytes .ensures .value)
     (c .walk .ensures)
 
 pub call-spec : {M : Type 1} → statement M

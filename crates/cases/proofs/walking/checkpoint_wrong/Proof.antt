@@ -33,15 +33,16 @@ first-wrong-requires : tie.Need-first-wrong-requires
 first-wrong-requires c κs = search needs
 
 add-result : tie.Need-add-result
-add-result c = let l = slice-aggregate-first-wrong (c .before) in omega (arith, c .first-wrong .ensures .1)
+add-result c = let l = slice-aggregate-first-wrong (c .before) in omega (arith, c .first-wrong .ensures .within)
 
 returns-3 : tie.Need-returns-3
 unfolding checkpoint-wrong
 returns-3 c =
+    let length = c .before .before .before in
     rw (
-      eq-eqb _ _ (c .before .before .before .before .before .before .if1 .left),
-      eq-eqb _ _ (c .before .before .before .if2 .left),
-      c .first-wrong .ensures .0,
+      eq-eqb _ _ (length .before .before .before .if1 .left),
+      eq-eqb _ _ (length .if2 .left),
+      c .first-wrong .ensures .place,
     )
 
 pub checkpoint-wrong-spec : {M : Type 1} → statement M

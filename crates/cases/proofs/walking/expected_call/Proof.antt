@@ -29,8 +29,8 @@ returns c =
     rw (
       c .before .before .before .expected-at .ensures,
       c .before .before .eight-bytes .ensures,
-      c .before .four-bytes .ensures .0,
-      c .four-bytes2 .ensures .0,
+      c .before .four-bytes .ensures .value,
+      c .four-bytes2 .ensures .value,
     )
 
 pub expected-call-spec : {M : Type 1} → statement M

@@ -1,4 +1,5 @@
 -- `trail_at`: what was copied is all of the array.
+use Rattle.limits.specs.Limits.{max-variables}
 use Rattle.cases.proofs.WalkingLaws.{copied}
 use borrow.Author.Needs.{needs}
 use Rattle.cases.proofs.walking.trail_at.Statement.{statement}
@@ -25,7 +26,7 @@ copy-requires c κs = search needs
 returns : tie.Need-returns
 returns c =
     let start = c .before .before .before .before .before in
-    copied (start .args .bytes .now) _ _ (start .args .at) (start .pre) (slice-aggregate-copy (c .before .before))
+    copied max-variables (start .args .bytes .now) _ _ (start .args .at) (start .pre) (slice-aggregate-copy (c .before .before))
     (c .before .copy .ensures .1)
 
 pub trail-at-spec : {M : Type 1} → statement M

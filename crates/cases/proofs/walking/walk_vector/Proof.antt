@@ -57,7 +57,7 @@ agree-requires : tie.Need-agree-requires
 agree-requires c κs = search needs
 
 returns : tie.Need-returns
-returns c = (sym (c .if1 .taken) ∙ told (c .before), left (c .before))
+returns c = record { agrees = sym (c .if1 .taken) ∙ told (c .before); leaves = left (c .before) }
 
 difference-requires : tie.Need-difference-requires
 difference-requires c κs = search needs
@@ -88,8 +88,9 @@ report-byte-requires c κs = search needs
 
 returns-2 : tie.Need-returns-2
 returns-2 c =
-    let e = c .before .before .before .before .before .before .before .before .before .before in
-    (sym (e .if1 .left) ∙ told (e .before), left (e .before))
+    let model = c .before .before .before .before .before in
+    let e = model .before .before .before .before .before in
+    record { agrees = sym (e .if1 .left) ∙ told (e .before); leaves = left (e .before) }
 
 pub walk-vector-spec : {M : Type 1} → statement M
 walk-vector-spec =

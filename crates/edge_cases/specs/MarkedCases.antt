@@ -1,0 +1,106 @@
+-- 01, 'Cases at the edges (♦ proved)': the marked cases as one table, in 01's order. Where 01 gives the bytes of a sheet, the statement
+-- begins from them, and where it gives rules, from the bytes of these rules.
+use Prim.Native.Nat.{ℕ, _+_, _-_, _*_, _≤_}
+use mathlib.Core.Bool.{true, false}
+use mathlib.Core.List.{List, [], _∷_, _++_, map}
+use mathlib.Core.Path.{_≡_}
+use lib.ListN.{length, drop, replicate}
+use Rattle.limits.specs.Limits.{max-clauses}
+use Rattle.writing.specs.Text.{line-feed, blank}
+use Rattle.formula.specs.Decode.{Decoding, readable, refused, decode}
+use Rattle.formula.specs.Format.{Literal, formula-bytes}
+use Rattle.formula.specs.Refusals.{Listing, listing}
+use Rattle.matched.specs.Judge.{accepted, judge}
+use Rattle.matched.specs.Pairing.{Pairs}
+use Rattle.walk.specs.Checkpoints.{start}
+use Rattle.walk.specs.PlainMachine.{spent}
+use Rattle.walk.specs.WalkCall.{Kind, says-model, says-ended, Result, answered, walk-call, walk-calls}
+use Rattle.printing.specs.Printed.{switches-word, rules-word, end-word, line-budget, printed}
+
+-- ---- how the cases are written
+
+-- 01's switch s, named as on or as off
+abbrev pub on : ℕ → Literal
+on s = record { variable = s - 1; positive = true }
+
+abbrev pub off : ℕ → Literal
+off s = record { variable = s - 1; positive = false }
+
+-- 01's digits of a set-up, switch 1 first
+abbrev pub assigned : List ℕ → ℕ
+assigned [] = 0
+assigned (d ∷ ds) = d + 2 * assigned ds
+
+-- a line of a walk: what a walk call says, its model, its steps (01: moves) and its expansions (01: reaches)
+pub record Line : Type 0 where
+  pub kind : Kind
+  pub model : ℕ
+  pub steps : ℕ
+  pub expansions : ℕ
+
+abbrev pub line : Result → Line
+line r = record { kind = r .kind; model = r .model; steps = r .steps; expansions = r .expansions }
+
+abbrev pub model-at : List ℕ → ℕ → ℕ → Line
+model-at ds steps expansions = record { kind = says-model; model = assigned ds; steps = steps; expansions = expansions }
+
+abbrev pub end-at : ℕ → ℕ → Line
+end-at steps expansions = record { kind = says-ended; model = 0; steps = steps; expansions = expansions }
+
+-- the lines of the first k walk calls on an input: from the start, on a line's budget, which brings a model or the end
+abbrev pub walked : List ℕ → ℕ → List Line
+walked s k = map line (walk-calls s start (replicate k line-budget))
+
+-- the number and the place of the refusal that reading gives, zeros if it gives none
+abbrev pub refusal-of : Decoding → Listing
+refusal-of (readable n cs) = record { number = 0; place = 0 }
+refusal-of (refused r) = listing r
+
+abbrev pub number-at : ℕ → ℕ → Listing
+number-at k p = record { number = k; place = p }
+
+-- judge refuses by 10 with this place, and writes these marks into a buffer (01: slate) that is not short
+abbrev pub UnmatchedAt : List ℕ → ℕ → List ℕ → Type 0
+UnmatchedAt s p marks =
+    (b : List ℕ) → max-clauses ≤ length b
+    → judge s b ≡ record { answer = record { number = 10; place = p; variables = 0; clauses = 0 }; buffer = marks ++ drop (length marks) b }
+
+-- 'Input 01 02 02 01 02 02 04 03 01 03 02 04 05'
+abbrev pub example : List ℕ
+example = 1 ∷ 2 ∷ 2 ∷ 1 ∷ 2 ∷ 2 ∷ 4 ∷ 3 ∷ 1 ∷ 3 ∷ 2 ∷ 4 ∷ 5 ∷ []
+
+-- ---- the table
+
+pub record MarkedCases : Type 0 where
+  -- 'the sheet above: slate 1, 2,'
+  pub example-matching : (b : List ℕ) → max-clauses ≤ length b → judge example b ≡ record { answer = accepted 2 2; buffer = 1 ∷ 2 ∷ drop 2 b }
+  -- 'and the four lines': switches 2 rules 2, 01 2 2, 10 4 0, end 2 0
+  pub example-printed : printed example
+      ≡ (switches-word ++ (blank ∷ 50 ∷ blank ∷ [])) ++ (rules-word ++ (blank ∷ 50 ∷ line-feed ∷ []))
+      ++ (48 ∷ 49 ∷ blank ∷ 50 ∷ blank ∷ 50 ∷ line-feed ∷ [])
+      ++ (49 ∷ 48 ∷ blank ∷ 52 ∷ blank ∷ 48 ∷ line-feed ∷ [])
+      ++ (end-word ++ (blank ∷ 50 ∷ blank ∷ 48 ∷ line-feed ∷ []))
+  -- 'rules (1 on, 2 on), (1 on, 3 on), (2 on, 3 on), n = 3: 110, 101, 011, 111 at 3, 6, 4, 2 moves, end 3, no reaches'
+  pub three-pairs : walked (formula-bytes 3 ((on 1 ∷ on 2 ∷ []) ∷ (on 1 ∷ on 3 ∷ []) ∷ (on 2 ∷ on 3 ∷ []) ∷ [])) 5
+      ≡ model-at (1 ∷ 1 ∷ 0 ∷ []) 3 0 ∷ model-at (1 ∷ 0 ∷ 1 ∷ []) 6 0 ∷ model-at (0 ∷ 1 ∷ 1 ∷ []) 4 0 ∷ model-at (1 ∷ 1 ∷ 1 ∷ []) 2 0 ∷ end-at 3 0 ∷ []
+  -- 'rules (1 on, 2 on), (1 on, 2 off), n = 2: 10, 11 at 2, 4 moves, end 2'
+  pub wrong-turn : walked (formula-bytes 2 ((on 1 ∷ on 2 ∷ []) ∷ (on 1 ∷ off 2 ∷ []) ∷ [])) 3
+      ≡ model-at (1 ∷ 0 ∷ []) 2 0 ∷ model-at (1 ∷ 1 ∷ []) 4 0 ∷ end-at 2 0 ∷ []
+  -- '01 02 05: 00, 01, 10, 11 at 2, 2, 4, 2 moves, end 2'
+  pub no-clauses : walked (1 ∷ 2 ∷ 5 ∷ []) 5
+      ≡ model-at (0 ∷ 0 ∷ []) 2 0 ∷ model-at (0 ∷ 1 ∷ []) 2 0 ∷ model-at (1 ∷ 0 ∷ []) 4 0 ∷ model-at (1 ∷ 1 ∷ []) 2 0 ∷ end-at 2 0 ∷ []
+  -- 'no bytes: 2 at 0'
+  pub no-bytes : refusal-of (decode []) ≡ number-at 2 0
+  -- '01 01 04 05: 10, place 1'
+  pub empty-clause : UnmatchedAt (1 ∷ 1 ∷ 4 ∷ 5 ∷ []) 1 (1 ∷ [])
+  -- '01 01 02 01 04 03 01 04 05: 10, place 2'
+  pub both-ways : UnmatchedAt (1 ∷ 1 ∷ 2 ∷ 1 ∷ 4 ∷ 3 ∷ 1 ∷ 4 ∷ 5 ∷ []) 2 (1 ∷ 1 ∷ [])
+  -- '01 02 02 01 03 01 04 05: 7 at 4'
+  pub named-twice : refusal-of (decode (1 ∷ 2 ∷ 2 ∷ 1 ∷ 3 ∷ 1 ∷ 4 ∷ 5 ∷ [])) ≡ number-at 7 4
+  -- '01 01 02 01 05: 4 at 4'
+  pub clause-not-ended : refusal-of (decode (1 ∷ 1 ∷ 2 ∷ 1 ∷ 5 ∷ [])) ≡ number-at 4 4
+  -- '01 01 05 00: 9 at 3'
+  pub tail-byte : refusal-of (decode (1 ∷ 1 ∷ 5 ∷ 0 ∷ [])) ≡ number-at 9 3
+  -- 'start marker, budget 0, pairable sheet: spent', with no step made and the checkpoint unchanged
+  pub start-zero : (s : List ℕ) (n : ℕ) (cs : List (List Literal)) → decode s ≡ readable n cs → (vs : List ℕ) → Pairs cs vs
+      → walk-call s start 0 ≡ answered spent 0 0 start

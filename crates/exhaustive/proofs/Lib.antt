@@ -1,0 +1,3 @@
+pub mod AllModelsLaws
+pub mod ComparisonLaws
+pub mod SetLaws

@@ -1,0 +1,2 @@
+pub mod AllModels
+pub mod Comparisons

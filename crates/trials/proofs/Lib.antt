@@ -1,3 +1,0 @@
-pub mod TrialLaws
-pub mod ComparisonLaws
-pub mod SetLaws

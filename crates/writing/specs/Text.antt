@@ -1,0 +1,43 @@
+-- Text as lists of ASCII bytes: numbers in decimal, the digits of a mask, lines of words.
+use Prim.Native.Nat.{ℕ, zero, suc, _+_, _/_, _%_}
+use mathlib.Core.Bool.{cond}
+use mathlib.Core.List.{List, [], _∷_, _++_}
+use lib.Dec.{ltb}
+use Rattle.lists.specs.Tabulated.{tabulated}
+use Rattle.masks.specs.Mask.{bit}
+
+-- the characters 0, 1, line feed and blank
+abbrev pub digit-zero : ℕ
+digit-zero = 48
+
+abbrev pub digit-one : ℕ
+digit-one = 49
+
+abbrev pub line-feed : ℕ
+line-feed = 10
+
+abbrev pub blank : ℕ
+blank = 32
+
+-- The digits of x, of which there are at most k: x itself if it is one digit, else the digits of x / 10 and then the last one.
+unfoldable pub decimal-within : ℕ → ℕ → List ℕ
+decimal-within zero x = []
+decimal-within (suc k) x = cond (ltb x 10) ((digit-zero + x) ∷ []) (decimal-within k (x / 10) ++ ((digit-zero + (x % 10)) ∷ []))
+
+-- a number in decimal, without leading zeros: x has at most x + 1 digits
+unfoldable pub decimal : ℕ → List ℕ
+decimal x = decimal-within (suc x) x
+
+-- 1 if bit i of the mask a is set, else 0
+abbrev pub digit : ℕ → ℕ → ℕ
+digit a i = cond (bit a i) digit-one digit-zero
+
+-- the first n bits of a mask (01, 'The printed walk': 'n digits, switch 1 first')
+abbrev pub digits : ℕ → ℕ → List ℕ
+digits n a = tabulated (digit a) n
+
+-- a line of words (01, 'The printed walk': 'One blank between words, and each line ends with a line feed (0A).')
+abbrev pub line-of : List (List ℕ) → List ℕ
+line-of [] = line-feed ∷ []
+line-of (w ∷ []) = w ++ (line-feed ∷ [])
+line-of (w ∷ v ∷ ws) = w ++ (blank ∷ line-of (v ∷ ws))

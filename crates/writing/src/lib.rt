@@ -1,0 +1,77 @@
+// Text written into a lent buffer. A writer is given the offset at which it starts, and answers with the one behind what it wrote. Its
+// callers show that the buffer has room.
+ghost use mathlib.Core.Path.{_≡_};
+ghost use mathlib.Core.List.{[], _∷_};
+ghost use Prim.Native.Nat.{_+_, _<_, _≤_};
+ghost use lib.ListN.{length};
+ghost use Rattle.writing.specs.Placed.{Room, Wrote};
+ghost use Rattle.writing.specs.Text.{decimal, digit, digits, line-of};
+
+// One byte.
+pub fn put_byte(x: u8, buffer: &mut [u8], at: usize) -> usize
+    requires { ⌜ at < length (now buffer) ⌝ }
+    ensures { λ r. ⌜ Wrote (x ∷ []) at (now (buffer .entry)) (now (buffer .exit)) r ⌝ }
+{
+    buffer[at] = x;
+    at + 1
+}
+
+// A word.
+pub fn put_word(word: &[u8], buffer: &mut [u8], at: usize) -> usize
+    requires { ⌜ Room at (now word) (now buffer) ⌝ }
+    ensures { λ r. ⌜ Wrote (now (word .entry)) at (now (buffer .entry)) (now (buffer .exit)) r ⌝ }
+{
+    let mut i: usize = 0;
+    while i < word.len() {
+        buffer[at + i] = word[i];
+        i += 1;
+    }
+    at + i
+}
+
+// A number in decimal: the digits before the last one first.
+pub fn put_decimal(x: u64, buffer: &mut [u8], at: usize) -> usize
+    requires { ⌜ Room at (decimal x) (now buffer) ⌝ }
+    ensures { λ r. ⌜ Wrote (decimal x) at (now (buffer .entry)) (now (buffer .exit)) r ⌝ }
+{
+    if x < 10 {
+        return put_byte(b'0' + x as u8, buffer, at);
+    }
+    let next = put_decimal(x / 10, buffer, at);
+    put_byte(b'0' + (x % 10) as u8, buffer, next)
+}
+
+// The digit of bit i of a mask.
+fn digit_of(a: u64, i: usize) -> u8
+    requires { ⌜ i < 64 ⌝ }
+    ensures { λ r. ⌜ r ≡ digit a i ⌝ }
+{
+    if masks::member(a, i) {
+        return b'1';
+    }
+    b'0'
+}
+
+// The digits of the first n bits of a mask.
+pub fn put_digits(n: usize, a: u64, buffer: &mut [u8], at: usize) -> usize
+    requires { ⌜ (n ≤ 64) × (at + n ≤ length (now buffer)) ⌝ }
+    ensures { λ r. ⌜ Wrote (digits n a) at (now (buffer .entry)) (now (buffer .exit)) r ⌝ }
+{
+    let mut i: usize = 0;
+    while i < n {
+        buffer[at + i] = digit_of(a, i);
+        i += 1;
+    }
+    at + i
+}
+
+// The last two words of a line, numbers.
+pub fn put_numbers(x: u64, y: u64, buffer: &mut [u8], at: usize) -> usize
+    requires { ⌜ Room at (line-of (decimal x ∷ decimal y ∷ [])) (now buffer) ⌝ }
+    ensures { λ r. ⌜ Wrote (line-of (decimal x ∷ decimal y ∷ [])) at (now (buffer .entry)) (now (buffer .exit)) r ⌝ }
+{
+    let blank = put_decimal(x, buffer, at);
+    let second = put_byte(b' ', buffer, blank);
+    let feed = put_decimal(y, buffer, second);
+    put_byte(b'\n', buffer, feed)
+}
