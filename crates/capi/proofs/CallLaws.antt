@@ -10,8 +10,8 @@ use Rattle.matched.specs.Judge as judging
 use Rattle.matched.specs.Judge.{judge}
 use Rattle.walk.specs.Checkpoints.{Checkpoint, start}
 use Rattle.walk.specs.WalkCall.{Result, walk-call}
-use Rattle.enumeration.specs.declared.Listed.{Listed}
-use Rattle.enumeration.specs.declared.Walked.{Walked}
+use Rattle.enumeration.specs.declared.listing.Listed.{Listed}
+use Rattle.enumeration.specs.declared.calls.Walked.{Walked}
 use Rattle.enumeration.specs.Values.{checkpoint-values, values, listed-values}
 use Rattle.enumeration.specs.Lists.{Listing, next-models}
 use Rattle.capi.specs.Interface.{check-row, judge-row, walk-row, list-row, checkpoint-bytes, checkpoint-in, check-called, judge-called, start-called, walk-called, list-called}

@@ -16,9 +16,9 @@ use Rattle.walk.specs.InnerTest.{mode-of, stack-of, shown}
 use Rattle.walk.specs.InnerCall.{resumed-result}
 use Rattle.walk.specs.WalkCall.{answered}
 use Rattle.walk.proofs.PositionLaws.{length-trail}
-use Rattle.enumeration.specs.declared.Answer.{Answer}
-use Rattle.enumeration.specs.declared.Answer.the-variants.{Model, Spent, Ended}
-use Rattle.enumeration.specs.declared.State.{State}
+use Rattle.enumeration.specs.declared.calls.Answer.{Answer}
+use Rattle.enumeration.specs.declared.calls.Answer.the-variants.{Model, Spent, Ended}
+use Rattle.enumeration.specs.declared.state.State.{State}
 use Rattle.enumeration.specs.InnerState.{stack-in, position-at, position-in, Holds, kind-of-answer, model-of-answer}
 use Rattle.enumeration.specs.Values.{answer-as, answer-values}
 

@@ -7,8 +7,8 @@ use lib.ListN.{length, length-append}
 use Rattle.walk.specs.PlainMachine.{Answer, found, spent, ended}
 use Rattle.walk.specs.InnerStack.{empty, Tree}
 use Rattle.walk.specs.InnerMachine.{Position, down, resume}
-use Rattle.enumeration.specs.declared.Run.{Run}
-use Rattle.enumeration.specs.declared.State.{State}
+use Rattle.enumeration.specs.declared.steps.Run.{Run}
+use Rattle.enumeration.specs.declared.state.State.{State}
 use Rattle.enumeration.specs.InnerState.{position-at, position-in, Holds, Ran, kind-of-answer, model-of-answer}
 use Rattle.enumeration.specs.InnerRead.{Node}
 use Rattle.printing.specs.Placed.{Room, Wrote}
