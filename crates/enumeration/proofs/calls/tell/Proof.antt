@@ -2,6 +2,7 @@
 use borrow.Author.Needs.{needs}
 use mathlib.Core.Path.{ap, _∙_}
 use Rattle.walk.specs.InnerTest.{shown}
+use Rattle.enumeration.specs.InnerState.{answer-of}
 use Rattle.enumeration.proofs.TellLaws.{run-told}
 use Rattle.enumeration.proofs.calls.tell.Statement.{statement}
 use Rattle.enumeration.proofs.calls.tell.Tie as tie
@@ -13,7 +14,7 @@ checkpoint-of-requires : tie.Need-checkpoint-of-requires
 checkpoint-of-requires c κs = search needs
 
 returns : tie.Need-returns
-returns c = λ K q w. run-told q _ _ _ _ (c .before .answer-of .ensures q (w .answer) (w .model)) (w .steps) (w .expansions) (c .checkpoint-of .ensures K (w .holds) ∙ ap shown (w .position))
+returns c = λ K q w. run-told q _ _ _ _ (c .before .answer-of .ensures ∙ ap answer-of (w .ending)) (w .steps) (w .expansions) (c .checkpoint-of .ensures K (w .holds) ∙ ap shown (w .position))
 
 pub tell-spec : {M : Type 1} → statement M
 tell-spec =
