@@ -10,11 +10,11 @@ use Rattle.matched.specs.Judge as judging
 use Rattle.matched.specs.Judge.{judge}
 use Rattle.walk.specs.Checkpoints.{Checkpoint, start}
 use Rattle.walk.specs.WalkCall.{Result, walk-call}
-use Rattle.enumeration.specs.declared.Listed.{Listed}
-use Rattle.enumeration.specs.declared.Walked.{Walked}
+use Rattle.enumeration.specs.declared.listing.Listed.{Listed}
+use Rattle.enumeration.specs.declared.calls.Walked.{Walked}
 use Rattle.enumeration.specs.Values.{checkpoint-values, values, listed-values}
 use Rattle.enumeration.specs.Lists.{Listing, next-models}
-use Rattle.capi.specs.Interface.{check-row, judge-row, walk-row, list-row, checkpoint-bytes, checkpoint-in, check-called, judge-called, start-called, walk-called, list-called}
+use Rattle.capi.specs.Interface.{check-row, judge-row, walk-row, list-row, checkpoint-bytes, checkpoint-in, check-called, judge-called, start-called, walk-told, walk-called, list-told, list-called}
 use Rattle.capi.proofs.RowLaws.{beside}
 
 module _ (s results : List ℕ) (a : ℕ) where
@@ -74,9 +74,7 @@ module _ (s checkpoint results : List ℕ) (budget : ℕ) where
   pub walk-called-is :
       length checkpoint ≡ 50 →
       length results ≡ 6 →
-      (let r = walk-call s (checkpoint-in checkpoint) budget in
-      walk-called s checkpoint budget results ≡
-      record { code = 0; checkpoint = checkpoint-bytes (r .checkpoint); results = walk-row r })
+      walk-called s checkpoint budget results ≡ walk-told (walk-call s (checkpoint-in checkpoint) budget)
   unfolding walk-called
   walk-called-is h k = rw (eq-eqb _ _ h, eq-eqb _ _ k)
 
@@ -106,6 +104,14 @@ module _ (s checkpoint models results : List ℕ) where
   unfolding list-called
   list-unwritten-2 h k = rw (eq-eqb _ _ h, ne-eqb _ _ k)
 
+  -- both lengths are right
+  pub list-called-is :
+      length checkpoint ≡ 50 →
+      length results ≡ 6 →
+      list-called s checkpoint models results ≡ list-told models (next-models s (checkpoint-in checkpoint) (length models))
+  unfolding list-called
+  list-called-is h k = rw (eq-eqb _ _ h, eq-eqb _ _ k)
+
   pub list-written :
       (from : Checkpoint) (r : Listed) (left brought after : List ℕ) →
       length checkpoint ≡ 50 →
@@ -115,7 +121,6 @@ module _ (s checkpoint models results : List ℕ) where
       left ≡ checkpoint-bytes (checkpoint-values (r .checkpoint)) →
       after ≡ list-row (r .count) (listed-values r) →
       list-called s checkpoint models results ≡ record { code = 0; checkpoint = left; models = brought; results = after }
-  unfolding list-called
   list-written from r left brought after h k f e l g =
       let x = next-models s from (length models) in
       let c : x .last .checkpoint ≡ checkpoint-values (r .checkpoint) =
@@ -123,4 +128,4 @@ module _ (s checkpoint models results : List ℕ) where
       let p : left ≡ checkpoint-bytes (x .last .checkpoint) = l ∙ ap checkpoint-bytes (sym c) in
       let q : after ≡ list-row (length (x .models)) (x .last) =
       g ∙ ap (list-row (r .count)) (e .last) ∙ ap (λ (n : ℕ). list-row n (x .last)) (e .count) in
-      rw (eq-eqb _ _ h, eq-eqb _ _ k, ← f, p, q, e .written)
+      rw (list-called-is h k, ← f, p, q, e .written)

@@ -7,8 +7,8 @@ use Rattle.formula.specs.declared.Refusal.{Refusal}
 use Rattle.formula.specs.declared.Refusal.the-variants.{ShortBuffer, Truncated, UnknownKind, Misplaced, BadVariableCount, NoSuchVariable, RepeatedVariable, TooManyClauses, TrailingByte, Unmatched, ForeignCheckpoint, StrayVariable}
 use Rattle.formula.specs.Refusals.{listing}
 use Rattle.walk.specs.Checkpoints.{Checkpoint}
-use Rattle.enumeration.specs.declared.Answer.{Answer}
-use Rattle.enumeration.specs.declared.Answer.the-variants.{Model, Spent, Ended, Refused}
+use Rattle.enumeration.specs.declared.calls.Answer.{Answer}
+use Rattle.enumeration.specs.declared.calls.Answer.the-variants.{Model, Spent, Ended, Refused}
 use Rattle.enumeration.specs.Values.{answer-values}
 use Rattle.capi.specs.Interface.{walk-row, list-row}
 

@@ -1,21 +1,20 @@
--- What holds of the interface: no byte of a checkpoint is lost, a refused call leaves it as it was, and calls from the start
--- checkpoint make the walk of demand 3.
+-- What holds of the interface: no byte of a checkpoint is lost, a refused call leaves it as it was and brings no model, and calls from
+-- the start checkpoint make the walk of demand 3.
 use Prim.Native.Nat.{ℕ}
 use mathlib.Core.List.{List, [], _∷_, map}
+use mathlib.Core.Logic.{⊎-elim}
 use mathlib.Core.Path.{_≡_, refl, ap, _∙_}
 use native.Mathlib.Omega.{arith}
-use lib.ListN.{length, replicate}
+use lib.ListN.{length, getD, replicate}
+use Rattle.lists.specs.Over.{over}
 use Rattle.lists.proofs.PaddedLaws.{padded-none}
-use Rattle.formula.specs.Decode.{Decoding, readable, refused, decode}
-use Rattle.formula.specs.Format.{Literal}
-use Rattle.formula.specs.Masked.{variables}
-use Rattle.matching.specs.Search.{Outcome, success, failure, outcome}
 use Rattle.walk.specs.Checkpoints.{Checkpoint, checkpoint-of, start}
-use Rattle.walk.specs.PlainMachine.{Answer, found, spent, ended, plain-call}
-use Rattle.walk.specs.WalkCall.{says-refused, kind-of, Located, at-state, nowhere, located, by-state, by-outcome, by-decoding, walk-call, walk-calls}
+use Rattle.walk.specs.WalkCall.{Kind, says-model, says-spent, says-ended, says-refused, Result, walk-call, walk-calls}
 use Rattle.walk.proofs.ResumedLaws.{call-bytes}
-use Rattle.capi.specs.Interface.{WalkCalled, walk-row, checkpoint-bytes, checkpoint-in, start-called, walk-called, walk-rows}
-use Rattle.capi.proofs.CallLaws.{start-written, walk-called-is}
+use Rattle.enumeration.proofs.RefusedLaws.{refuses-or-goes}
+use Rattle.enumeration.proofs.ListTheorems.{next-refused}
+use Rattle.capi.specs.Interface.{WalkCalled, kind-code, walk-row, checkpoint-bytes, checkpoint-in, start-called, walk-told, walk-called, walks-called, list-called}
+use Rattle.capi.proofs.CallLaws.{start-written, walk-called-is, list-called-is}
 
 -- ---- the bytes of a checkpoint
 
@@ -34,65 +33,57 @@ start-zeros = ap (λ (t : List ℕ). 0 ∷ 0 ∷ t) (padded-none 48 0)
 
 -- ---- refused calls
 
-answer-unrefused : (a : Answer) → kind-of a ≡ says-refused → ⊥
-answer-unrefused (found m) e = let z : _≡_ {A = ℕ} 0 1 = cc in omega arith
-answer-unrefused spent e = let z : _≡_ {A = ℕ} 0 1 = cc in omega arith
-answer-unrefused ended e = let z : _≡_ {A = ℕ} 0 1 = cc in omega arith
+-- which answer the results say
+kind-refused : (q : Kind) → kind-code q ≡ kind-code says-refused → q ≡ says-refused
+kind-refused says-model e = absurd (omega arith)
+kind-refused says-spent e = absurd (omega arith)
+kind-refused says-ended e = absurd (omega arith)
+kind-refused says-refused e = refl
 
--- 'the marker comes back as handed in', by the cases of a walk call
-by-place :
-    (n : ℕ) (cs : List (List Literal)) (x : Located) (c : Checkpoint) (b : ℕ) →
-    by-state n cs c x b .kind ≡ says-refused → by-state n cs c x b .checkpoint ≡ c
-by-place n cs (at-state k) c b e = absurd (answer-unrefused (plain-call n cs b k .answer) e)
-by-place n cs nowhere c b e = refl
-
-by-matching :
-    (n : ℕ) (cs : List (List Literal)) (o : Outcome) (c : Checkpoint) (b : ℕ) →
-    by-outcome n cs o c b .kind ≡ says-refused → by-outcome n cs o c b .checkpoint ≡ c
-by-matching n cs (success vs e) c b h = by-place n cs (located n cs c) c b h
-by-matching n cs (failure taken e) c b h = refl
-
-by-reading : (d : Decoding) (c : Checkpoint) (b : ℕ) → by-decoding d c b .kind ≡ says-refused → by-decoding d c b .checkpoint ≡ c
-by-reading (readable n cs) c b h = by-matching n cs (outcome (map variables cs)) c b h
-by-reading (refused r) c b h = refl
-
+-- 'the marker comes back as handed in'
 refused-kept : (s : List ℕ) (c : Checkpoint) (b : ℕ) → walk-call s c b .kind ≡ says-refused → walk-call s c b .checkpoint ≡ c
-unfolding walk-call
-refused-kept s c b h = by-reading (decode s) c b h
+refused-kept s c b h = ⊎-elim (λ w. ap (λ (r : Result). r .checkpoint) (w .1 b)) (λ w. absurd (w .0 b h)) (refuses-or-goes s c)
 
--- a refused call leaves the checkpoint's bytes as they were
-pub walk-refused :
-    (s checkpoint results : List ℕ) (b : ℕ) →
-    length checkpoint ≡ 50 →
-    length results ≡ 6 →
-    walk-call s (checkpoint-in checkpoint) b .kind ≡ says-refused → walk-called s checkpoint b results .checkpoint ≡ checkpoint
-walk-refused s checkpoint results b h k e =
-    ap (λ (r : WalkCalled). r .checkpoint) (walk-called-is s checkpoint results b h k)
-    ∙ ap checkpoint-bytes (refused-kept s (checkpoint-in checkpoint) b e)
-    ∙ written-back checkpoint h
+module _ (s checkpoint results : List ℕ) (h : length checkpoint ≡ 50) (k : length results ≡ 6) where
+  -- A refused norwythai_walk leaves the checkpoint's bytes as they were.
+  pub walk-refused : (b : ℕ) → (let after = walk-called s checkpoint b results in
+      getD (after .results) 0 0 ≡ kind-code says-refused → after .checkpoint ≡ checkpoint)
+  walk-refused b e =
+      let q = walk-called-is s checkpoint results b h k in
+      let r = kind-refused _ (rw q at e) in
+      rw q (ap checkpoint-bytes (refused-kept s (checkpoint-in checkpoint) b r) ∙ written-back checkpoint h)
+
+  -- A refused norwythai_list has written no model: results[4] is 0, and the models and the checkpoint's bytes are as they were.
+  pub list-refused : (models : List ℕ) → (let after = list-called s checkpoint models results in
+      getD (after .results) 0 0 ≡ kind-code says-refused
+      → (getD (after .results) 4 0 ≡ 0) × (after .models ≡ models) × (after .checkpoint ≡ checkpoint))
+  list-refused models e =
+      let q = list-called-is s checkpoint models results h k in
+      let w = next-refused s (checkpoint-in checkpoint) (length models) (kind-refused _ (rw q at e)) in
+      rw q (ap length (w .0), ap (λ (m : List ℕ). over m models) (w .0), ap checkpoint-bytes (w .1) ∙ written-back checkpoint h)
 
 -- ---- lists of calls
 
--- from a checkpoint of 48 bytes the results are those of the walk calls
-rows-walked :
+-- from a checkpoint of 48 bytes they are the walk calls
+calls-walked :
     (s : List ℕ) (c : Checkpoint) (results bs : List ℕ) →
     length (c .bytes) ≡ 48 →
-    length results ≡ 6 → walk-rows s (checkpoint-bytes c) results bs ≡ map walk-row (walk-calls s c bs)
-unfolding walk-rows walk-calls
-rows-walked s c results [] h k = refl
-rows-walked s c results (b ∷ bs) h k =
+    length results ≡ 6 → walks-called s (checkpoint-bytes c) results bs ≡ map walk-told (walk-calls s c bs)
+unfolding walks-called walk-calls
+calls-walked s c results [] h k = refl
+calls-walked s c results (b ∷ bs) h k =
     let l : length (checkpoint-bytes c) ≡ 50 = omega arith in
     let r = walk-call s c b in
     rw (walk-called-is s (checkpoint-bytes c) results b l k)
-    (ap (λ (t : List (List ℕ)). walk-row r ∷ t) (rows-walked s (r .checkpoint) (walk-row r) bs (call-bytes s c b h) refl))
+    (ap (λ (t : List WalkCalled). walk-told r ∷ t) (calls-walked s (r .checkpoint) (walk-row r) bs (call-bytes s c b h) refl))
 
--- Demand 3 in the interface: after norwythai_start, a list of norwythai_walk calls writes the rows of the walk calls that demand 3 speaks
--- of, whatever stood in the buffers before.
+-- Demand 3 in the interface: after norwythai_start, each norwythai_walk of a list returns 0 and leaves in the results, and as the
+-- checkpoint's 50 bytes, the result and the checkpoint of the walk call that demand 3 speaks of, whatever stood in the buffers before.
 pub walked-from-start :
     (s checkpoint results bs : List ℕ) →
     length checkpoint ≡ 50 →
-    length results ≡ 6 → walk-rows s (start-called checkpoint .checkpoint) results bs ≡ map walk-row (walk-calls s start bs)
+    length results ≡ 6 → walks-called s (start-called checkpoint .checkpoint) results bs ≡ map walk-told (walk-calls s start bs)
 unfolding start checkpoint-of
 walked-from-start s checkpoint results bs h k =
     rw (start-written checkpoint start (checkpoint-bytes start) h refl refl)
-    (rows-walked s start results bs (ap length (padded-none 48 0)) k)
+    (calls-walked s start results bs (ap length (padded-none 48 0)) k)

@@ -11,7 +11,7 @@ use Rattle.matched.specs.Judge as judging
 use Rattle.matched.specs.Judge.{judge}
 use Rattle.walk.specs.Checkpoints.{Checkpoint, start}
 use Rattle.walk.specs.WalkCall.{Kind, says-model, says-spent, says-ended, says-refused, Result, walk-call}
-use Rattle.enumeration.specs.Lists.{next-models}
+use Rattle.enumeration.specs.Lists.{Brought, next-models}
 
 -- ---- results: six numbers, of which the first says the answer, and the third and fourth are the refusal's number and place
 
@@ -99,21 +99,24 @@ pub record WalkCalled : Type 0 where
   pub checkpoint : List ℕ
   pub results : List ℕ
 
+-- a walk call's result in the buffers
+abbrev pub walk-told : Result → WalkCalled
+walk-told r = record { code = 0; checkpoint = checkpoint-bytes (r .checkpoint); results = walk-row r }
+
 -- the input, the checkpoint as it was, the budget, and the results as they were
 unfoldable pub walk-called : List ℕ → List ℕ → ℕ → List ℕ → WalkCalled
 walk-called s checkpoint budget results =
-    let r = walk-call s (checkpoint-in checkpoint) budget in
     cond (fifty checkpoint && six results)
-    (record { code = 0; checkpoint = checkpoint-bytes (r .checkpoint); results = walk-row r })
+    (walk-told (walk-call s (checkpoint-in checkpoint) budget))
     (record { code = 1; checkpoint = checkpoint; results = results })
 
--- What a list of such calls writes into the results, budget by budget. All get the same input, and nobody else writes the checkpoint
--- or the results between them.
-unfoldable pub walk-rows : List ℕ → List ℕ → List ℕ → List ℕ → List (List ℕ)
-walk-rows s checkpoint results [] = []
-walk-rows s checkpoint results (b ∷ bs) =
+-- What a list of such calls returns and writes, budget by budget. All get the same input, and nobody else writes the checkpoint or the
+-- results between them.
+unfoldable pub walks-called : List ℕ → List ℕ → List ℕ → List ℕ → List WalkCalled
+walks-called s checkpoint results [] = []
+walks-called s checkpoint results (b ∷ bs) =
     let r = walk-called s checkpoint b results in
-    r .results ∷ walk-rows s (r .checkpoint) (r .results) bs
+    r ∷ walks-called s (r .checkpoint) (r .results) bs
 
 -- norwythai_list
 pub record ListCalled : Type 0 where
@@ -122,15 +125,18 @@ pub record ListCalled : Type 0 where
   pub models : List ℕ
   pub results : List ℕ
 
--- the input, and the checkpoint, the models and the results as they were: the models brought stand over the first ones
+-- what a list of calls brings, in the buffers: the models stand over the first ones
+abbrev pub list-told : List ℕ → Brought → ListCalled
+list-told models x = record {
+  code = 0;
+  checkpoint = checkpoint-bytes (x .last .checkpoint);
+  models = over (x .models) models;
+  results = list-row (length (x .models)) (x .last);
+}
+
+-- the input, and the checkpoint, the models and the results as they were
 unfoldable pub list-called : List ℕ → List ℕ → List ℕ → List ℕ → ListCalled
 list-called s checkpoint models results =
-    let x = next-models s (checkpoint-in checkpoint) (length models) in
     cond (fifty checkpoint && six results)
-    (record {
-      code = 0;
-      checkpoint = checkpoint-bytes (x .last .checkpoint);
-      models = over (x .models) models;
-      results = list-row (length (x .models)) (x .last);
-    })
+    (list-told models (next-models s (checkpoint-in checkpoint) (length models)))
     (record { code = 1; checkpoint = checkpoint; models = models; results = results })

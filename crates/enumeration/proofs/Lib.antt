@@ -10,4 +10,5 @@ pub mod TellLaws
 pub mod ListLaws
 pub mod PlaceLaws
 pub mod WalkLaws
+pub mod RefusedLaws
 pub mod ListTheorems

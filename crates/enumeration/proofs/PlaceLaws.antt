@@ -11,8 +11,8 @@ use Rattle.walk.specs.Checkpoints.{undone-mode}
 use Rattle.walk.specs.Checkpoints as walk
 use Rattle.walk.specs.InnerStack.{Stack, empty, push, depth, Tree}
 use Rattle.walk.specs.InnerTest.{is-empty, replays, fits, formed, read, accepts}
-use Rattle.enumeration.specs.declared.State.{State}
-use Rattle.enumeration.specs.declared.Tested.{Tested}
+use Rattle.enumeration.specs.declared.state.State.{State}
+use Rattle.enumeration.specs.declared.reading.Tested.{Tested}
 use Rattle.enumeration.specs.InnerState.{stack-in, position-at, Follows, Holds, marked-as, at-place}
 use Rattle.enumeration.specs.InnerRead.{Node, Replayed, Taken}
 use Rattle.enumeration.proofs.StateLaws.{Held, holds-held, held-holds, held-place, opens-next}

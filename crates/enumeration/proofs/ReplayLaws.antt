@@ -16,8 +16,8 @@ use Rattle.splitting.specs.Terms.{opened}
 use Rattle.walk.specs.InnerStack.{Stack, empty, push, depth, Tree}
 use Rattle.walk.specs.InnerTest.{byte-number, byte-value, pushed, replays}
 use Rattle.walk.proofs.ReplayLaws.{read-next}
-use Rattle.enumeration.specs.declared.State.{State}
-use Rattle.enumeration.specs.declared.Tested.{Tested}
+use Rattle.enumeration.specs.declared.state.State.{State}
+use Rattle.enumeration.specs.declared.reading.Tested.{Tested}
 use Rattle.enumeration.specs.InnerState.{stack-in, Follows, Free, Holds, Valid, pushing}
 use Rattle.enumeration.specs.InnerRead.{Node, Replayed, noted}
 use Rattle.enumeration.proofs.ClearLaws.{clears-note}

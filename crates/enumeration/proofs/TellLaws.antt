@@ -16,33 +16,10 @@ use Rattle.walk.specs.InnerTest.{mode-of, stack-of, shown}
 use Rattle.walk.specs.InnerCall.{resumed-result}
 use Rattle.walk.specs.WalkCall.{answered}
 use Rattle.walk.proofs.PositionLaws.{length-trail}
-use Rattle.enumeration.specs.declared.Answer.{Answer}
-use Rattle.enumeration.specs.declared.Answer.the-variants.{Model, Spent, Ended}
-use Rattle.enumeration.specs.declared.State.{State}
-use Rattle.enumeration.specs.InnerState.{stack-in, position-at, position-in, Holds, kind-of-answer, model-of-answer}
-use Rattle.enumeration.specs.Values.{answer-as, answer-values}
-
--- ---- the answer
-
--- 0 says a model
-pub answers-model : (a : plain.Answer) (k m : ℕ) → k ≡ 0 → k ≡ kind-of-answer a → m ≡ model-of-answer a → Model m ≡ answer-as a
-answers-model (found a) k m z e x = ap Model x
-answers-model spent k m z e x = absurd (omega arith)
-answers-model ended k m z e x = absurd (omega arith)
-
--- 1 says spent
-pub answers-spent : (a : plain.Answer) (k : ℕ) → k ≡ 1 → k ≡ kind-of-answer a → Spent ≡ answer-as a
-answers-spent (found a) k z e = absurd (omega arith)
-answers-spent spent k z e = refl
-answers-spent ended k z e = absurd (omega arith)
-
--- 2 says ended
-pub answers-ended : (a : plain.Answer) (k : ℕ) → (k ≡ 0 → ⊥) → (k ≡ 1 → ⊥) → k ≡ kind-of-answer a → Ended ≡ answer-as a
-answers-ended (found a) k y z e = absurd (y e)
-answers-ended spent k y z e = absurd (z e)
-answers-ended ended k y z e = refl
-
--- ---- the checkpoint
+use Rattle.enumeration.specs.declared.calls.Answer.{Answer}
+use Rattle.enumeration.specs.declared.state.State.{State}
+use Rattle.enumeration.specs.InnerState.{stack-in, position-at, position-in, Holds, ending-as, answer-of}
+use Rattle.enumeration.specs.Values.{answer-values}
 
 -- the mode with the state's length and bytes
 abbrev pub told : ℕ → State → walk.Checkpoint
@@ -90,12 +67,12 @@ module _ (K : Tree) (s : State) (h : Holds K s) where
 
 -- ---- the result of a run
 
-answer-told : (a : plain.Answer) (s e : ℕ) (c : walk.Checkpoint) → answer-values (answer-as a) s e c ≡ answered a s e c
+answer-told : (a : plain.Answer) (s e : ℕ) (c : walk.Checkpoint) → answer-values (answer-of (ending-as a)) s e c ≡ answered a s e c
 answer-told (found a) s e c = refl
 answer-told spent s e c = refl
 answer-told ended s e c = refl
 
 -- the result of a run
-pub run-told : (q : Resumed) (a : Answer) (s e : ℕ) (c : walk.Checkpoint) → a ≡ answer-as (q .answer) → s ≡ q .steps → e ≡ q .expansions → c ≡ shown (q .position)
+pub run-told : (q : Resumed) (a : Answer) (s e : ℕ) (c : walk.Checkpoint) → a ≡ answer-of (ending-as (q .answer)) → s ≡ q .steps → e ≡ q .expansions → c ≡ shown (q .position)
     → answer-values a s e c ≡ resumed-result q
 run-told q a s e c p x y z = rw (p, x, y, z) (answer-told (q .answer) (q .steps) (q .expansions) (shown (q .position)))

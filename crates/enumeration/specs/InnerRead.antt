@@ -13,8 +13,8 @@ use Rattle.walk.specs.Checkpoints.{Checkpoint}
 use Rattle.walk.specs.InnerCall.{call-from}
 use Rattle.walk.specs.WalkCall.{Result, refusing}
 use Rattle.enumeration.specs.InnerState.{stack-in, position-in, Follows, Holds, marked-as}
-use Rattle.enumeration.specs.declared.State.{State}
-use Rattle.enumeration.specs.declared.Tested.{Tested}
+use Rattle.enumeration.specs.declared.state.State.{State}
+use Rattle.enumeration.specs.declared.reading.Tested.{Tested}
 
 -- the formula's choices make a tree
 pub record Led (f : Formula) : Type 0 where

@@ -2,23 +2,16 @@
 use Prim.Native.Nat.{ℕ}
 use Rattle.formula.specs.Refusals.{listing}
 use Rattle.walk.specs.Checkpoints as walk
-use Rattle.walk.specs.PlainMachine as plain
 use Rattle.walk.specs.WalkCall.{says-model, says-spent, says-ended, says-refused, Result}
-use Rattle.enumeration.specs.declared.Answer.{Answer}
-use Rattle.enumeration.specs.declared.Answer.the-variants.{Model, Spent, Ended, Refused}
-use Rattle.enumeration.specs.declared.Checkpoint.{Checkpoint}
-use Rattle.enumeration.specs.declared.Listed.{Listed}
-use Rattle.enumeration.specs.declared.Walked.{Walked}
+use Rattle.enumeration.specs.declared.calls.Answer.{Answer}
+use Rattle.enumeration.specs.declared.calls.Answer.the-variants.{Model, Spent, Ended, Refused}
+use Rattle.enumeration.specs.declared.checkpoint.Checkpoint.{Checkpoint}
+use Rattle.enumeration.specs.declared.listing.Listed.{Listed}
+use Rattle.enumeration.specs.declared.calls.Walked.{Walked}
 
 -- a checkpoint's mode, length and bytes
 abbrev pub checkpoint-values : Checkpoint → walk.Checkpoint
 checkpoint-values c = record { mode = c .mode; length = c .length; bytes = c .bytes }
-
--- the answer of a run
-abbrev pub answer-as : plain.Answer → Answer
-answer-as (plain.found a) = Model a
-answer-as plain.spent = Spent
-answer-as plain.ended = Ended
 
 -- 'a set-up, spent, ended, refused': the model, or 0; the refusal's number and place, or zeros
 abbrev pub answer-values : Answer → ℕ → ℕ → walk.Checkpoint → Result

@@ -7,9 +7,11 @@ use lib.ListN.{length, length-append}
 use Rattle.walk.specs.PlainMachine.{Answer, found, spent, ended}
 use Rattle.walk.specs.InnerStack.{empty, Tree}
 use Rattle.walk.specs.InnerMachine.{Position, down, resume}
-use Rattle.enumeration.specs.declared.Run.{Run}
-use Rattle.enumeration.specs.declared.State.{State}
-use Rattle.enumeration.specs.InnerState.{position-at, position-in, Holds, Ran, kind-of-answer, model-of-answer}
+use Rattle.enumeration.specs.declared.steps.Ending.{Ending}
+use Rattle.enumeration.specs.declared.steps.Ending.the-variants.{Model, Spent, Ended}
+use Rattle.enumeration.specs.declared.steps.Run.{Run}
+use Rattle.enumeration.specs.declared.state.State.{State}
+use Rattle.enumeration.specs.InnerState.{position-at, position-in, Holds, Ran, ending-as}
 use Rattle.enumeration.specs.InnerRead.{Node}
 use Rattle.writing.specs.Placed.{Room, Wrote}
 use Rattle.printing.specs.Printed.{model-line, end-line, more-line, call-lines, max-models, line-budget}
@@ -36,20 +38,16 @@ going-first K n at before s h =
 -- ---- what a run prints
 
 module _ (n s e : ℕ) (rest : List ℕ) where
-  call-model : (a : Answer) → kind-of-answer a ≡ 0 → call-lines n a s e rest ≡ model-line n (model-of-answer a) s e ++ rest
-  call-model (found a) h = refl
-  call-model spent h = absurd (omega arith)
-  call-model ended h = absurd (omega arith)
+  -- the lines of a run, by how it ended
+  abbrev ending-lines : Ending → List ℕ
+  ending-lines (Model m) = model-line n m s e ++ rest
+  ending-lines Spent = []
+  ending-lines Ended = end-line s e
 
-  call-end : (a : Answer) → kind-of-answer a ≡ 2 → call-lines n a s e rest ≡ end-line s e
-  call-end (found a) h = absurd (omega arith)
-  call-end spent h = absurd (omega arith)
-  call-end ended h = refl
-
-  call-spent : (a : Answer) → (kind-of-answer a ≡ 2 → ⊥) → (kind-of-answer a ≡ 0 → ⊥) → call-lines n a s e rest ≡ []
-  call-spent (found a) h k = absurd (k refl)
-  call-spent spent h k = refl
-  call-spent ended h k = absurd (h refl)
+  call-ending : (a : Answer) → call-lines n a s e rest ≡ ending-lines (ending-as a)
+  call-ending (found a) = refl
+  call-ending spent = refl
+  call-ending ended = refl
 
 -- one call in front
 lines-next : (K : Tree) (n left : ℕ) (p : Position) → 0 < left
@@ -59,20 +57,21 @@ lines-next K n zero p h = absurd (omega arith)
 lines-next K n (suc j) p h = let e : suc j - 1 ≡ j = omega arith in rw e
 
 module _ (K : Tree) (n left : ℕ) (s : State) (r : Run) (R : Ran K r (resume K line-budget (position-in s))) (some : 0 < left) where
-  pub lines-model : r .answer ≡ 0 → lines-from K n left (position-in s) ≡ model-line n (r .model) (r .steps) (r .expansions) ++ lines-from K n (left - 1) (position-in (r .state))
-  lines-model e =
+  -- by how the run ended
+  lines-ending : lines-from K n left (position-in s) ≡ ending-lines n (r .steps) (r .expansions) (lines-from K n (left - 1) (position-in (r .state))) (r .ending)
+  lines-ending =
       let q = resume K line-budget (position-in s) in
-      lines-next K n left (position-in s) some ∙ rw (R .model, R .steps, R .expansions, R .position) (call-model n (q .steps) (q .expansions) _ (q .answer) (sym (R .answer) ∙ e))
+      lines-next K n left (position-in s) some ∙ rw (R .ending, R .steps, R .expansions, R .position) (call-ending n (q .steps) (q .expansions) _ (q .answer))
 
-  pub lines-end : r .answer ≡ 2 → lines-from K n left (position-in s) ≡ end-line (r .steps) (r .expansions)
-  lines-end e =
-      let q = resume K line-budget (position-in s) in
-      lines-next K n left (position-in s) some ∙ rw (R .steps, R .expansions) (call-end n (q .steps) (q .expansions) _ (q .answer) (sym (R .answer) ∙ e))
+  pub lines-model : (m : ℕ) → r .ending ≡ Model m
+      → lines-from K n left (position-in s) ≡ model-line n m (r .steps) (r .expansions) ++ lines-from K n (left - 1) (position-in (r .state))
+  lines-model m e = lines-ending ∙ rw e
 
-  pub lines-spent : (r .answer ≡ 2 → ⊥) → (r .answer ≡ 0 → ⊥) → lines-from K n left (position-in s) ≡ []
-  lines-spent h k =
-      let q = resume K line-budget (position-in s) in
-      lines-next K n left (position-in s) some ∙ call-spent n (q .steps) (q .expansions) _ (q .answer) (λ x. h (R .answer ∙ x)) (λ x. k (R .answer ∙ x))
+  pub lines-end : r .ending ≡ Ended → lines-from K n left (position-in s) ≡ end-line (r .steps) (r .expansions)
+  lines-end e = lines-ending ∙ rw e
+
+  pub lines-spent : r .ending ≡ Spent → lines-from K n left (position-in s) ≡ []
+  lines-spent e = lines-ending ∙ rw e
 
 -- after the last
 pub lines-more : (K : Tree) (n left : ℕ) (p : Position) → left ≡ 0 → lines-from K n left p ≡ more-line

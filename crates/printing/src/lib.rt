@@ -9,6 +9,7 @@ ghost use Rattle.enumeration.specs.InnerState.{Follows};
 ghost use Rattle.printing.specs.InnerLines.{lines-from, Fitting, Reads, Printable};
 ghost use Rattle.printing.specs.Printing.{printing};
 ghost use Rattle.printing.specs.Printed.{header, model-line, end-line, more-line, refusal-line, max-models, printed};
+use enumeration::Ending;
 use formula::Formula;
 use formula::Outcome;
 use formula::Refusal;
@@ -92,13 +93,14 @@ fn put_walk(f: Formula, buffer: &mut [u8], at: usize) -> usize
     let mut left: usize = MAX_MODELS;
     while 0 < left {
         let r = enumeration::go_on(f, s, LINE_BUDGET);
-        if r.answer == 2 {
-            return put_end_line(r.steps, r.expansions, buffer, next);
+        let ending = r.ending;
+        match ending {
+            Ending::Ended => return put_end_line(r.steps, r.expansions, buffer, next),
+            Ending::Spent => return next,
+            Ending::Model(model) => {
+                next = put_model_line(f.variables, model, r.steps, r.expansions, buffer, next);
+            }
         }
-        if r.answer != 0 {
-            return next;
-        }
-        next = put_model_line(f.variables, r.model, r.steps, r.expansions, buffer, next);
         s = r.state;
         left -= 1;
     }

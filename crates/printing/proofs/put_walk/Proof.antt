@@ -1,5 +1,5 @@
 -- `put_walk` writes the lines of a walk. The invariant: the lines so far are written, and the others go on from s.
-use Prim.Native.Nat.{_-_}
+use Prim.Native.Nat.{ℕ, _-_}
 use mathlib.Core.List.{[], append-nil}
 use mathlib.Core.Path.{_≡_, refl, sym, _∙_}
 use native.Mathlib.Omega.{arith}
@@ -7,6 +7,7 @@ use borrow.Author.Needs.{needs}
 use lib.ListN.{length}
 use Rattle.walk.specs.InnerStack.{Tree}
 use Rattle.walk.specs.InnerMachine.{resume}
+use Rattle.enumeration.specs.declared.steps.Ending.the-variants.{Model, Ended}
 use Rattle.enumeration.specs.InnerState.{position-in, Follows, Ran}
 use Rattle.writing.specs.Placed.{Room}
 use Rattle.printing.specs.Printed.{model-line, end-line, more-line, line-budget}
@@ -42,7 +43,7 @@ ran : (g : tie.After-go-on Inv-loop μ-loop) (K : Tree) → (let l = g .before .
 ran g K F = g .go-on .ensures K F (g .before .before .loop .inv .1 K F .holds)
 
 -- room for the end's line
-end-room : (g : tie.After-go-on Inv-loop μ-loop) → g .go-on .result .answer ≡ 2
+end-room : (g : tie.After-go-on Inv-loop μ-loop) → g .go-on .result .ending ≡ Ended
     → (let l = g .before .before in Room (l .loop .next) (end-line (g .go-on .result .steps) (g .go-on .result .expansions)) (l .loop .buffer))
 end-room g e =
     let l = g .before .before in
@@ -53,53 +54,70 @@ end-room g e =
     (lines-end _ (b .args .f .variables) _ (l .loop .s) _ (ran g (v .tree) (v .follows)) (omega arith) e ∙ sym (append-nil x)) (l .loop .inv .0) (v .room)
 
 -- and for a model's
-model-room : (g : tie.After-go-on Inv-loop μ-loop) → g .go-on .result .answer ≡ 0
+model-room : (g : tie.After-go-on Inv-loop μ-loop) (m : ℕ) → g .go-on .result .ending ≡ Model m
     → (let l = g .before .before in
-    Room (l .loop .next) (model-line (l .before .before .before .args .f .variables) (g .go-on .result .model) (g .go-on .result .steps) (g .go-on .result .expansions)) (l .loop .buffer))
-model-room g e =
+    Room (l .loop .next) (model-line (l .before .before .before .args .f .variables) m (g .go-on .result .steps) (g .go-on .result .expansions)) (l .loop .buffer))
+model-room g m e =
     let l = g .before .before in
     let b = l .before .before .before in
     let v = b .pre in
     going-room _ _ _ _ _ _ _ _ (l .loop .inv .1 (v .tree) (v .follows))
-    (model-line (b .args .f .variables) (g .go-on .result .model) (g .go-on .result .steps) (g .go-on .result .expansions)) (lines-from (v .tree) (b .args .f .variables) (l .loop .left - 1) (position-in (g .go-on .result .state)))
-    (lines-model _ (b .args .f .variables) _ (l .loop .s) _ (ran g (v .tree) (v .follows)) (omega arith) e) (l .loop .inv .0) (v .room)
+    (model-line (b .args .f .variables) m (g .go-on .result .steps) (g .go-on .result .expansions)) (lines-from (v .tree) (b .args .f .variables) (l .loop .left - 1) (position-in (g .go-on .result .state)))
+    (lines-model _ (b .args .f .variables) _ (l .loop .s) _ (ran g (v .tree) (v .follows)) (omega arith) m e) (l .loop .inv .0) (v .room)
+
+-- a run that ended, and one that brings a model
+abbrev ended : tie.After-enum-told Inv-loop μ-loop → tie.After-go-on Inv-loop μ-loop
+ended c = c .before .before
+
+abbrev found : tie.After-ending Inv-loop μ-loop → tie.After-go-on Inv-loop μ-loop
+found c = c .before .before
+
+enum-told : tie.Need-enum-told Inv-loop μ-loop
+enum-told c = search needs
+
+enum-told-2 : tie.Need-enum-told-2 Inv-loop μ-loop
+enum-told-2 c = search needs
+
+enum-known-ending : tie.Need-enum-known-ending Inv-loop μ-loop
+enum-known-ending c = search needs
 
 put-end-line-requires : tie.Need-put-end-line-requires Inv-loop μ-loop
-put-end-line-requires c κs = end-room (c .before .before .before) (omega arith)
+put-end-line-requires c κs = end-room (ended (c .before)) (c .before .enum-told .given .1)
 
 same-length : tie.Need-same-length Inv-loop μ-loop
 same-length c =
-    let line = c .before .before in
-    let g = line .before .before .before .before in
-    wrote-length (end-room g (omega arith)) (line .put-end-line .ensures) ∙ g .before .before .loop .inv .0
+    let t = c .before .before .before .before in
+    let g = ended t in
+    wrote-length (end-room g (t .enum-told .given .1)) (c .before .before .put-end-line .ensures) ∙ g .before .before .loop .inv .0
 
 returns : tie.Need-returns Inv-loop μ-loop
 returns c =
     λ K F.
-    let line = c .before .before in
-    let g = line .before .before .before .before in
+    let t = c .before .before .before .before in
+    let g = ended t in
     let l = g .before .before in
     let b = l .before .before .before in
     let v = b .pre .room in
     going-last _ _ _ _ _ _ _ _ (l .loop .inv .1 K F) _ _ _ (omega arith)
-    (lines-end _ (b .args .f .variables) _ (l .loop .s) _ (ran g K F) (omega arith) (omega arith)) (line .put-end-line .ensures)
+    (lines-end _ (b .args .f .variables) _ (l .loop .s) _ (ran g K F) (omega arith) (t .enum-told .given .1)) (c .before .before .put-end-line .ensures)
 
 same-length-2 : tie.Need-same-length-2 Inv-loop μ-loop
-same-length-2 c = let g = c .before .before .before .before in g .before .before .loop .inv .0
+same-length-2 c = c .before .before .before .before .loop .inv .0
 
 returns-2 : tie.Need-returns-2 Inv-loop μ-loop
 returns-2 c =
     λ K F.
-    let g = c .before .before .before .before in
+    let g = c .before .before in
     let l = g .before .before in
     let b = l .before .before .before in
     going-stop _ _ _ _ _ _ _ _ (l .loop .inv .1 K F)
-    (lines-spent _ (b .args .f .variables) _ (l .loop .s) _ (ran g K F) (omega arith) (λ x. omega arith) (λ x. omega arith))
+    (lines-spent _ (b .args .f .variables) _ (l .loop .s) _ (ran g K F) (omega arith) (c .enum-told2 .given .1))
 
 put-model-line-requires : tie.Need-put-model-line-requires Inv-loop μ-loop
 put-model-line-requires c κs =
-    let g = c .before .before .before .before .before in
-    (omega (arith, g .before .before .before .before .before .pre .fits .most), model-room g (omega arith))
+    let e = c .before .before in
+    let g = found e in
+    (omega (arith, g .before .before .before .before .before .pre .fits .most), model-room g _ (e .ending .given .1))
 
 sub-left : tie.Need-sub-left Inv-loop μ-loop
 sub-left c = search needs
@@ -109,19 +127,19 @@ loop-less c = search needs
 
 loop-again : tie.Need-loop-again Inv-loop μ-loop
 loop-again c =
-    let line = c .before .before .before in
-    let branch = line .before .before in
-    let g = branch .before .before .before .before in
+    let t = c .before .before .before .before .before .before in
+    let g = found t in
     let l = g .before .before in
     let b = l .before .before .before in
     let v = b .pre .room in
-    let e = branch .if2 .left in
-    let w = line .put-model-line .ensures in (
-      wrote-length (model-room g e) w ∙ l .loop .inv .0,
+    let m = t .ending .given .0 .0 in
+    let e = t .ending .given .1 in
+    let w = c .before .before .before .put-model-line .ensures in (
+      wrote-length (model-room g m e) w ∙ l .loop .inv .0,
       λ K F.
           going-more _ _ _ _ _ _ _ _ (l .loop .inv .1 K F)
-          (model-line (b .args .f .variables) (g .go-on .result .model) (g .go-on .result .steps) (g .go-on .result .expansions)) _ (g .go-on .result .state) _ (l .loop .left - 1) (omega arith) (ran g K F .holds)
-          (lines-model _ (b .args .f .variables) _ (l .loop .s) _ (ran g K F) (omega arith) e) w,
+          (model-line (b .args .f .variables) m (g .go-on .result .steps) (g .go-on .result .expansions)) _ (g .go-on .result .state) _ (l .loop .left - 1) (omega arith) (ran g K F .holds)
+          (lines-model _ (b .args .f .variables) _ (l .loop .s) _ (ran g K F) (omega arith) m e) w,
     )
 
 -- room for the line after the last model
@@ -157,11 +175,14 @@ put-walk-spec =
     root-requires
     loop-holds
     go-on-requires
+    enum-told
     put-end-line-requires
     same-length
     returns
+    enum-told-2
     same-length-2
     returns-2
+    enum-known-ending
     put-model-line-requires
     sub-left
     loop-less

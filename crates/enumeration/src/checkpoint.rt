@@ -1,0 +1,97 @@
+// Checkpoints (01: markers): the one of the start, the bytes of assigned variables, and the form that a checkpoint has.
+ghost use mathlib.Core.Path.{_≡_};
+ghost use Prim.Native.Nat.{_<_, _≤_};
+ghost use mathlib.Core.Bool.{true};
+ghost use lib.ListN.{length, take, drop};
+ghost use Rattle.walk.specs.Checkpoints.{byte, start};
+ghost use Rattle.walk.specs.InnerTest.{byte-number, numbered, zeros, formed};
+ghost use Rattle.enumeration.specs.Values.{checkpoint-values};
+
+// A checkpoint (01: marker): its mode, its length, and a byte for each assigned variable in order.
+pub struct Checkpoint {
+    pub mode: u8,
+    pub length: u8,
+    pub bytes: [u8; 48],
+}
+
+// The start checkpoint (01: start marker).
+pub fn start_checkpoint() -> Checkpoint
+    ensures { λ r. ⌜ checkpoint-values r ≡ start ⌝ }
+{
+    Checkpoint {
+        mode: 0,
+        length: 0,
+        bytes: [0u8; 48],
+    }
+}
+
+// A variable's byte in a checkpoint: its number from 1, plus 128 if true.
+pub fn byte_of(v: usize, value: bool) -> u8
+    requires { ⌜ v < 48 ⌝ }
+    ensures { λ r. ⌜ r ≡ byte (record { variable = v; positive = value }) ⌝ }
+{
+    if value {
+        (v + 1 + 128) as u8
+    } else {
+        (v + 1) as u8
+    }
+}
+
+// The number in a checkpoint's byte.
+pub fn number_of(b: u8) -> usize
+    ensures { λ r. ⌜ r ≡ byte-number b ⌝ }
+{
+    if 128 <= b {
+        (b - 128) as usize
+    } else {
+        b as usize
+    }
+}
+
+// No byte before the end has the number 0.
+fn has_numbers(bytes: [u8; 48], end: usize) -> bool
+    requires { ⌜ end ≤ 48 ⌝ }
+    ensures { λ r. ⌜ r ≡ numbered (take end bytes) ⌝ }
+{
+    let mut i: usize = 0;
+    while i < end {
+        if number_of(bytes[i]) == 0 {
+            return false;
+        }
+        i += 1;
+    }
+    true
+}
+
+// Every byte from the end on is 0.
+fn has_zeros(bytes: [u8; 48], end: usize) -> bool
+    requires { ⌜ end ≤ 48 ⌝ }
+    ensures { λ r. ⌜ (r ≡ zeros (drop end bytes)) × (length bytes ≡ 48) ⌝ }
+{
+    let mut i = end;
+    while i < 48 {
+        if bytes[i] != 0 {
+            return false;
+        }
+        i += 1;
+    }
+    true
+}
+
+// The checkpoint's mode, length and bytes have the form of one.
+pub fn well_formed(c: Checkpoint) -> bool
+    ensures { λ r. ⌜ (r ≡ formed (checkpoint-values c)) × (r ≡ true → length (c .bytes) ≡ 48) ⌝ }
+{
+    if 4 < c.mode {
+        return false;
+    }
+    if 48 < c.length {
+        return false;
+    }
+    let bytes = c.bytes;
+    let length = c.length as usize;
+    if has_numbers(bytes, length) {
+        return has_zeros(bytes, length);
+    }
+    false
+}
