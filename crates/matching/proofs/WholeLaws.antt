@@ -163,13 +163,13 @@ running-begin sets count = record {
 }
 
 module _ (sets : List ℕ) (count i : ℕ) (table owners queue : List ℕ) (e : ℕ) (R : Running sets count i table owners queue e) (K : Clauses sets count) (l : i < count) where
-  m-long : length (take i table) ≡ i
-  m-long = table-long sets i table owners (R .tables) (K .words) .1
+  matching-long : length (take i table) ≡ i
+  matching-long = table-long sets i table owners (R .tables) (K .words) .1
 
   module _ (front : Front) (queue′ table′ owners′ : List ℕ) (A : Augmented sets (take i table) front queue′ table′ owners′) where
     -- the i-th clause costs at most i expansions
     pub head-le : front .head ≤ i + 1
-    head-le = let E = next-ended sets i table owners (R .tables) (K .words) in omega (arith, A .head, E .1, m-long)
+    head-le = let E = next-ended sets i table owners (R .tables) (K .words) in omega (arith, A .head, E .1, matching-long)
 
     steps : count - i ≡ suc (count - (i + 1))
     steps = omega arith
@@ -188,7 +188,7 @@ module _ (sets : List ℕ) (count i : ℕ) (table owners queue : List ℕ) (e : 
         let f : eqb (s .free) 64 ≡ false = ne-eqb (s .free) 64 (λ q. ne (A .free ∙ q)) in
         let t : table′ ≡ padded max-clauses 0 n = A .table-is ∙ rw f in
         let o : owners′ ≡ owners-of n = A .owners-are ∙ rw f in
-        let k : i + 1 ≡ length n = omega (arith, P .1, m-long) in
+        let k : i + 1 ≡ length n = omega (arith, P .1, matching-long) in
         let h : take (i + 1) table′ ≡ n = rw (t, k) (take-padded max-clauses 0 n) in
         record {
           tables = record { room = omega (arith, K .few); held = t ∙ ap (padded max-clauses 0) (sym h); owned = o ∙ ap owners-of (sym h); partial = rw h (P .0) };
@@ -213,8 +213,8 @@ module _ (sets : List ℕ) (count i : ℕ) (table owners queue : List ℕ) (e : 
           let I = stuck .inv in
           let s = next-search sets (take i table) in
           rw taken-is (⊎-elim
-          (λ (q : k ≡ 0). rw (q, I .root) (omega (arith, m-long)))
-          (λ p. omega (arith, I .each k p (subst (λ (l : List ℕ). k < length l) taken-is h) .0, m-long))
+          (λ (q : k ≡ 0). rw (q, I .root) (omega (arith, matching-long)))
+          (λ p. omega (arith, I .each k p (subst (λ (l : List ℕ). k < length l) taken-is h) .0, matching-long))
           (zero-or-pos k))
 
       pub queue-low : (k : ℕ) → k < front .head → at queue′ k < max-clauses
