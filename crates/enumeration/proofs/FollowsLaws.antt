@@ -7,6 +7,7 @@ use native.Mathlib.Nat.{le-trans, mul-le-mul}
 use native.Mathlib.Omega.{arith}
 use lib.ListN.{length}
 use borrow.Author.Tests.{ltb-true, lt-ltb}
+use Rattle.limits.specs.Limits.{max-variables, max-clauses}
 use Rattle.lists.proofs.TestLaws.{and-both}
 use Rattle.masks.specs.Mask.{bit, with, full}
 use Rattle.masks.proofs.BitLaws.{bit-none, bit-with, bit-full}
@@ -26,7 +27,7 @@ use Rattle.walk.specs.InnerTest.{replays}
 use Rattle.walk.proofs.PositionLaws.{length-trail}
 use Rattle.walk.proofs.TestLaws.{replays-replayed}
 use Rattle.walk.proofs.TreeLaws.{trail-over, choice-fresh, live, cheap}
-use Rattle.enumeration.specs.InnerState.{Follows}
+use Rattle.enumeration.specs.InnerState.{most-expansions, Follows}
 
 -- the variables that are true after more literals
 trues-more : (t : List Literal) (a : Assignment) (i : ℕ) → bit (assign-all a t .trues) i ≡ bit (a .trues) i || bit (assignment t) i
@@ -45,9 +46,8 @@ trues-more (l ∷ t) a i = trues-more t (set-to a (l .variable) (l .positive)) i
 assignment-trues : (t : List Literal) → assignment t ≡ assignment-of t .trues
 assignment-trues t = mask-same _ _ (λ i. sym (trues-more t (record { trues = 0; falses = 0 }) i ∙ ap (λ (b : Bool). b || bit (assignment t) i) (bit-none i)))
 
--- 48 × 96 × 97
-most-expansions : (n m : ℕ) → n ≤ 48 → m ≤ 96 → n * m * (m + 1) ≤ 446976
-most-expansions n m h k = mul-le-mul (mul-le-mul h k) (let l : m + 1 ≤ 97 = omega arith in l)
+expansions-within : (n m : ℕ) → n ≤ max-variables → m ≤ max-clauses → n * m * (m + 1) ≤ most-expansions
+expansions-within n m h k = mul-le-mul (mul-le-mul h k) (let l : m + 1 ≤ max-clauses + 1 = omega arith in l)
 
 -- the code's choices make the tree of a matched formula
 pub follows : {n : ℕ} {cs : List (List Literal)} → Sized n cs → Matched (map variables cs) → Follows (formula-of n cs) (tree n cs)
@@ -58,7 +58,7 @@ follows {n} {cs} Z M =
       low = λ t r h. choice-fresh n cs Z M t (replays-replayed (tree n cs) t r) h .0;
       new = λ t r h. choice-fresh n cs Z M t (replays-replayed (tree n cs) t r) h .1;
       alive = λ t r h. live n cs Z M .alive t (replays-replayed (tree n cs) t r) h;
-      cheap = λ t r h. le-trans (cheap n cs Z M t) (most-expansions n (length cs) (Z .most) (Z .few));
+      cheap = λ t r h. le-trans (cheap n cs Z M t) (expansions-within n (length cs) (Z .most) (Z .few));
       results = λ t. assignment-trues (trail-of t);
     }
   where

@@ -9,6 +9,7 @@ use lib.Dec.{eqb, leb}
 use lib.ListN.{length, take, drop, getD, length-drop}
 use lib.Seq.{length-take-le, take-add, getD-take, getD-drop}
 use borrow.Author.Tests.{eq-eqb, ne-eqb, eqb-false, not-true, leb-true, le-leb, lt-leb}
+use Rattle.limits.specs.Limits.{max-variables}
 use Rattle.lists.proofs.TestLaws.{and-left, and-right}
 use Rattle.walk.specs.Checkpoints.{Checkpoint}
 use Rattle.walk.specs.InnerStack.{empty, Tree}
@@ -50,7 +51,7 @@ zeros-none (x ∷ l) (suc i) k e = rw (zeros-none l i (omega arith) e) (and-fals
 
 -- ---- the bytes before an end, and from it on
 
-module _ (l : List ℕ) (end : ℕ) (h : length l ≡ 48) (k : end ≤ 48) where
+module _ (l : List ℕ) (end : ℕ) (h : length l ≡ max-variables) (k : end ≤ max-variables) where
   before : length (take end l) ≡ end
   before = length-take-le end l (omega arith)
 
@@ -67,11 +68,11 @@ module _ (l : List ℕ) (end : ℕ) (h : length l ≡ 48) (k : end ≤ 48) where
   numbered-byte i m n e = let b = before in numbered-at (take end l) i (omega arith) n (rw (getD-take end l i 0 m) e)
 
   -- every byte from the end on is 0
-  pub all-zeros : ((i : ℕ) → end ≤ i → i < 48 → getD l i 0 ≡ 0) → zeros (drop end l) ≡ true
+  pub all-zeros : ((i : ℕ) → end ≤ i → i < max-variables → getD l i 0 ≡ 0) → zeros (drop end l) ≡ true
   all-zeros w = zeros-all (drop end l) (λ i m. let b = length-drop end l in rw (getD-drop end l i 0) (w (end + i) (omega arith) (omega arith)))
 
   -- some byte from the end on is not 0
-  pub none-zeros : (i : ℕ) → end ≤ i → i < 48 → (getD l i 0 ≡ 0 → ⊥) → zeros (drop end l) ≡ false
+  pub none-zeros : (i : ℕ) → end ≤ i → i < max-variables → (getD l i 0 ≡ 0 → ⊥) → zeros (drop end l) ≡ false
   none-zeros i m n e =
       let b = length-drop end l in
       let q : end + (i - end) ≡ i = omega arith in
@@ -101,7 +102,7 @@ module _ (K : Tree) where
 
 pub record Formed (c : Checkpoint) : Type 0 where
   pub mode : c .mode ≤ 4
-  pub length : c .length ≤ 48
+  pub length : c .length ≤ max-variables
   pub numbers : numbered (take (c .length) (c .bytes)) ≡ true
 
 -- a formed checkpoint has them all
@@ -109,10 +110,10 @@ pub formed-means : (c : Checkpoint) → formed c ≡ true → Formed c
 unfolding formed
 formed-means c f =
     let a = and-right (leb (c .mode) 4) _ f in
-    let b = and-right (leb (c .length) 48) _ a in
+    let b = and-right (leb (c .length) max-variables) _ a in
     record {
       mode = leb-true (c .mode) 4 (and-left (leb (c .mode) 4) _ f);
-      length = leb-true (c .length) 48 (and-left (leb (c .length) 48) _ a);
+      length = leb-true (c .length) max-variables (and-left (leb (c .length) max-variables) _ a);
       numbers = and-left (numbered (take (c .length) (c .bytes))) _ b;
     }
 
@@ -124,16 +125,16 @@ module _ (c : Checkpoint) where
   formed-mode h = let e : leb (c .mode) 4 ≡ false = lt-leb (c .mode) 4 h in rw e
 
   -- a length above 48
-  pub formed-length : 48 < c .length → formed c ≡ false
+  pub formed-length : max-variables < c .length → formed c ≡ false
   unfolding formed
-  formed-length h = let e : leb (c .length) 48 ≡ false = lt-leb (c .length) 48 h in rw e (and-false (leb (c .mode) 4))
+  formed-length h = let e : leb (c .length) max-variables ≡ false = lt-leb (c .length) max-variables h in rw e (and-false (leb (c .mode) 4))
 
   -- the number 0 before the length
   pub formed-numbers : numbered (take (c .length) (c .bytes)) ≡ false → formed c ≡ false
   unfolding formed
-  formed-numbers e = rw e (ap (λ (b : Bool). leb (c .mode) 4 && b) (and-false (leb (c .length) 48)) ∙ and-false (leb (c .mode) 4))
+  formed-numbers e = rw e (ap (λ (b : Bool). leb (c .mode) 4 && b) (and-false (leb (c .length) max-variables)) ∙ and-false (leb (c .mode) 4))
 
   -- otherwise the bytes behind the length decide
-  pub formed-zeros : c .mode ≤ 4 → c .length ≤ 48 → numbered (take (c .length) (c .bytes)) ≡ true → formed c ≡ zeros (drop (c .length) (c .bytes))
+  pub formed-zeros : c .mode ≤ 4 → c .length ≤ max-variables → numbered (take (c .length) (c .bytes)) ≡ true → formed c ≡ zeros (drop (c .length) (c .bytes))
   unfolding formed
-  formed-zeros h k e = rw (le-leb (c .mode) 4 h, le-leb (c .length) 48 k, e)
+  formed-zeros h k e = rw (le-leb (c .mode) 4 h, le-leb (c .length) max-variables k, e)

@@ -5,6 +5,7 @@ use mathlib.Core.List.{map}
 use mathlib.Core.Path.{_≡_, refl, sym, ap, _∙_}
 use native.Mathlib.Omega.{arith}
 use lib.ListN.{length}
+use Rattle.limits.specs.Limits.{max-variables}
 use Rattle.lists.specs.Padded.{padded}
 use Rattle.walk.specs.Checkpoints.{byte, checkpoint-of}
 use Rattle.walk.specs.Checkpoints as walk
@@ -30,7 +31,7 @@ module _ (K : Tree) (s : State) (h : Holds K s) where
   unfolding checkpoint-of
   tells p m e q =
       let l : s .length ≡ length (trail-of (stack-of p)) = sym (h .deep) ∙ sym (length-trail (stack-in s)) ∙ ap (λ (t : Stack). length (trail-of t)) q in
-      let b : s .bytes ≡ padded 48 0 (map byte (trail-of (stack-of p))) = h .bytes ∙ ap (λ (t : Stack). padded 48 0 (map byte (trail-of t))) q in
+      let b : s .bytes ≡ padded max-variables 0 (map byte (trail-of (stack-of p))) = h .bytes ∙ ap (λ (t : Stack). padded max-variables 0 (map byte (trail-of t))) q in
       λ i. record { mode = e i; length = l i; bytes = b i }
 
   -- at a node with something assigned: mode 1

@@ -3,6 +3,7 @@ ghost use mathlib.Core.Path.{_≡_};
 ghost use Prim.Native.Nat.{_<_, _≤_};
 ghost use mathlib.Core.Bool.{true};
 ghost use lib.ListN.{length, take, drop};
+ghost use Rattle.limits.specs.Limits.{max-variables};
 ghost use Rattle.walk.specs.Checkpoints.{byte, start};
 ghost use Rattle.walk.specs.InnerTest.{byte-number, numbered, zeros, formed};
 ghost use Rattle.enumeration.specs.Values.{checkpoint-values};
@@ -11,7 +12,7 @@ ghost use Rattle.enumeration.specs.Values.{checkpoint-values};
 pub struct Checkpoint {
     pub mode: u8,
     pub length: u8,
-    pub bytes: [u8; 48],
+    pub bytes: [u8; limits::MAX_VARIABLES],
 }
 
 // The start checkpoint (01: start marker).
@@ -21,13 +22,13 @@ pub fn start_checkpoint() -> Checkpoint
     Checkpoint {
         mode: 0,
         length: 0,
-        bytes: [0u8; 48],
+        bytes: [0u8; limits::MAX_VARIABLES],
     }
 }
 
 // A variable's byte in a checkpoint: its number from 1, plus 128 if true.
 pub fn byte_of(v: usize, value: bool) -> u8
-    requires { ⌜ v < 48 ⌝ }
+    requires { ⌜ v < max-variables ⌝ }
     ensures { λ r. ⌜ r ≡ byte (record { variable = v; positive = value }) ⌝ }
 {
     if value {
@@ -49,8 +50,8 @@ pub fn number_of(b: u8) -> usize
 }
 
 // No byte before the end has the number 0.
-fn has_numbers(bytes: [u8; 48], end: usize) -> bool
-    requires { ⌜ end ≤ 48 ⌝ }
+fn has_numbers(bytes: [u8; limits::MAX_VARIABLES], end: usize) -> bool
+    requires { ⌜ end ≤ max-variables ⌝ }
     ensures { λ r. ⌜ r ≡ numbered (take end bytes) ⌝ }
 {
     let mut i: usize = 0;
@@ -64,12 +65,12 @@ fn has_numbers(bytes: [u8; 48], end: usize) -> bool
 }
 
 // Every byte from the end on is 0.
-fn has_zeros(bytes: [u8; 48], end: usize) -> bool
-    requires { ⌜ end ≤ 48 ⌝ }
-    ensures { λ r. ⌜ (r ≡ zeros (drop end bytes)) × (length bytes ≡ 48) ⌝ }
+fn has_zeros(bytes: [u8; limits::MAX_VARIABLES], end: usize) -> bool
+    requires { ⌜ end ≤ max-variables ⌝ }
+    ensures { λ r. ⌜ (r ≡ zeros (drop end bytes)) × (length bytes ≡ max-variables) ⌝ }
 {
     let mut i = end;
-    while i < 48 {
+    while i < limits::MAX_VARIABLES {
         if bytes[i] != 0 {
             return false;
         }
@@ -80,16 +81,16 @@ fn has_zeros(bytes: [u8; 48], end: usize) -> bool
 
 // The checkpoint's mode, length and bytes have the form of one.
 pub fn well_formed(c: Checkpoint) -> bool
-    ensures { λ r. ⌜ (r ≡ formed (checkpoint-values c)) × (r ≡ true → length (c .bytes) ≡ 48) ⌝ }
+    ensures { λ r. ⌜ (r ≡ formed (checkpoint-values c)) × (r ≡ true → length (c .bytes) ≡ max-variables) ⌝ }
 {
     if 4 < c.mode {
         return false;
     }
-    if 48 < c.length {
+    let length = c.length as usize;
+    if limits::MAX_VARIABLES < length {
         return false;
     }
     let bytes = c.bytes;
-    let length = c.length as usize;
     if has_numbers(bytes, length) {
         return has_zeros(bytes, length);
     }

@@ -3,6 +3,7 @@ ghost use mathlib.Core.Path.{_≡_};
 ghost use Prim.Native.Nat.{_-_, _≤_};
 ghost use mathlib.Core.Bool.{true, false};
 ghost use lib.ListN.{length};
+ghost use Rattle.limits.specs.Limits.{max-variables};
 ghost use Rattle.formula.specs.Masked.{FormulaFits};
 ghost use Rattle.walk.specs.Checkpoints.{undone-mode};
 ghost use Rattle.walk.specs.InnerStack.{push, Tree};
@@ -68,7 +69,7 @@ fn replay_byte(f: Formula, s: State, b: u8) -> Tested
 
 // Assigns the checkpoint's variables again.
 fn replay(f: Formula, c: Checkpoint) -> Tested
-    requires { ⌜ FormulaFits f × Led f × (formed (checkpoint-values c) ≡ true) × (length (c .bytes) ≡ 48) ⌝ }
+    requires { ⌜ FormulaFits f × Led f × (formed (checkpoint-values c) ≡ true) × (length (c .bytes) ≡ max-variables) ⌝ }
     ensures { λ r. ⌜ ((K : Tree) → Follows f K → Replayed K (read (checkpoint-values c)) r) ⌝ }
 {
     let bytes = c.bytes;

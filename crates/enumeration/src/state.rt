@@ -2,6 +2,7 @@
 ghost use mathlib.Core.Path.{_≡_};
 ghost use Prim.Native.Nat.{_-_, _<_, _≤_};
 ghost use lib.ListN.{getD};
+ghost use Rattle.limits.specs.Limits.{max-variables};
 ghost use Rattle.walk.specs.InnerStack.{empty, Tree};
 ghost use Rattle.walk.specs.InnerTest.{shown};
 ghost use Rattle.enumeration.specs.InnerState.{position-in, Holds, Numbered, pushing, popped, applied, marked-as, at-place};
@@ -19,7 +20,7 @@ pub struct State {
     pub place: u8,
     pub variable: usize,
     pub length: usize,
-    pub bytes: [u8; 48],
+    pub bytes: [u8; limits::MAX_VARIABLES],
     pub assignment: Assignment,
     pub open_true: u64,
     pub clear: u64,
@@ -40,13 +41,13 @@ pub struct Moved {
 
 // The state in which nothing is assigned.
 pub fn root() -> State
-    ensures { λ r. ⌜ ((K : Tree) → K .size ≤ 48 → Node K empty r) ⌝ }
+    ensures { λ r. ⌜ ((K : Tree) → K .size ≤ max-variables → Node K empty r) ⌝ }
 {
     State {
         place: 0,
         variable: 0,
         length: 0,
-        bytes: [0u8; 48],
+        bytes: [0u8; limits::MAX_VARIABLES],
         assignment: Assignment {
             trues: 0,
             falses: 0,
@@ -57,8 +58,8 @@ pub fn root() -> State
 }
 
 // The last byte of a trail; the first one of an empty trail.
-pub fn last_byte(bytes: &[u8; 48], length: usize) -> u8
-    requires { ⌜ length ≤ 48 ⌝ }
+pub fn last_byte(bytes: &[u8; limits::MAX_VARIABLES], length: usize) -> u8
+    requires { ⌜ length ≤ max-variables ⌝ }
     ensures { λ r. ⌜ r ≡ getD (now (bytes .entry)) (length - 1) 0 ⌝ }
 {
     if length == 0 {
@@ -81,8 +82,8 @@ pub fn mark(mask: u64, v: usize, value: bool) -> u64
 
 // v is assigned as well.
 pub fn push(s: State, v: usize, value: bool) -> Moved
-    requires { ⌜ (v < 48) × (s .length < 48) ⌝ }
-    ensures { λ r. ⌜ (applied s r ≡ pushing s v value) × (r .at < 48) ⌝ }
+    requires { ⌜ (v < max-variables) × (s .length < max-variables) ⌝ }
+    ensures { λ r. ⌜ (applied s r ≡ pushing s v value) × (r .at < max-variables) ⌝ }
 {
     let at = s.length;
     let a = s.assignment;
@@ -100,8 +101,8 @@ pub fn push(s: State, v: usize, value: bool) -> Moved
 
 // The last assigned variable, of byte b, is undone.
 pub fn pop(s: State, b: u8) -> Moved
-    requires { ⌜ (0 < s .length) × (s .length ≤ 48) × Numbered b ⌝ }
-    ensures { λ r. ⌜ (applied s r ≡ popped s b) × (r .at < 48) ⌝ }
+    requires { ⌜ (0 < s .length) × (s .length ≤ max-variables) × Numbered b ⌝ }
+    ensures { λ r. ⌜ (applied s r ≡ popped s b) × (r .at < max-variables) ⌝ }
 {
     let at = s.length - 1;
     let a = s.assignment;
@@ -139,7 +140,7 @@ pub fn pop(s: State, b: u8) -> Moved
 
 // The state after a step.
 pub fn apply(s: State, m: Moved) -> State
-    requires { ⌜ m .at < 48 ⌝ }
+    requires { ⌜ m .at < max-variables ⌝ }
     ensures { λ r. ⌜ r ≡ applied s m ⌝ }
 {
     let mut bytes = s.bytes;
@@ -159,7 +160,7 @@ pub fn apply(s: State, m: Moved) -> State
 
 // The state with whether true is open at its depth, and whether no clause is left there.
 pub fn note(s: State, true_open: bool, free: bool) -> State
-    requires { ⌜ s .length < 48 ⌝ }
+    requires { ⌜ s .length < max-variables ⌝ }
     ensures { λ r. ⌜ r ≡ noted s true_open free ⌝ }
 {
     let at = s.length;
@@ -195,7 +196,7 @@ pub fn placed(s: State, place: u8) -> State
 
 // The checkpoint of a state.
 pub fn checkpoint_of(s: State) -> Checkpoint
-    requires { ⌜ s .length ≤ 48 ⌝ }
+    requires { ⌜ s .length ≤ max-variables ⌝ }
     ensures { λ r. ⌜ ((K : Tree) → Holds K s → checkpoint-values r ≡ shown (position-in s)) ⌝ }
 {
     let bytes = s.bytes;

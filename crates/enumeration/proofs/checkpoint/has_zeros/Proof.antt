@@ -4,15 +4,16 @@ use Prim.Native.Nat.{ℕ, _-_, _≤_, _<_}
 use mathlib.Core.Path.{_≡_, sym}
 use native.Mathlib.Omega.{arith}
 use lib.ListN.{getD}
+use Rattle.limits.specs.Limits.{max-variables}
 use Rattle.enumeration.proofs.FormLaws.{all-zeros, none-zeros, zeros-next}
 use Rattle.enumeration.proofs.checkpoint.has_zeros.Statement.{statement}
 use Rattle.enumeration.proofs.checkpoint.has_zeros.Tie as tie
 
 abbrev Inv-loop : tie.InvT-loop
-Inv-loop end bytes i₀ i = (end ≤ i) × (i ≤ 48) × ((k : ℕ) → end ≤ k → k < i → getD bytes k 0 ≡ 0)
+Inv-loop end bytes i₀ i = (end ≤ i) × (i ≤ max-variables) × ((k : ℕ) → end ≤ k → k < i → getD bytes k 0 ≡ 0)
 
 abbrev μ-loop : tie.MeasureT-loop
-μ-loop end bytes i₀ i = 48 - i
+μ-loop end bytes i₀ i = max-variables - i
 
 loop-holds : tie.Need-loop-holds Inv-loop μ-loop
 loop-holds c = search needs

@@ -9,11 +9,11 @@ use Rattle.enumeration.proofs.checkpoint.well_formed.Tie as tie
 returns : tie.Need-returns
 returns c = (sym (formed-mode _ (c .if1 .taken)), λ e. absurd (false≢true e))
 
-returns-2 : tie.Need-returns-2
-returns-2 c = (sym (formed-length _ (c .if2 .taken)), λ e. absurd (false≢true e))
-
 cast-length : tie.Need-cast-length
 cast-length c = search needs
+
+returns-2 : tie.Need-returns-2
+returns-2 c = (sym (formed-length _ (c .if2 .taken)), λ e. absurd (false≢true e))
 
 has-numbers-requires : tie.Need-has-numbers-requires
 has-numbers-requires c κs = search needs
@@ -22,7 +22,10 @@ has-zeros-requires : tie.Need-has-zeros-requires
 has-zeros-requires c κs = search needs
 
 returns-3 : tie.Need-returns-3
-returns-3 c = (c .has-zeros .ensures .0 ∙ sym (formed-zeros _ (c .before .before .before .before .before .before .before .if1 .left) (c .before .before .before .before .before .if2 .left) (sym (c .before .before .has-numbers .ensures) ∙ c .before .if3 .taken)), λ e. c .has-zeros .ensures .1)
+returns-3 c =
+    let n = c .before .before in
+    let short = n .before .before in
+    (c .has-zeros .ensures .0 ∙ sym (formed-zeros _ (short .before .before .if1 .left) (short .if2 .left) (sym (n .has-numbers .ensures) ∙ c .before .if3 .taken)), λ e. c .has-zeros .ensures .1)
 
 returns-4 : tie.Need-returns-4
 returns-4 c = (sym (formed-numbers _ (sym (c .before .has-numbers .ensures) ∙ c .if3 .left)), λ e. absurd (false≢true e))
@@ -32,8 +35,8 @@ well-formed-spec =
     tie.close
     (tie.spec
     returns
-    returns-2
     cast-length
+    returns-2
     has-numbers-requires
     has-zeros-requires
     returns-3

@@ -5,6 +5,7 @@ use mathlib.Core.Path.{_≡_, ap, _∙_}
 use mathlib.Core.Bool.{true, false}
 use native.Mathlib.Omega.{arith}
 use borrow.Author.Tests.{le-leb, lt-leb}
+use Rattle.limits.specs.Limits.{max-variables}
 use Rattle.walk.specs.InnerStack.{Tree}
 use Rattle.enumeration.specs.declared.state.State.{State}
 use Rattle.enumeration.specs.InnerState.{Follows, Holds, pushing, stack-in}
@@ -20,10 +21,10 @@ choice : (c : tie.After-pick) (K : Tree) → Follows (entry c .args .f) K → Ho
 choice c K F h = choice-is _ K F _ h (c .before .if1 .left) _ (c .pick .ensures .0)
 
 -- there is room, and the chosen variable is low
-short : (c : tie.After-pick) → entry c .args .s .length < 48
+short : (c : tie.After-pick) → entry c .args .s .length < max-variables
 short c = let l = valid-short _ _ (entry c .pre .1) (c .before .if1 .left) in omega (arith, entry c .pre .0 .most)
 
-low : (c : tie.After-pick) → c .pick .result .choice .variable < 48
+low : (c : tie.After-pick) → c .pick .result .choice .variable < max-variables
 low c = let l = valid-low _ _ (entry c .pre .1) (c .before .if1 .left) _ (c .pick .ensures .0) in omega (arith, entry c .pre .0 .most)
 
 unknown-requires : tie.Need-unknown-requires

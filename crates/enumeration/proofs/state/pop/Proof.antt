@@ -3,6 +3,7 @@ use Prim.Native.Nat.{_≤_}
 use native.Mathlib.Omega.{arith}
 use borrow.Author.Needs.{needs}
 use borrow.Author.Tests.{lt-ltb, le-ltb}
+use Rattle.limits.specs.Limits.{max-variables}
 use Rattle.enumeration.proofs.StateLaws.{numbered-true, numbered-false}
 use Rattle.enumeration.proofs.state.pop.Statement.{statement}
 use Rattle.enumeration.proofs.state.pop.Tie as tie
@@ -11,7 +12,7 @@ use Rattle.enumeration.proofs.state.pop.Tie as tie
 high : (c : tie.Then1) → (let b = c .before .before .before .args .b in (129 ≤ b) × (b ≤ 176))
 high c = numbered-true (c .before .before .before .args .b) (c .before .before .before .pre .2) (c .if1 .taken)
 
-low : (c : tie.Else1) → (let b = c .before .before .before .args .b in (1 ≤ b) × (b ≤ 48))
+low : (c : tie.Else1) → (let b = c .before .before .before .args .b in (1 ≤ b) × (b ≤ max-variables))
 low c = numbered-false (c .before .before .before .args .b) (c .before .before .before .pre .2) (c .if1 .left)
 
 sub-at : tie.Need-sub-at
