@@ -9,6 +9,6 @@ pub mod ReplayLaws
 pub mod TellLaws
 pub mod ListLaws
 pub mod PlaceLaws
-pub mod WalkLaws
+pub mod EnterLaws
 pub mod RefusedLaws
 pub mod ListTheorems

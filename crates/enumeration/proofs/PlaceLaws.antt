@@ -1,6 +1,6 @@
 -- The place of a checkpoint's mode at the node of its trail.
 use Prim.Native.Nat.{ℕ, zero, suc}
-use mathlib.Core.Bool.{Bool, true, false, not, _&&_, _||_, true≢false, false≢true, and-true, and-false}
+use mathlib.Core.Bool.{Bool, true, false, not, _&&_, _||_, true≢false, false≢true, and-true, and-false, or-false}
 use mathlib.Core.Path.{_≡_, refl, sym, ap, _∙_, subst}
 use native.Mathlib.Omega.{arith}
 use lib.Dec.{eqb, ltb}
@@ -142,7 +142,9 @@ module _ (f : Formula) (K : Tree) (F : Follows f K) (s : State) (n : Node K (sta
 
   fits-assigned : fits K 1 (stack-in s) ≡ not (eqb (s .length) 0)
   unfolding fits
-  fits-assigned = rw (h .replayed, is-empty-length) (and-true (not (is-empty (stack-in s))))
+  fits-assigned =
+      let z : eqb (K .size) 0 ≡ false = ne-eqb (K .size) 0 (λ z. omega (arith, F .size, F .some)) in
+      rw (h .replayed, is-empty-length, z) (and-true _ ∙ or-false (not (is-empty (stack-in s))))
 
   -- mode 1 at full length: the model is handed out
   pub taken-model : (m : ℕ) → m ≡ 1 → s .length ≡ f .variables → (u : State) → u ≡ at-place s 1
@@ -194,7 +196,7 @@ module _ (K : Tree) where
   unfolding fits replays
   fits-none zero empty e = absurd (true≢false e)
   fits-none zero (push v b t) e = refl
-  fits-none (suc zero) t e = rw e (and-false (not (is-empty t)))
+  fits-none (suc zero) t e = rw e (and-false (not (is-empty t) || eqb (K .size) 0))
   fits-none (suc (suc zero)) t e = rw e
   fits-none (suc (suc (suc zero))) t e = rw e
   fits-none (suc (suc (suc (suc m)))) empty e = absurd (true≢false e)

@@ -1,17 +1,10 @@
 -- Reading a checkpoint: its trail is assigned again, then its mode's place is taken.
 use Prim.Native.Nat.{ℕ}
 use mathlib.Core.Path.{_≡_}
-use mathlib.Core.Bool.{Bool, true, cond}
-use mathlib.Core.List.{List}
+use mathlib.Core.Bool.{Bool, true}
 use Rattle.formula.specs.declared.Formula.{Formula}
-use Rattle.formula.specs.declared.Refusal.the-variants.{ForeignCheckpoint}
-use Rattle.formula.specs.Format.{Literal, Sized}
-use Rattle.formula.specs.Masked.{formula-of}
 use Rattle.walk.specs.InnerStack.{Stack, Tree}
 use Rattle.walk.specs.InnerTest.{replays, position-of}
-use Rattle.walk.specs.Checkpoints.{Checkpoint}
-use Rattle.walk.specs.InnerCall.{call-from}
-use Rattle.walk.specs.WalkCall.{Result, refusing}
 use Rattle.enumeration.specs.InnerState.{stack-in, position-in, Follows, Holds, marked-as}
 use Rattle.enumeration.specs.declared.state.State.{State}
 use Rattle.enumeration.specs.declared.reading.Tested.{Tested}
@@ -20,13 +13,6 @@ use Rattle.enumeration.specs.declared.reading.Tested.{Tested}
 pub record Led (f : Formula) : Type 0 where
   pub tree : Tree
   pub follows : Follows f tree
-
--- the formula is that of some clauses
-pub record Written (f : Formula) : Type 0 where
-  pub variables : ℕ
-  pub clauses : List (List Literal)
-  pub formula : f ≡ formula-of variables clauses
-  pub sized : Sized variables clauses
 
 -- the state holds the node of the trail t
 pub record Node (K : Tree) (t : Stack) (s : State) : Type 0 where
@@ -56,7 +42,3 @@ noted s b c = record {
   open_true = marked-as (s .open_true) (s .length) b;
   clear = marked-as (s .clear) (s .length) c;
 }
-
--- a call, by the test's answer
-abbrev pub by-test : Tree → Bool → Checkpoint → ℕ → Result
-by-test K x c b = cond x (call-from K c b) (refusing (ForeignCheckpoint 0) c)

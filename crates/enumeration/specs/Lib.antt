@@ -3,3 +3,4 @@ pub mod Values
 pub mod InnerRead
 pub mod Lists
 pub mod InnerLists
+pub mod InnerEnter

@@ -1,15 +1,19 @@
--- `enumeration::walk` meets its contract: by the reader's answer.
-use borrow.Author.Needs.{needs}
+-- `walk` meets its contract: a call begins where `enter` says, or is refused.
 use mathlib.Core.Path.{sym, _∙_}
-use Rattle.formula.proofs.MaskedLaws.{decoded-accepted, decoded-refused}
-use Rattle.walk.proofs.RefusalLaws.{call-unreadable}
-use Rattle.walk.proofs.ResumedLaws.{call-resumed}
-use Rattle.enumeration.proofs.WalkLaws.{accepted-written}
+use native.Mathlib.Omega.{arith}
+use borrow.Author.Needs.{needs}
+use Rattle.enumeration.specs.Values.{checkpoint-values}
+use Rattle.enumeration.specs.InnerEnter.{Begun}
 use Rattle.enumeration.proofs.calls.walk.Statement.{statement}
 use Rattle.enumeration.proofs.calls.walk.Tie as tie
 
-decode-requires : tie.Need-decode-requires
-decode-requires c κs = search needs
+-- where the call begins
+abbrev begun : (c : tie.After-enum-told)
+    → (let e = c .before .before in let b = e .before .before in Begun (b .args .input .now) (checkpoint-values (b .args .checkpoint)) (e .enter .result))
+begun c = c .before .before .enter .ensures .begun (c .enum-told .given .1)
+
+enter-requires : tie.Need-enter-requires
+enter-requires c κs = search needs
 
 enum-known-outcome : tie.Need-enum-known-outcome
 enum-known-outcome c = search needs
@@ -20,25 +24,35 @@ refuse-requires c κs = search needs
 enum-told : tie.Need-enum-told
 enum-told c = search needs
 
-walk-formula-requires : tie.Need-walk-formula-requires
-walk-formula-requires c κs = accepted-written (c .before .before .before .before .before .args .input .now) _ (decoded-accepted _ _ (c .before .before .before .decode .ensures) (c .before .enum-told .given .1))
+go-on-requires : tie.Need-go-on-requires
+go-on-requires c κs = let b = begun (c .before .before) in (b .fits, record { tree = b .tree; follows = b .follows; holds = b .holds })
+
+tell-requires : tie.Need-tell-requires
+tell-requires c κs =
+    let b = begun (c .before .before .before) in
+    let r = c .go-on .ensures (b .tree) (b .follows) (b .holds) in
+    omega (arith, r .holds .short, r .holds .room)
 
 returns : tie.Need-returns
-returns c = c .refuse .ensures ∙ sym (call-unreadable _ _ _ _ (decoded-refused _ _ _ (c .before .before .before .before .decode .ensures) (c .before .before .outcome .given .1)))
+returns c =
+    let o = c .before .before in
+    c .refuse .ensures ∙ sym (o .before .before .enter .ensures .refused (o .outcome .given .0 .0) (o .outcome .given .1) _)
 
 returns-2 : tie.Need-returns-2
 returns-2 c =
-    let a = decoded-accepted _ _ (c .before .before .before .before .decode .ensures) (c .before .before .enum-told .given .1) in
-    c .walk-formula .ensures (a .variables) (a .clauses) (a .formula) (a .sized) ∙ sym (call-resumed _ _ _ (search needs) _ _ (a .reads))
+    let g = c .before in
+    let b = begun (g .before .before .before) in
+    c .tell .ensures (b .tree) _ (g .go-on .ensures (b .tree) (b .follows) (b .holds)) ∙ sym (b .calls _)
 
 pub walk-spec : {M : Type 1} → statement M
 walk-spec =
     tie.close
     (tie.spec
-    decode-requires
+    enter-requires
     enum-known-outcome
     refuse-requires
     enum-told
-    walk-formula-requires
+    go-on-requires
+    tell-requires
     returns
     returns-2)

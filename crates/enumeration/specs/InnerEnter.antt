@@ -1,0 +1,41 @@
+-- Where a call on an input begins.
+use Prim.Native.Nat.{ℕ, _<_}
+use mathlib.Core.Bool.{true, false}
+use mathlib.Core.List.{List}
+use mathlib.Core.Path.{_≡_}
+use Rattle.formula.specs.declared.Formula.{Formula}
+use Rattle.formula.specs.declared.Outcome.the-variants as outcomes
+use Rattle.formula.specs.declared.Refusal.{Refusal}
+use Rattle.formula.specs.declared.Refusal.the-variants.{ForeignCheckpoint}
+use Rattle.formula.specs.Masked.{FormulaFits}
+use Rattle.walk.specs.Checkpoints.{Checkpoint}
+use Rattle.walk.specs.InnerStack.{Tree}
+use Rattle.walk.specs.InnerMachine.{resume}
+use Rattle.walk.specs.InnerTest.{read, position-of, accepts}
+use Rattle.walk.specs.InnerCall.{resumed-result}
+use Rattle.walk.specs.WalkCall.{refusing, walk-call}
+use Rattle.enumeration.specs.declared.entering.Entered.{Entered}
+use Rattle.enumeration.specs.InnerState.{position-in, Follows, Holds}
+use Rattle.enumeration.specs.InnerLists.{filling}
+use Rattle.enumeration.specs.Lists.{next-models}
+
+-- what comes of the checkpoint c at the formula f, whose tree is K: the state of its position, or 11
+pub record Stands (K : Tree) (f : Formula) (c : Checkpoint) (r : Entered) : Type 0 where
+  pub formula : r .formula ≡ f
+  pub passed : r .outcome ≡ outcomes.Accepted
+      → (accepts K c ≡ true) × Holds K (r .state) × (position-in (r .state) ≡ position-of (K .size) (c .mode) (read c))
+  pub foreign : (e : Refusal) → r .outcome ≡ outcomes.Refused e → (e ≡ ForeignCheckpoint 0) × (accepts K c ≡ false)
+
+-- The state of the checkpoint c in the walk of the input s: the calls and the lists from c go on from it.
+pub record Begun (s : List ℕ) (c : Checkpoint) (r : Entered) : Type 0 where
+  pub tree : Tree
+  pub fits : FormulaFits (r .formula)
+  pub follows : Follows (r .formula) tree
+  pub holds : Holds tree (r .state)
+  pub calls : (b : ℕ) → walk-call s c b ≡ resumed-result (resume tree b (position-in (r .state)))
+  pub lists : (k : ℕ) → 0 < k → next-models s c k ≡ filling tree (position-in (r .state)) k
+
+-- that state, or the refusal of every call from c
+pub record Enters (s : List ℕ) (c : Checkpoint) (r : Entered) : Type 0 where
+  pub begun : r .outcome ≡ outcomes.Accepted → Begun s c r
+  pub refused : (e : Refusal) → r .outcome ≡ outcomes.Refused e → (b : ℕ) → walk-call s c b ≡ refusing e c
