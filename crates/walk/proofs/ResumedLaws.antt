@@ -11,7 +11,7 @@ use Rattle.walk.specs.Checkpoints.{Checkpoint}
 use Rattle.walk.specs.PlainMachine.{plain-call}
 use Rattle.walk.specs.WalkCall.{Result, Located, at-state, nowhere, located, walk-call}
 use Rattle.walk.specs.InnerStack.{tree}
-use Rattle.walk.specs.InnerCall.{resumed-call, resumed-acceptance}
+use Rattle.walk.specs.InnerCall.{resumed-call}
 use Rattle.walk.proofs.FormulaLaws.{call-is, call-tested, after-bytes}
 use Rattle.walk.proofs.RefusalLaws.{call-declined, call-accepted, accepted-posed}
 
@@ -19,11 +19,6 @@ module _ (s : List ℕ) (c : Checkpoint) (b : ℕ) (whole-bytes : length (c .byt
   -- on an accepted input
   pub call-resumed : (n : ℕ) (cs : List (List Literal)) (row : List ℕ) → acceptance s ≡ accepted n cs row → walk-call s c b ≡ resumed-call (tree (whole n cs)) c b
   call-resumed n cs row e = call-tested s (whole n cs) (accepted-posed s n cs row e) (call-accepted s n cs row e) c b whole-bytes
-
-  -- on any input
-  pub acceptance-resumed : (x : Acceptance) → acceptance s ≡ x → walk-call s c b ≡ resumed-acceptance x c b
-  acceptance-resumed (accepted n cs row) e = call-resumed n cs row e
-  acceptance-resumed (declined r row) e = call-declined s r row c b e
 
   -- the checkpoint that it returns
   pub call-bytes : length (walk-call s c b .checkpoint .bytes) ≡ max-variables

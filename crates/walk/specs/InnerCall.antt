@@ -2,10 +2,8 @@
 use Prim.Native.Nat.{ℕ}
 use mathlib.Core.Bool.{cond}
 use Rattle.formula.specs.declared.Refusal.the-variants.{ForeignCheckpoint}
-use Rattle.matched.specs.Acceptance.{Acceptance, accepted, declined}
-use Rattle.walk.specs.Task.{whole}
 use Rattle.walk.specs.Checkpoints.{Checkpoint}
-use Rattle.walk.specs.InnerStack.{Tree, tree}
+use Rattle.walk.specs.InnerStack.{Tree}
 use Rattle.walk.specs.InnerMachine.{Resumed, resume}
 use Rattle.walk.specs.InnerTest.{shown, read, position-of, accepts}
 use Rattle.walk.specs.WalkCall.{Result, answered, refusing}
@@ -21,8 +19,3 @@ call-from K c b = resumed-result (resume K b (position-of (K .size) (c .mode) (r
 -- 11 where the test fails
 abbrev pub resumed-call : Tree → Checkpoint → ℕ → Result
 resumed-call K c b = cond (accepts K c) (call-from K c b) (refusing (ForeignCheckpoint 0) c)
-
--- on an input: its refusal, or a call on its tree
-abbrev pub resumed-acceptance : Acceptance → Checkpoint → ℕ → Result
-resumed-acceptance (accepted n cs row) c b = resumed-call (tree (whole n cs)) c b
-resumed-acceptance (declined r row) c b = refusing r c
