@@ -3,6 +3,7 @@ use mathlib.Core.Path.{_≡_, sym, ap, _∙_}
 use native.Mathlib.Omega.{arith}
 use lib.ListN.{length, length-set}
 use borrow.Author.Needs.{needs}
+use Rattle.limits.specs.Limits.{max-variables}
 use Rattle.capi.proofs.SliceLaws.{written, room}
 use Rattle.capi.proofs.put_checkpoint.Statement.{statement}
 use Rattle.capi.proofs.put_checkpoint.Tie as tie
@@ -33,7 +34,7 @@ copy-requires c κs =
 -- the trail fills what lies behind the first two
 trail-length :
     (c : tie.After-slice-known2) →
-    length (c .before .before .before .before .before .before .before .args .c .bytes) ≡ 48
+    length (c .before .before .before .before .before .before .before .args .c .bytes) ≡ max-variables
 trail-length c = sym (slice-aggregate-copy (c .before .before .before .before))
 
 returns : tie.Need-returns
