@@ -15,7 +15,8 @@ use Rattle.enumeration.specs.declared.state.State.{State}
 use Rattle.enumeration.specs.declared.reading.Tested.{Tested}
 use Rattle.enumeration.specs.InnerState.{stack-in, position-at, Follows, Holds, marked-as, at-place}
 use Rattle.enumeration.specs.InnerRead.{Node, Replayed, Taken}
-use Rattle.enumeration.proofs.StateLaws.{Held, holds-held, held-holds, held-place, opens-next}
+use Rattle.enumeration.proofs.ClearLaws.{bit-marked}
+use Rattle.enumeration.proofs.StateLaws.{holds-place, opens-next}
 use Rattle.enumeration.proofs.ReplayLaws.{within}
 
 -- a trail is empty exactly if its length is 0
@@ -90,8 +91,7 @@ module _ (f : Formula) (K : Tree) (F : Follows f K) (s : State) (n : Node K (sta
         rw q
         (record {
           known = sym (fits-true ∙ rw (ne-eqb (s .length) 0 z) (and-true (c .true_open)));
-          holds = λ x. held-holds f K F _ (stack-in s)
-              (held-place K s (stack-in s) 3 (holds-held K s h) (omega arith) (λ y. absurd (omega arith)) (λ y. absurd (omega arith)) (λ y. absurd (omega arith)));
+          holds = λ x. holds-place K s (stack-in s) 3 h (omega arith) (λ y. absurd (omega arith)) (λ y. absurd (omega arith)) (λ y. absurd (omega arith));
           position = λ x. refl;
         })
 
@@ -99,22 +99,22 @@ module _ (f : Formula) (K : Tree) (F : Follows f K) (s : State) (n : Node K (sta
     pub taken-false-root : s .length ≡ 0 → c .true_open ≡ false → Taken K 2 (stack-in s) (fits K 2 (stack-in s)) (record { known = false; state = s })
     taken-false-root z o = taken-none K 2 (stack-in s) _ _ refl (fits-false ∙ rw (eq-eqb (s .length) 0 z, o) (and-false (c .false_open)))
 
-    undone-held : Held K (undoing s c) (stack-in s)
-    undone-held =
-        let k = holds-held K s h in
+    undone-holds : Holds K (undoing s c)
+    undone-holds =
         let y : c .true_open ≡ K .choose (stack-in s) .true_open = ap (λ (d : Choice). d .true_open) e in
         let o = opens-next K (s .open_true) (s .length) (c .true_open) (stack-in s) (c .variable) false (h .deep) y (h .opens) in
         record {
           place = omega arith;
-          room = k .room;
-          deep = k .deep;
-          bytes = k .bytes;
-          assigned = k .assigned;
-          replayed = k .replayed;
+          room = h .room;
+          short = h .short;
+          deep = h .deep;
+          bytes = h .bytes;
+          assigned = h .assigned;
+          replayed = h .replayed;
           opens = o .1;
-          clears = k .clears;
+          clears = h .clears;
           at-full = λ x. absurd (omega arith);
-          at-back = λ x. (within f K F s h ne, ap (λ (d : Choice). d .variable) e, o .0);
+          at-back = λ x. (let d = h .deep in let w = within f K F s h ne in omega arith, ap (λ (d : Choice). d .variable) e, bit-marked (s .open_true) (s .length) (c .true_open) ∙ y);
           at-over = λ x. absurd (omega arith);
         }
 
@@ -124,7 +124,7 @@ module _ (f : Formula) (K : Tree) (F : Follows f K) (s : State) (n : Node K (sta
         rw q
         (record {
           known = sym (fits-false ∙ ap (λ (x : Bool). c .false_open && x) (at (eqb (s .length) 0) refl) ∙ and-true (c .false_open));
-          holds = λ x. held-holds f K F _ (stack-in s) undone-held;
+          holds = λ x. undone-holds;
           position = λ x. refl;
         })
       where
@@ -152,8 +152,7 @@ module _ (f : Formula) (K : Tree) (F : Follows f K) (s : State) (n : Node K (sta
       rw (e, q)
       (record {
         known = sym fits-assigned;
-        holds = λ x. held-holds f K F _ (stack-in s)
-            (held-place K s (stack-in s) 1 (holds-held K s h) (omega arith) (λ y. d) (λ y. absurd (omega arith)) (λ y. absurd (omega arith)));
+        holds = λ x. holds-place K s (stack-in s) 1 h (omega arith) (λ y. l ∙ sym (F .size)) (λ y. absurd (omega arith)) (λ y. absurd (omega arith));
         position = λ x. rw (eq-eqb _ _ d);
       })
 
@@ -181,8 +180,7 @@ module _ (f : Formula) (K : Tree) (F : Follows f K) (s : State) (n : Node K (sta
       rw q
       (record {
         known = is-empty-length;
-        holds = λ k. held-holds f K F _ (stack-in s)
-            (held-place K s (stack-in s) 4 (holds-held K s h) (omega arith) (λ y. absurd (omega arith)) (λ y. absurd (omega arith)) (λ y. h .deep ∙ eqb-true (s .length) 0 k));
+        holds = λ k. holds-place K s (stack-in s) 4 h (omega arith) (λ y. absurd (omega arith)) (λ y. absurd (omega arith)) (λ y. eqb-true (s .length) 0 k);
         position = λ k. refl;
       })
 
