@@ -14,30 +14,30 @@ use Rattle.enumeration.specs.declared.listing.Listed.{Listed}
 use Rattle.enumeration.specs.declared.calls.Walked.{Walked}
 use Rattle.enumeration.specs.Values.{checkpoint-values, values, listed-values}
 use Rattle.enumeration.specs.Lists.{Listing, next-models}
-use Rattle.capi.specs.Interface.{check-row, judge-row, walk-row, list-row, checkpoint-bytes, checkpoint-in, check-called, judge-called, start-called, walk-told, walk-called, list-told, list-called}
+use Rattle.capi.specs.Interface.{results-size, checkpoint-size, check-row, judge-row, walk-row, list-row, checkpoint-bytes, checkpoint-in, check-called, judge-called, start-called, walk-told, walk-called, list-told, list-called}
 use Rattle.capi.proofs.RowLaws.{beside}
 
 module _ (s results : List ℕ) (a : ℕ) where
-  pub check-unwritten : (length results ≡ 6 → ⊥) → check-called s a results ≡ record { code = 1; results = results }
+  pub check-unwritten : (length results ≡ results-size → ⊥) → check-called s a results ≡ record { code = 1; results = results }
   unfolding check-called
   check-unwritten h = rw (ne-eqb _ _ h)
 
   pub check-written :
       (r : check.Answer) (after : List ℕ) →
-      length results ≡ 6 →
+      length results ≡ results-size →
       r ≡ checked s a → after ≡ check-row r → check-called s a results ≡ record { code = 0; results = after }
   unfolding check-called
   check-written r after h e f = rw (eq-eqb _ _ h, f, e)
 
 module _ (s buffer results : List ℕ) where
   pub judge-unwritten :
-      (length results ≡ 6 → ⊥) → judge-called s buffer results ≡ record { code = 1; buffer = buffer; results = results }
+      (length results ≡ results-size → ⊥) → judge-called s buffer results ≡ record { code = 1; buffer = buffer; results = results }
   unfolding judge-called
   judge-unwritten h = rw (ne-eqb _ _ h)
 
   pub judge-written :
       (r : judging.Answer) (left after : List ℕ) →
-      length results ≡ 6 →
+      length results ≡ results-size →
       r ≡ judge s buffer .answer →
       left ≡ judge s buffer .buffer →
       after ≡ judge-row r → judge-called s buffer results ≡ record { code = 0; buffer = left; results = after }
@@ -45,43 +45,43 @@ module _ (s buffer results : List ℕ) where
   judge-written r left after h e l f = rw (eq-eqb _ _ h, f, e, l)
 
 module _ (checkpoint : List ℕ) where
-  pub start-unwritten : (length checkpoint ≡ 50 → ⊥) → start-called checkpoint ≡ record { code = 1; checkpoint = checkpoint }
+  pub start-unwritten : (length checkpoint ≡ checkpoint-size → ⊥) → start-called checkpoint ≡ record { code = 1; checkpoint = checkpoint }
   unfolding start-called
   start-unwritten h = rw (ne-eqb _ _ h)
 
   pub start-written :
       (c : Checkpoint) (after : List ℕ) →
-      length checkpoint ≡ 50 →
+      length checkpoint ≡ checkpoint-size →
       c ≡ start → after ≡ checkpoint-bytes c → start-called checkpoint ≡ record { code = 0; checkpoint = after }
   unfolding start-called
   start-written c after h e f = rw (eq-eqb _ _ h, f, e)
 
 module _ (s checkpoint results : List ℕ) (budget : ℕ) where
   pub walk-unwritten :
-      (length checkpoint ≡ 50 → ⊥) →
+      (length checkpoint ≡ checkpoint-size → ⊥) →
       walk-called s checkpoint budget results ≡ record { code = 1; checkpoint = checkpoint; results = results }
   unfolding walk-called
   walk-unwritten h = rw (ne-eqb _ _ h)
 
   pub walk-unwritten-2 :
-      length checkpoint ≡ 50 →
-      (length results ≡ 6 → ⊥) →
+      length checkpoint ≡ checkpoint-size →
+      (length results ≡ results-size → ⊥) →
       walk-called s checkpoint budget results ≡ record { code = 1; checkpoint = checkpoint; results = results }
   unfolding walk-called
   walk-unwritten-2 h k = rw (eq-eqb _ _ h, ne-eqb _ _ k)
 
   -- both lengths are right
   pub walk-called-is :
-      length checkpoint ≡ 50 →
-      length results ≡ 6 →
+      length checkpoint ≡ checkpoint-size →
+      length results ≡ results-size →
       walk-called s checkpoint budget results ≡ walk-told (walk-call s (checkpoint-in checkpoint) budget)
   unfolding walk-called
   walk-called-is h k = rw (eq-eqb _ _ h, eq-eqb _ _ k)
 
   pub walk-written :
       (from : Checkpoint) (w : Walked) (left after : List ℕ) →
-      length checkpoint ≡ 50 →
-      length results ≡ 6 →
+      length checkpoint ≡ checkpoint-size →
+      length results ≡ results-size →
       from ≡ checkpoint-in checkpoint →
       values w ≡ walk-call s from budget →
       left ≡ checkpoint-bytes (checkpoint-values (w .checkpoint)) →
@@ -92,30 +92,30 @@ module _ (s checkpoint results : List ℕ) (budget : ℕ) where
 
 module _ (s checkpoint models results : List ℕ) where
   pub list-unwritten :
-      (length checkpoint ≡ 50 → ⊥) →
+      (length checkpoint ≡ checkpoint-size → ⊥) →
       list-called s checkpoint models results ≡ record { code = 1; checkpoint = checkpoint; models = models; results = results }
   unfolding list-called
   list-unwritten h = rw (ne-eqb _ _ h)
 
   pub list-unwritten-2 :
-      length checkpoint ≡ 50 →
-      (length results ≡ 6 → ⊥) →
+      length checkpoint ≡ checkpoint-size →
+      (length results ≡ results-size → ⊥) →
       list-called s checkpoint models results ≡ record { code = 1; checkpoint = checkpoint; models = models; results = results }
   unfolding list-called
   list-unwritten-2 h k = rw (eq-eqb _ _ h, ne-eqb _ _ k)
 
   -- both lengths are right
   pub list-called-is :
-      length checkpoint ≡ 50 →
-      length results ≡ 6 →
+      length checkpoint ≡ checkpoint-size →
+      length results ≡ results-size →
       list-called s checkpoint models results ≡ list-told models (next-models s (checkpoint-in checkpoint) (length models))
   unfolding list-called
   list-called-is h k = rw (eq-eqb _ _ h, eq-eqb _ _ k)
 
   pub list-written :
       (from : Checkpoint) (r : Listed) (left brought after : List ℕ) →
-      length checkpoint ≡ 50 →
-      length results ≡ 6 →
+      length checkpoint ≡ checkpoint-size →
+      length results ≡ results-size →
       from ≡ checkpoint-in checkpoint →
       Listing (next-models s from (length models)) models brought r →
       left ≡ checkpoint-bytes (checkpoint-values (r .checkpoint)) →

@@ -6,6 +6,7 @@ use mathlib.Core.Logic.{⊎-elim}
 use mathlib.Core.Path.{_≡_, refl, ap, _∙_}
 use native.Mathlib.Omega.{arith}
 use lib.ListN.{length, getD, replicate}
+use Rattle.limits.specs.Limits.{max-variables}
 use Rattle.lists.specs.Over.{over}
 use Rattle.lists.proofs.PaddedLaws.{padded-none}
 use Rattle.walk.specs.Checkpoints.{Checkpoint, checkpoint-of, start}
@@ -13,7 +14,7 @@ use Rattle.walk.specs.WalkCall.{Kind, says-model, says-spent, says-ended, says-
 use Rattle.walk.proofs.ResumedLaws.{call-bytes}
 use Rattle.enumeration.proofs.RefusedLaws.{refuses-or-goes}
 use Rattle.enumeration.proofs.ListTheorems.{next-refused}
-use Rattle.capi.specs.Interface.{WalkCalled, kind-code, walk-row, checkpoint-bytes, checkpoint-in, start-called, walk-told, walk-called, walks-called, list-called}
+use Rattle.capi.specs.Interface.{results-size, checkpoint-size, WalkCalled, kind-code, walk-row, checkpoint-bytes, checkpoint-in, start-called, walk-told, walk-called, walks-called, list-called}
 use Rattle.capi.proofs.CallLaws.{start-written, walk-called-is, list-called-is}
 
 -- ---- the bytes of a checkpoint
@@ -21,15 +22,15 @@ use Rattle.capi.proofs.CallLaws.{start-written, walk-called-is, list-ca
 pub read-back : (c : Checkpoint) → checkpoint-in (checkpoint-bytes c) ≡ c
 read-back c = refl
 
-pub written-back : (b : List ℕ) → length b ≡ 50 → checkpoint-bytes (checkpoint-in b) ≡ b
+pub written-back : (b : List ℕ) → length b ≡ checkpoint-size → checkpoint-bytes (checkpoint-in b) ≡ b
 written-back [] h = absurd (omega arith)
 written-back (m ∷ []) h = absurd (omega arith)
 written-back (m ∷ l ∷ b) h = refl
 
 -- the start checkpoint is 50 zeros
-pub start-zeros : checkpoint-bytes start ≡ replicate 50 0
+pub start-zeros : checkpoint-bytes start ≡ replicate checkpoint-size 0
 unfolding start checkpoint-of
-start-zeros = ap (λ (t : List ℕ). 0 ∷ 0 ∷ t) (padded-none 48 0)
+start-zeros = ap (λ (t : List ℕ). 0 ∷ 0 ∷ t) (padded-none max-variables 0)
 
 -- ---- refused calls
 
@@ -44,7 +45,7 @@ kind-refused says-refused e = refl
 refused-kept : (s : List ℕ) (c : Checkpoint) (b : ℕ) → walk-call s c b .kind ≡ says-refused → walk-call s c b .checkpoint ≡ c
 refused-kept s c b h = ⊎-elim (λ w. ap (λ (r : Result). r .checkpoint) (w .1 b)) (λ w. absurd (w .0 b h)) (refuses-or-goes s c)
 
-module _ (s checkpoint results : List ℕ) (h : length checkpoint ≡ 50) (k : length results ≡ 6) where
+module _ (s checkpoint results : List ℕ) (h : length checkpoint ≡ checkpoint-size) (k : length results ≡ results-size) where
   -- A refused norwythai_walk leaves the checkpoint's bytes as they were.
   pub walk-refused : (b : ℕ) → (let after = walk-called s checkpoint b results in
       getD (after .results) 0 0 ≡ kind-code says-refused → after .checkpoint ≡ checkpoint)
@@ -67,12 +68,12 @@ module _ (s checkpoint results : List ℕ) (h : length checkpoint ≡ 50) (k : l
 -- from a checkpoint of 48 bytes they are the walk calls
 calls-walked :
     (s : List ℕ) (c : Checkpoint) (results bs : List ℕ) →
-    length (c .bytes) ≡ 48 →
-    length results ≡ 6 → walks-called s (checkpoint-bytes c) results bs ≡ map walk-told (walk-calls s c bs)
+    length (c .bytes) ≡ max-variables →
+    length results ≡ results-size → walks-called s (checkpoint-bytes c) results bs ≡ map walk-told (walk-calls s c bs)
 unfolding walks-called walk-calls
 calls-walked s c results [] h k = refl
 calls-walked s c results (b ∷ bs) h k =
-    let l : length (checkpoint-bytes c) ≡ 50 = omega arith in
+    let l : length (checkpoint-bytes c) ≡ checkpoint-size = omega arith in
     let r = walk-call s c b in
     rw (walk-called-is s (checkpoint-bytes c) results b l k)
     (ap (λ (t : List WalkCalled). walk-told r ∷ t) (calls-walked s (r .checkpoint) (walk-row r) bs (call-bytes s c b h) refl))
@@ -81,9 +82,9 @@ calls-walked s c results (b ∷ bs) h k =
 -- checkpoint's 50 bytes, the result and the checkpoint of the walk call that demand 3 speaks of, whatever stood in the buffers before.
 pub walked-from-start :
     (s checkpoint results bs : List ℕ) →
-    length checkpoint ≡ 50 →
-    length results ≡ 6 → walks-called s (start-called checkpoint .checkpoint) results bs ≡ map walk-told (walk-calls s start bs)
+    length checkpoint ≡ checkpoint-size →
+    length results ≡ results-size → walks-called s (start-called checkpoint .checkpoint) results bs ≡ map walk-told (walk-calls s start bs)
 unfolding start checkpoint-of
 walked-from-start s checkpoint results bs h k =
     rw (start-written checkpoint start (checkpoint-bytes start) h refl refl)
-    (calls-walked s start results bs (ap length (padded-none 48 0)) k)
+    (calls-walked s start results bs (ap length (padded-none max-variables 0)) k)

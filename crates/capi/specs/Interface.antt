@@ -1,9 +1,10 @@
 -- The interface to C: for each exported function the number that it returns, and each lent buffer as it is left.
-use Prim.Native.Nat.{ℕ}
+use Prim.Native.Nat.{ℕ, _+_}
 use mathlib.Core.Bool.{Bool, cond, _&&_}
 use mathlib.Core.List.{List, [], _∷_}
 use lib.Dec.{eqb}
 use lib.ListN.{length, getD, drop}
+use Rattle.limits.specs.Limits.{max-variables}
 use Rattle.lists.specs.Over.{over}
 use Rattle.formula.specs.Check as check
 use Rattle.formula.specs.Check.{Said, said-yes, said-no, said-neither, checked}
@@ -14,6 +15,9 @@ use Rattle.walk.specs.WalkCall.{Kind, says-model, says-spent, says-ended, says-
 use Rattle.enumeration.specs.Lists.{Brought, next-models}
 
 -- ---- results: six numbers, of which the first says the answer, and the third and fourth are the refusal's number and place
+
+abbrev pub results-size : ℕ
+results-size = 6
 
 abbrev pub said-code : Said → ℕ
 said-code said-yes = 0
@@ -43,6 +47,9 @@ list-row count r = kind-code (r .kind) ∷ r .model ∷ r .number ∷ r .place �
 
 -- ---- checkpoints: 50 bytes, the mode, the length and the trail
 
+abbrev pub checkpoint-size : ℕ
+checkpoint-size = 2 + max-variables
+
 abbrev pub checkpoint-bytes : Checkpoint → List ℕ
 checkpoint-bytes c = c .mode ∷ c .length ∷ c .bytes
 
@@ -51,11 +58,11 @@ checkpoint-in b = record { mode = getD b 0 0; length = getD b 1 0; bytes = drop 
 
 -- ---- the functions. Each writes only into buffers of the fixed lengths: else it returns 1, and all stays as it was
 
-abbrev pub six : List ℕ → Bool
-six results = eqb (length results) 6
+abbrev pub results-sized : List ℕ → Bool
+results-sized results = eqb (length results) results-size
 
-abbrev pub fifty : List ℕ → Bool
-fifty checkpoint = eqb (length checkpoint) 50
+abbrev pub checkpoint-sized : List ℕ → Bool
+checkpoint-sized checkpoint = eqb (length checkpoint) checkpoint-size
 
 -- norwythai_check
 pub record CheckCalled : Type 0 where
@@ -65,7 +72,7 @@ pub record CheckCalled : Type 0 where
 -- the input, the assignment, and the results as they were
 unfoldable pub check-called : List ℕ → ℕ → List ℕ → CheckCalled
 check-called s a results =
-    cond (six results) (record { code = 0; results = check-row (checked s a) }) (record { code = 1; results = results })
+    cond (results-sized results) (record { code = 0; results = check-row (checked s a) }) (record { code = 1; results = results })
 
 -- norwythai_judge
 pub record JudgeCalled : Type 0 where
@@ -77,7 +84,7 @@ pub record JudgeCalled : Type 0 where
 unfoldable pub judge-called : List ℕ → List ℕ → List ℕ → JudgeCalled
 judge-called s buffer results =
     let j = judge s buffer in
-    cond (six results)
+    cond (results-sized results)
     (record { code = 0; buffer = j .buffer; results = judge-row (j .answer) })
     (record { code = 1; buffer = buffer; results = results })
 
@@ -89,7 +96,7 @@ pub record StartCalled : Type 0 where
 -- the checkpoint as it was
 unfoldable pub start-called : List ℕ → StartCalled
 start-called checkpoint =
-    cond (fifty checkpoint)
+    cond (checkpoint-sized checkpoint)
     (record { code = 0; checkpoint = checkpoint-bytes start })
     (record { code = 1; checkpoint = checkpoint })
 
@@ -106,7 +113,7 @@ walk-told r = record { code = 0; checkpoint = checkpoint-bytes (r .checkpoint); 
 -- the input, the checkpoint as it was, the budget, and the results as they were
 unfoldable pub walk-called : List ℕ → List ℕ → ℕ → List ℕ → WalkCalled
 walk-called s checkpoint budget results =
-    cond (fifty checkpoint && six results)
+    cond (checkpoint-sized checkpoint && results-sized results)
     (walk-told (walk-call s (checkpoint-in checkpoint) budget))
     (record { code = 1; checkpoint = checkpoint; results = results })
 
@@ -137,6 +144,6 @@ list-told models x = record {
 -- the input, and the checkpoint, the models and the results as they were
 unfoldable pub list-called : List ℕ → List ℕ → List ℕ → List ℕ → ListCalled
 list-called s checkpoint models results =
-    cond (fifty checkpoint && six results)
+    cond (checkpoint-sized checkpoint && results-sized results)
     (list-told models (next-models s (checkpoint-in checkpoint) (length models)))
     (record { code = 1; checkpoint = checkpoint; models = models; results = results })

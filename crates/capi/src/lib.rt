@@ -8,13 +8,19 @@ ghost use Rattle.matched.specs.Judge as judging;
 ghost use Rattle.walk.specs.Checkpoints as walk;
 ghost use Rattle.enumeration.specs.Values.{checkpoint-values, answer-values, values, listed-values};
 ghost use Rattle.capi.specs.InnerRow.{numbers};
-ghost use Rattle.capi.specs.Interface.{check-row, judge-row, walk-row, list-row, checkpoint-bytes, checkpoint-in, check-called, judge-called, start-called, walk-called, list-called};
+ghost use Rattle.capi.specs.Interface.{results-size, check-row, judge-row, walk-row, list-row, checkpoint-size, checkpoint-bytes, checkpoint-in, check-called, judge-called, start-called, walk-called, list-called};
 use enumeration::Checkpoint;
 use enumeration::Listed;
 use enumeration::Walked;
 use formula::Refusal;
 use formula::Verdict;
 use matched::Judgement;
+
+// The results are so many numbers.
+const RESULTS_SIZE: usize = 6;
+
+// A checkpoint is so many bytes: its mode, its length and its trail.
+const CHECKPOINT_SIZE: usize = 2 + limits::MAX_VARIABLES;
 
 // The results of a call, in the order in which they are written. judge has the numbers of variables and clauses in place of the
 // steps and expansions, list the number of models in place of the steps.
@@ -100,7 +106,7 @@ fn list_row(l: Listed) -> Row
 
 // Writes the results.
 fn put_row(r: Row, results: &mut [u64])
-    requires { ⌜ length (now results) ≡ 6 ⌝ }
+    requires { ⌜ length (now results) ≡ results-size ⌝ }
     ensures { λ _. ⌜ now (results .exit) ≡ numbers r ⌝ }
 {
     results[0] = r.answer;
@@ -111,18 +117,18 @@ fn put_row(r: Row, results: &mut [u64])
     results[5] = r.expansions;
 }
 
-fn trail_in(checkpoint: &[u8]) -> [u8; 48]
-    requires { ⌜ length (now checkpoint) ≡ 50 ⌝ }
+fn trail_in(checkpoint: &[u8]) -> [u8; limits::MAX_VARIABLES]
+    requires { ⌜ length (now checkpoint) ≡ checkpoint-size ⌝ }
     ensures { λ r. ⌜ r ≡ drop 2 (now (checkpoint .entry)) ⌝ }
 {
-    let mut trail = [0u8; 48];
+    let mut trail = [0u8; limits::MAX_VARIABLES];
     bytes::copy(&checkpoint[2..], &mut trail);
     trail
 }
 
 // The checkpoint that 50 bytes hold.
 fn checkpoint_in(checkpoint: &[u8]) -> Checkpoint
-    requires { ⌜ length (now checkpoint) ≡ 50 ⌝ }
+    requires { ⌜ length (now checkpoint) ≡ checkpoint-size ⌝ }
     ensures { λ r. ⌜ checkpoint-values r ≡ checkpoint-in (now (checkpoint .entry)) ⌝ }
 {
     Checkpoint {
@@ -134,7 +140,7 @@ fn checkpoint_in(checkpoint: &[u8]) -> Checkpoint
 
 // Writes a checkpoint's 50 bytes.
 fn put_checkpoint(c: Checkpoint, checkpoint: &mut [u8])
-    requires { ⌜ length (now checkpoint) ≡ 50 ⌝ }
+    requires { ⌜ length (now checkpoint) ≡ checkpoint-size ⌝ }
     ensures { λ _. ⌜ now (checkpoint .exit) ≡ checkpoint-bytes (checkpoint-values c) ⌝ }
 {
     checkpoint[0] = c.mode;
@@ -148,7 +154,7 @@ fn put_checkpoint(c: Checkpoint, checkpoint: &mut [u8])
 pub extern "C" fn norwythai_check(input: &[u8], assignment: u64, results: &mut [u64]) -> u32
     ensures { λ r. ⌜ check-called (now (input .entry)) assignment (now (results .entry)) ≡ record { code = r; results = now (results .exit) } ⌝ }
 {
-    if results.len() != 6 {
+    if results.len() != RESULTS_SIZE {
         return 1;
     }
     put_row(check_row(formula::check(input, assignment)), results);
@@ -160,7 +166,7 @@ pub extern "C" fn norwythai_check(input: &[u8], assignment: u64, results: &mut [
 pub extern "C" fn norwythai_judge(input: &[u8], buffer: &mut [u8], results: &mut [u64]) -> u32
     ensures { λ r. ⌜ judge-called (now (input .entry)) (now (buffer .entry)) (now (results .entry)) ≡ record { code = r; buffer = now (buffer .exit); results = now (results .exit) } ⌝ }
 {
-    if results.len() != 6 {
+    if results.len() != RESULTS_SIZE {
         return 1;
     }
     put_row(judge_row(matched::find_matching(input, buffer)), results);
@@ -172,7 +178,7 @@ pub extern "C" fn norwythai_judge(input: &[u8], buffer: &mut [u8], results: &mut
 pub extern "C" fn norwythai_start(checkpoint: &mut [u8]) -> u32
     ensures { λ r. ⌜ start-called (now (checkpoint .entry)) ≡ record { code = r; checkpoint = now (checkpoint .exit) } ⌝ }
 {
-    if checkpoint.len() != 50 {
+    if checkpoint.len() != CHECKPOINT_SIZE {
         return 1;
     }
     put_checkpoint(enumeration::start_checkpoint(), checkpoint);
@@ -189,10 +195,10 @@ pub extern "C" fn norwythai_walk(
 ) -> u32
     ensures { λ r. ⌜ walk-called (now (input .entry)) (now (checkpoint .entry)) budget (now (results .entry)) ≡ record { code = r; checkpoint = now (checkpoint .exit); results = now (results .exit) } ⌝ }
 {
-    if checkpoint.len() != 50 {
+    if checkpoint.len() != CHECKPOINT_SIZE {
         return 1;
     }
-    if results.len() != 6 {
+    if results.len() != RESULTS_SIZE {
         return 1;
     }
     let w = enumeration::walk(input, checkpoint_in(checkpoint), budget);
@@ -212,10 +218,10 @@ pub extern "C" fn norwythai_list(
 ) -> u32
     ensures { λ r. ⌜ list-called (now (input .entry)) (now (checkpoint .entry)) (now (models .entry)) (now (results .entry)) ≡ record { code = r; checkpoint = now (checkpoint .exit); models = now (models .exit); results = now (results .exit) } ⌝ }
 {
-    if checkpoint.len() != 50 {
+    if checkpoint.len() != CHECKPOINT_SIZE {
         return 1;
     }
-    if results.len() != 6 {
+    if results.len() != RESULTS_SIZE {
         return 1;
     }
     let l = enumeration::list(input, checkpoint_in(checkpoint), models);

@@ -12,10 +12,11 @@ use Rattle.formula.specs.Format.{Literal, formula-bytes}
 use Rattle.formula.specs.Refusals.{Listing, listing}
 use Rattle.matched.specs.Judge.{accepted, judge}
 use Rattle.matched.specs.Pairing.{Pairs}
+use Rattle.walk.specs.Gaps.{ample-budget}
 use Rattle.walk.specs.Checkpoints.{start}
 use Rattle.walk.specs.PlainMachine.{spent}
 use Rattle.walk.specs.WalkCall.{Kind, says-model, says-ended, Result, answered, walk-call, walk-calls}
-use Rattle.printing.specs.Printed.{switches-word, rules-word, end-word, line-budget, printed}
+use Rattle.printing.specs.Printed.{switches-word, rules-word, end-word, printed}
 
 -- ---- how the cases are written
 
@@ -49,7 +50,7 @@ end-at steps expansions = record { kind = says-ended; model = 0; steps = steps; 
 
 -- the lines of the first k walk calls on an input: from the start, on a line's budget, which brings a model or the end
 abbrev pub walked : List ℕ → ℕ → List Line
-walked s k = map line (walk-calls s start (replicate k line-budget))
+walked s k = map line (walk-calls s start (replicate k ample-budget))
 
 -- the number and the place of the refusal that reading gives, zeros if it gives none
 abbrev pub refusal-of : Decoding → Listing

@@ -14,8 +14,9 @@ use Rattle.walk.specs.InnerTest.{is-empty, replays, fits, formed, read, accepts
 use Rattle.enumeration.specs.declared.state.State.{State}
 use Rattle.enumeration.specs.declared.reading.Tested.{Tested}
 use Rattle.enumeration.specs.InnerState.{stack-in, position-at, Follows, Holds, marked-as, at-place}
-use Rattle.enumeration.specs.InnerRead.{Node, Replayed, Taken}
-use Rattle.enumeration.proofs.StateLaws.{Held, holds-held, held-holds, held-place, opens-next}
+use Rattle.enumeration.specs.InnerRead.{Node, Replayed, PlaceTaken}
+use Rattle.enumeration.proofs.ClearLaws.{bit-marked}
+use Rattle.enumeration.proofs.StateLaws.{holds-place, opens-next}
 use Rattle.enumeration.proofs.ReplayLaws.{within}
 
 -- a trail is empty exactly if its length is 0
@@ -29,7 +30,7 @@ empty-length (push v b t) e = absurd (false≢true e)
 
 module _ (K : Tree) (m : ℕ) (t : Stack) where
   -- no walk comes there
-  pub taken-none : (x : Bool) (r : Tested) → r .known ≡ false → x ≡ false → Taken K m t x r
+  pub taken-none : (x : Bool) (r : Tested) → r .known ≡ false → x ≡ false → PlaceTaken K m t x r
   taken-none x r e q =
       record { known = e ∙ sym q; holds = λ y. absurd (true≢false (sym y ∙ e)); position = λ y. absurd (true≢false (sym y ∙ e)) }
 
@@ -65,7 +66,7 @@ module _ (f : Formula) (K : Tree) (F : Follows f K) (s : State) (n : Node K (sta
       at true l = rw (h .replayed, l)
 
   -- at full length nothing was undone
-  pub taken-full : (b : Bool) → s .length ≡ f .variables → Taken K (undone-mode b) (stack-in s) (fits K (undone-mode b) (stack-in s)) (record { known = false; state = s })
+  pub taken-full : (b : Bool) → s .length ≡ f .variables → PlaceTaken K (undone-mode b) (stack-in s) (fits K (undone-mode b) (stack-in s)) (record { known = false; state = s })
   taken-full b e = taken-none K (undone-mode b) (stack-in s) _ _ refl (fits-full b e)
 
   module _ (ne : s .length ≡ f .variables → ⊥) (c : Choice) (e : c ≡ K .choose (stack-in s)) where
@@ -81,50 +82,49 @@ module _ (f : Formula) (K : Tree) (F : Follows f K) (s : State) (n : Node K (sta
     fits-false = rw (h .replayed, below, is-empty-length, e)
 
     -- mode 3 with nothing assigned: that is the end
-    pub taken-true-root : s .length ≡ 0 → Taken K 3 (stack-in s) (fits K 3 (stack-in s)) (record { known = false; state = s })
+    pub taken-true-root : s .length ≡ 0 → PlaceTaken K 3 (stack-in s) (fits K 3 (stack-in s)) (record { known = false; state = s })
     taken-true-root z = taken-none K 3 (stack-in s) _ _ refl (fits-true ∙ rw (eq-eqb (s .length) 0 z) (and-false (c .true_open)))
 
     -- mode 3 elsewhere: if true is open
-    pub taken-true : (s .length ≡ 0 → ⊥) → (u : State) → u ≡ at-place s 3 → Taken K 3 (stack-in s) (fits K 3 (stack-in s)) (record { known = c .true_open; state = u })
+    pub taken-true : (s .length ≡ 0 → ⊥) → (u : State) → u ≡ at-place s 3 → PlaceTaken K 3 (stack-in s) (fits K 3 (stack-in s)) (record { known = c .true_open; state = u })
     taken-true z u q =
         rw q
         (record {
           known = sym (fits-true ∙ rw (ne-eqb (s .length) 0 z) (and-true (c .true_open)));
-          holds = λ x. held-holds f K F _ (stack-in s)
-              (held-place K s (stack-in s) 3 (holds-held K s h) (omega arith) (λ y. absurd (omega arith)) (λ y. absurd (omega arith)) (λ y. absurd (omega arith)));
+          holds = λ x. holds-place K s (stack-in s) 3 h (omega arith) (λ y. absurd (omega arith)) (λ y. absurd (omega arith)) (λ y. absurd (omega arith));
           position = λ x. refl;
         })
 
     -- mode 2 with nothing assigned and true not open: that is the end
-    pub taken-false-root : s .length ≡ 0 → c .true_open ≡ false → Taken K 2 (stack-in s) (fits K 2 (stack-in s)) (record { known = false; state = s })
+    pub taken-false-root : s .length ≡ 0 → c .true_open ≡ false → PlaceTaken K 2 (stack-in s) (fits K 2 (stack-in s)) (record { known = false; state = s })
     taken-false-root z o = taken-none K 2 (stack-in s) _ _ refl (fits-false ∙ rw (eq-eqb (s .length) 0 z, o) (and-false (c .false_open)))
 
-    undone-held : Held K (undoing s c) (stack-in s)
-    undone-held =
-        let k = holds-held K s h in
+    undone-holds : Holds K (undoing s c)
+    undone-holds =
         let y : c .true_open ≡ K .choose (stack-in s) .true_open = ap (λ (d : Choice). d .true_open) e in
         let o = opens-next K (s .open_true) (s .length) (c .true_open) (stack-in s) (c .variable) false (h .deep) y (h .opens) in
         record {
           place = omega arith;
-          room = k .room;
-          deep = k .deep;
-          bytes = k .bytes;
-          assigned = k .assigned;
-          replayed = k .replayed;
+          room = h .room;
+          short = h .short;
+          deep = h .deep;
+          bytes = h .bytes;
+          assigned = h .assigned;
+          replayed = h .replayed;
           opens = o .1;
-          clears = k .clears;
+          clears = h .clears;
           at-full = λ x. absurd (omega arith);
-          at-back = λ x. (within f K F s h ne, ap (λ (d : Choice). d .variable) e, o .0);
+          at-back = λ x. (let d = h .deep in let w = within f K F s h ne in omega arith, ap (λ (d : Choice). d .variable) e, bit-marked (s .open_true) (s .length) (c .true_open) ∙ y);
           at-over = λ x. absurd (omega arith);
         }
 
     -- mode 2 elsewhere: if false is open
-    pub taken-false : (s .length ≡ 0 → c .true_open ≡ true) → (u : State) → u ≡ undoing s c → Taken K 2 (stack-in s) (fits K 2 (stack-in s)) (record { known = c .false_open; state = u })
+    pub taken-false : (s .length ≡ 0 → c .true_open ≡ true) → (u : State) → u ≡ undoing s c → PlaceTaken K 2 (stack-in s) (fits K 2 (stack-in s)) (record { known = c .false_open; state = u })
     taken-false z u q =
         rw q
         (record {
           known = sym (fits-false ∙ ap (λ (x : Bool). c .false_open && x) (at (eqb (s .length) 0) refl) ∙ and-true (c .false_open));
-          holds = λ x. held-holds f K F _ (stack-in s) undone-held;
+          holds = λ x. undone-holds;
           position = λ x. refl;
         })
       where
@@ -135,7 +135,7 @@ module _ (f : Formula) (K : Tree) (F : Follows f K) (s : State) (n : Node K (sta
   -- ---- the other modes
 
   -- mode 0: nothing is assigned
-  pub taken-start : (m : ℕ) → m ≡ 0 → Taken K m (stack-in s) (fits K m (stack-in s)) (record { known = eqb (s .length) 0; state = s })
+  pub taken-start : (m : ℕ) → m ≡ 0 → PlaceTaken K m (stack-in s) (fits K m (stack-in s)) (record { known = eqb (s .length) 0; state = s })
   unfolding fits
   taken-start m e =
       rw e (record { known = is-empty-length; holds = λ x. h; position = λ x. ap (λ (p : ℕ). position-at p (stack-in s)) (n .place) })
@@ -148,20 +148,19 @@ module _ (f : Formula) (K : Tree) (F : Follows f K) (s : State) (n : Node K (sta
 
   -- mode 1 at full length: the model is handed out
   pub taken-model : (m : ℕ) → m ≡ 1 → s .length ≡ f .variables → (u : State) → u ≡ at-place s 1
-      → Taken K m (stack-in s) (fits K m (stack-in s)) (record { known = not (eqb (s .length) 0); state = u })
+      → PlaceTaken K m (stack-in s) (fits K m (stack-in s)) (record { known = not (eqb (s .length) 0); state = u })
   taken-model m e l u q =
       let d : depth (stack-in s) ≡ K .size = h .deep ∙ l ∙ sym (F .size) in
       rw (e, q)
       (record {
         known = sym fits-assigned;
-        holds = λ x. held-holds f K F _ (stack-in s)
-            (held-place K s (stack-in s) 1 (holds-held K s h) (omega arith) (λ y. d) (λ y. absurd (omega arith)) (λ y. absurd (omega arith)));
+        holds = λ x. holds-place K s (stack-in s) 1 h (omega arith) (λ y. l ∙ sym (F .size)) (λ y. absurd (omega arith)) (λ y. absurd (omega arith));
         position = λ x. rw (eq-eqb _ _ d);
       })
 
   -- mode 1 elsewhere
   pub taken-assigned : (m : ℕ) → m ≡ 1 → (s .length ≡ f .variables → ⊥)
-      → Taken K m (stack-in s) (fits K m (stack-in s)) (record { known = not (eqb (s .length) 0); state = s })
+      → PlaceTaken K m (stack-in s) (fits K m (stack-in s)) (record { known = not (eqb (s .length) 0); state = s })
   taken-assigned m e l =
       let d : eqb (depth (stack-in s)) (K .size) ≡ false = ne-eqb _ _ (λ y. l (sym (h .deep) ∙ y ∙ F .size)) in
       rw e
@@ -173,7 +172,7 @@ module _ (f : Formula) (K : Tree) (F : Follows f K) (s : State) (n : Node K (sta
 
   -- mode 4: nothing is assigned
   pub taken-end : (m : ℕ) → (m ≡ 0 → ⊥) → (m ≡ 1 → ⊥) → (m ≡ 2 → ⊥) → (m ≡ 3 → ⊥) → (u : State) → u ≡ at-place s 4
-      → Taken K m (stack-in s) (fits K m (stack-in s)) (record { known = eqb (s .length) 0; state = u })
+      → PlaceTaken K m (stack-in s) (fits K m (stack-in s)) (record { known = eqb (s .length) 0; state = u })
   unfolding fits
   taken-end zero x y z w u q = absurd (x refl)
   taken-end (suc zero) x y z w u q = absurd (y refl)
@@ -183,8 +182,7 @@ module _ (f : Formula) (K : Tree) (F : Follows f K) (s : State) (n : Node K (sta
       rw q
       (record {
         known = is-empty-length;
-        holds = λ k. held-holds f K F _ (stack-in s)
-            (held-place K s (stack-in s) 4 (holds-held K s h) (omega arith) (λ y. absurd (omega arith)) (λ y. absurd (omega arith)) (λ y. h .deep ∙ eqb-true (s .length) 0 k));
+        holds = λ k. holds-place K s (stack-in s) 4 h (omega arith) (λ y. absurd (omega arith)) (λ y. absurd (omega arith)) (λ y. eqb-true (s .length) 0 k);
         position = λ k. refl;
       })
 
@@ -204,19 +202,19 @@ module _ (K : Tree) where
 
   module _ (c : walk.Checkpoint) (r : Tested) where
     -- a checkpoint that is not well formed
-    pub taken-unformed : formed c ≡ false → r .known ≡ false → Taken K (c .mode) (read c) (accepts K c) r
+    pub taken-unformed : formed c ≡ false → r .known ≡ false → PlaceTaken K (c .mode) (read c) (accepts K c) r
     unfolding accepts
     taken-unformed e q = taken-none K (c .mode) (read c) _ r q (rw e)
 
     -- one whose trail does not replay
-    pub taken-unreplayed : formed c ≡ true → Replayed K (read c) r → r .known ≡ false → Taken K (c .mode) (read c) (accepts K c) r
+    pub taken-unreplayed : formed c ≡ true → Replayed K (read c) r → r .known ≡ false → PlaceTaken K (c .mode) (read c) (accepts K c) r
     unfolding accepts
     taken-unreplayed e w q = taken-none K (c .mode) (read c) _ r q (rw e (fits-none (c .mode) (read c) (sym (w .known) ∙ q)))
 
     -- one whose trail replays: its mode decides
-    pub taken-read : formed c ≡ true → (s : State) → Node K (read c) s → (Node K (stack-in s) s → Taken K (c .mode) (stack-in s) (fits K (c .mode) (stack-in s)) r)
-        → Taken K (c .mode) (read c) (accepts K c) r
+    pub taken-read : formed c ≡ true → (s : State) → Node K (read c) s → (Node K (stack-in s) s → PlaceTaken K (c .mode) (stack-in s) (fits K (c .mode) (stack-in s)) r)
+        → PlaceTaken K (c .mode) (read c) (accepts K c) r
     unfolding accepts
     taken-read e s n w =
         rw e
-        (subst (λ (t : Stack). Taken K (c .mode) t (fits K (c .mode) t) r) (n .stack) (w (record { holds = n .holds; stack = refl; place = n .place })))
+        (subst (λ (t : Stack). PlaceTaken K (c .mode) t (fits K (c .mode) t) r) (n .stack) (w (record { holds = n .holds; stack = refl; place = n .place })))

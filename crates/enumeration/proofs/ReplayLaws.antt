@@ -21,7 +21,7 @@ use Rattle.enumeration.specs.declared.reading.Tested.{Tested}
 use Rattle.enumeration.specs.InnerState.{stack-in, Follows, Free, Holds, Valid, pushing}
 use Rattle.enumeration.specs.InnerRead.{Node, Replayed, noted}
 use Rattle.enumeration.proofs.ClearLaws.{clears-note}
-use Rattle.enumeration.proofs.StateLaws.{holds-held, held-stack, held-holds, held-push, held-noted, opens-next}
+use Rattle.enumeration.proofs.StateLaws.{holds-stack, holds-own, holds-push, holds-noted, opens-next}
 use Rattle.enumeration.proofs.StepLaws.{choice-at}
 use Rattle.enumeration.proofs.FormLaws.{replays-stops}
 
@@ -77,15 +77,14 @@ module _ (f : Formula) (K : Tree) (F : Follows f K) (s : State) (h : Holds K s) 
           → Node K (push (c .variable) b (stack-in s)) (pushing (noted s (c .true_open) free) (c .variable) b)
       node-more b free g o =
           let t = stack-in s in
-          let k = holds-held K s h in
           let x = opens-next K (s .open_true) (s .length) (c .true_open) t (c .variable) in
           let y : c .true_open ≡ K .choose t .true_open = ap (λ (d : Choice). d .true_open) e in
-          let q = held-noted K s t (c .true_open) free k (x true (h .deep) y (h .opens)) (clears-note K (s .clear) (s .length) free t (k .deep) g (h .clears)) in
-          let n = held-push f K F (noted s (c .true_open) free) t q
+          let q = holds-noted K s t (c .true_open) free h (x true (h .deep) y (h .opens)) (clears-note K (s .clear) (s .length) free t (sym (h .deep)) g (h .clears)) in
+          let n = holds-push f K F (noted s (c .true_open) free) t q
           (c .variable) b within (ap (λ (d : Choice). d .variable) e) (ap (λ (d : Choice). opened d b) (sym e) ∙ o) (x b (h .deep) y (h .opens)) in
           record {
-            holds = held-holds f K F _ _ n;
-            stack = held-stack f K F _ _ n;
+            holds = holds-own f K F _ _ n;
+            stack = holds-stack f K F _ _ n;
             place = refl;
           }
 

@@ -2,15 +2,25 @@
 use Prim.Native.Nat.{ℕ}
 use mathlib.Core.Path.{_≡_}
 use mathlib.Core.Bool.{Bool, true}
+use lib.ListN.{length}
+use Rattle.limits.specs.Limits.{max-variables}
 use Rattle.formula.specs.declared.Formula.{Formula}
 use Rattle.walk.specs.InnerStack.{Stack, Tree}
-use Rattle.walk.specs.InnerTest.{replays, position-of}
+use Rattle.walk.specs.InnerTest.{replays, position-of, formed}
+use Rattle.walk.specs.Checkpoints.{Checkpoint}
+use Rattle.enumeration.specs.Values.{checkpoint-values}
 use Rattle.enumeration.specs.InnerState.{stack-in, position-in, Follows, Holds, marked-as}
+use Rattle.enumeration.specs.declared.checkpoint.Checkpoint as code
 use Rattle.enumeration.specs.declared.state.State.{State}
 use Rattle.enumeration.specs.declared.reading.Tested.{Tested}
 
+-- the answer r of the test of a checkpoint's form; where it passes, all bytes are there
+pub record FormTested (c : code.Checkpoint) (r : Bool) : Type 0 where
+  pub answer : r ≡ formed (checkpoint-values c)
+  pub full : r ≡ true → length (c .bytes) ≡ max-variables
+
 -- the formula's choices make a tree
-pub record Led (f : Formula) : Type 0 where
+pub record HasTree (f : Formula) : Type 0 where
   pub tree : Tree
   pub follows : Follows f tree
 
@@ -26,7 +36,7 @@ pub record Replayed (K : Tree) (t : Stack) (r : Tested) : Type 0 where
   pub node : r .known ≡ true → Node K t (r .state)
 
 -- a test's answer, and the state of the mode's position at the trail t
-pub record Taken (K : Tree) (m : ℕ) (t : Stack) (x : Bool) (r : Tested) : Type 0 where
+pub record PlaceTaken (K : Tree) (m : ℕ) (t : Stack) (x : Bool) (r : Tested) : Type 0 where
   pub known : r .known ≡ x
   pub holds : r .known ≡ true → Holds K (r .state)
   pub position : r .known ≡ true → position-in (r .state) ≡ position-of (K .size) m t

@@ -1,12 +1,12 @@
 // Checkpoints (01: markers): the one of the start, the bytes of assigned variables, and the form that a checkpoint has.
 ghost use mathlib.Core.Path.{_≡_};
 ghost use Prim.Native.Nat.{_<_, _≤_};
-ghost use mathlib.Core.Bool.{true};
 ghost use lib.ListN.{length, take, drop};
 ghost use Rattle.limits.specs.Limits.{max-variables};
 ghost use Rattle.walk.specs.Checkpoints.{byte, start};
-ghost use Rattle.walk.specs.InnerTest.{byte-number, numbered, zeros, formed};
+ghost use Rattle.walk.specs.InnerTest.{byte-number, numbered, zeros};
 ghost use Rattle.enumeration.specs.Values.{checkpoint-values};
+ghost use Rattle.enumeration.specs.InnerRead.{FormTested};
 
 // A checkpoint (01: marker): its mode, its length, and a byte for each assigned variable in order.
 pub struct Checkpoint {
@@ -81,7 +81,7 @@ fn has_zeros(bytes: [u8; limits::MAX_VARIABLES], end: usize) -> bool
 
 // The checkpoint's mode, length and bytes have the form of one.
 pub fn well_formed(c: Checkpoint) -> bool
-    ensures { λ r. ⌜ (r ≡ formed (checkpoint-values c)) × (r ≡ true → length (c .bytes) ≡ max-variables) ⌝ }
+    ensures { λ r. ⌜ FormTested c r ⌝ }
 {
     if 4 < c.mode {
         return false;

@@ -2,7 +2,7 @@
 ghost use Rattle.formula.specs.Masked.{FormulaFits};
 ghost use Rattle.walk.specs.InnerStack.{Tree};
 ghost use Rattle.enumeration.specs.InnerState.{Follows};
-ghost use Rattle.enumeration.specs.InnerRead.{Led};
+ghost use Rattle.enumeration.specs.InnerRead.{HasTree};
 ghost use Rattle.enumeration.specs.InnerEnter.{Stands, Enters};
 ghost use Rattle.enumeration.specs.Values.{checkpoint-values};
 use crate::checkpoint::Checkpoint;
@@ -22,7 +22,7 @@ pub struct Entered {
 
 // The state of a checkpoint in the walk of an accepted formula, or 11.
 fn enter_formula(f: Formula, c: Checkpoint) -> Entered
-    requires { ⌜ FormulaFits f × Led f ⌝ }
+    requires { ⌜ FormulaFits f × HasTree f ⌝ }
     ensures { λ r. ⌜ ((K : Tree) → Follows f K → Stands K f (checkpoint-values c) r) ⌝ }
 {
     let t = read_checkpoint(f, c);

@@ -9,7 +9,7 @@ ghost use Rattle.walk.specs.Checkpoints.{undone-mode};
 ghost use Rattle.walk.specs.InnerStack.{push, Tree};
 ghost use Rattle.walk.specs.InnerTest.{byte-number, byte-value, formed, read, fits, accepts};
 ghost use Rattle.enumeration.specs.InnerState.{stack-in, Follows, Holds, Valid};
-ghost use Rattle.enumeration.specs.InnerRead.{Led, Node, Replayed, Taken};
+ghost use Rattle.enumeration.specs.InnerRead.{HasTree, Node, Replayed, PlaceTaken};
 ghost use Rattle.enumeration.specs.Values.{checkpoint-values};
 use crate::checkpoint::Checkpoint;
 use crate::checkpoint::number_of;
@@ -69,7 +69,7 @@ fn replay_byte(f: Formula, s: State, b: u8) -> Tested
 
 // Assigns the checkpoint's variables again.
 fn replay(f: Formula, c: Checkpoint) -> Tested
-    requires { ⌜ FormulaFits f × Led f × (formed (checkpoint-values c) ≡ true) × (length (c .bytes) ≡ max-variables) ⌝ }
+    requires { ⌜ FormulaFits f × HasTree f × (formed (checkpoint-values c) ≡ true) × (length (c .bytes) ≡ max-variables) ⌝ }
     ensures { λ r. ⌜ ((K : Tree) → Follows f K → Replayed K (read (checkpoint-values c)) r) ⌝ }
 {
     let bytes = c.bytes;
@@ -94,7 +94,7 @@ fn replay(f: Formula, c: Checkpoint) -> Tested
 // The state at a node where a value of the chosen variable was undone, if a walk comes there.
 fn take_undone(f: Formula, s: State, value: bool) -> Tested
     requires { ⌜ FormulaFits f × Valid f s ⌝ }
-    ensures { λ r. ⌜ ((K : Tree) → Follows f K → Node K (stack-in s) s → Taken K (undone-mode value) (stack-in s) (fits K (undone-mode value) (stack-in s)) r) ⌝ }
+    ensures { λ r. ⌜ ((K : Tree) → Follows f K → Node K (stack-in s) s → PlaceTaken K (undone-mode value) (stack-in s) (fits K (undone-mode value) (stack-in s)) r) ⌝ }
 {
     if s.length == f.variables {
         return unknown(s);
@@ -135,7 +135,7 @@ fn take_undone(f: Formula, s: State, value: bool) -> Tested
 // The state of a checkpoint's mode at the node of its trail, if a walk comes there.
 fn take_place(f: Formula, s: State, mode: u8) -> Tested
     requires { ⌜ FormulaFits f × Valid f s ⌝ }
-    ensures { λ r. ⌜ ((K : Tree) → Follows f K → Node K (stack-in s) s → Taken K mode (stack-in s) (fits K mode (stack-in s)) r) ⌝ }
+    ensures { λ r. ⌜ ((K : Tree) → Follows f K → Node K (stack-in s) s → PlaceTaken K mode (stack-in s) (fits K mode (stack-in s)) r) ⌝ }
 {
     if mode == 0 {
         return Tested {
@@ -169,8 +169,8 @@ fn take_place(f: Formula, s: State, mode: u8) -> Tested
 
 // The checkpoint's test (01: 11), and the state that it stands for.
 pub fn read_checkpoint(f: Formula, c: Checkpoint) -> Tested
-    requires { ⌜ FormulaFits f × Led f ⌝ }
-    ensures { λ r. ⌜ ((K : Tree) → Follows f K → Taken K (c .mode) (read (checkpoint-values c)) (accepts K (checkpoint-values c)) r) ⌝ }
+    requires { ⌜ FormulaFits f × HasTree f ⌝ }
+    ensures { λ r. ⌜ ((K : Tree) → Follows f K → PlaceTaken K (c .mode) (read (checkpoint-values c)) (accepts K (checkpoint-values c)) r) ⌝ }
 {
     if well_formed(c) {
         let t = replay(f, c);

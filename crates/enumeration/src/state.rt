@@ -5,7 +5,7 @@ ghost use lib.ListN.{getD};
 ghost use Rattle.limits.specs.Limits.{max-variables};
 ghost use Rattle.walk.specs.InnerStack.{empty, Tree};
 ghost use Rattle.walk.specs.InnerTest.{shown};
-ghost use Rattle.enumeration.specs.InnerState.{position-in, Holds, Numbered, pushing, popped, applied, marked-as, at-place};
+ghost use Rattle.enumeration.specs.InnerState.{position-in, Holds, Numbered, Moves, pushing, popped, applied, marked-as, at-place};
 ghost use Rattle.enumeration.specs.InnerRead.{Node, noted};
 ghost use Rattle.enumeration.specs.Values.{checkpoint-values};
 use crate::checkpoint::Checkpoint;
@@ -83,7 +83,7 @@ pub fn mark(mask: u64, v: usize, value: bool) -> u64
 // v is assigned as well.
 pub fn push(s: State, v: usize, value: bool) -> Moved
     requires { ⌜ (v < max-variables) × (s .length < max-variables) ⌝ }
-    ensures { λ r. ⌜ (applied s r ≡ pushing s v value) × (r .at < max-variables) ⌝ }
+    ensures { λ r. ⌜ Moves s r (pushing s v value) ⌝ }
 {
     let at = s.length;
     let a = s.assignment;
@@ -102,7 +102,7 @@ pub fn push(s: State, v: usize, value: bool) -> Moved
 // The last assigned variable, of byte b, is undone.
 pub fn pop(s: State, b: u8) -> Moved
     requires { ⌜ (0 < s .length) × (s .length ≤ max-variables) × Numbered b ⌝ }
-    ensures { λ r. ⌜ (applied s r ≡ popped s b) × (r .at < max-variables) ⌝ }
+    ensures { λ r. ⌜ Moves s r (popped s b) ⌝ }
 {
     let at = s.length - 1;
     let a = s.assignment;

@@ -4,6 +4,7 @@ use mathlib.Core.List.{List, [], _++_, append-assoc, append-nil}
 use mathlib.Core.Path.{_≡_, refl, sym, ap, ap₂, _∙_}
 use native.Mathlib.Omega.{arith}
 use lib.ListN.{length, length-append}
+use Rattle.walk.specs.Gaps.{ample-budget}
 use Rattle.walk.specs.PlainMachine.{Answer, found, spent, ended}
 use Rattle.walk.specs.InnerStack.{empty, Tree}
 use Rattle.walk.specs.InnerMachine.{Position, down, resume}
@@ -14,7 +15,7 @@ use Rattle.enumeration.specs.declared.state.State.{State}
 use Rattle.enumeration.specs.InnerState.{position-at, position-in, Holds, Ran, ending-as}
 use Rattle.enumeration.specs.InnerRead.{Node}
 use Rattle.writing.specs.Placed.{Room, Wrote}
-use Rattle.printing.specs.Printed.{model-line, end-line, more-line, call-lines, max-models, line-budget}
+use Rattle.printing.specs.Printed.{model-line, end-line, more-line, call-lines, max-models}
 use Rattle.printing.specs.InnerLines.{lines-from}
 use Rattle.writing.proofs.PlacedLaws.{placed-none, wrote-more}
 
@@ -51,16 +52,16 @@ module _ (n s e : ℕ) (rest : List ℕ) where
 
 -- one call in front
 lines-next : (K : Tree) (n left : ℕ) (p : Position) → 0 < left
-    → (let q = resume K line-budget p in lines-from K n left p ≡ call-lines n (q .answer) (q .steps) (q .expansions) (lines-from K n (left - 1) (q .position)))
+    → (let q = resume K ample-budget p in lines-from K n left p ≡ call-lines n (q .answer) (q .steps) (q .expansions) (lines-from K n (left - 1) (q .position)))
 unfolding lines-from
 lines-next K n zero p h = absurd (omega arith)
 lines-next K n (suc j) p h = let e : suc j - 1 ≡ j = omega arith in rw e
 
-module _ (K : Tree) (n left : ℕ) (s : State) (r : Run) (R : Ran K r (resume K line-budget (position-in s))) (some : 0 < left) where
+module _ (K : Tree) (n left : ℕ) (s : State) (r : Run) (R : Ran K r (resume K ample-budget (position-in s))) (some : 0 < left) where
   -- by how the run ended
   lines-ending : lines-from K n left (position-in s) ≡ ending-lines n (r .steps) (r .expansions) (lines-from K n (left - 1) (position-in (r .state))) (r .ending)
   lines-ending =
-      let q = resume K line-budget (position-in s) in
+      let q = resume K ample-budget (position-in s) in
       lines-next K n left (position-in s) some ∙ rw (R .ending, R .steps, R .expansions, R .position) (call-ending n (q .steps) (q .expansions) _ (q .answer))
 
   pub lines-model : (m : ℕ) → r .ending ≡ Model m

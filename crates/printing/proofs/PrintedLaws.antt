@@ -24,13 +24,14 @@ use Rattle.matching.specs.Search.{Outcome, success, failure, outcome}
 use Rattle.matching.proofs.Theorems.{success-matches, failure-few, pigeonhole}
 use Rattle.matched.specs.Pairing.{Pairs}
 use Rattle.matched.proofs.PairingLaws.{masks-words, matches-pairs, pairs-matches}
+use Rattle.walk.specs.Gaps.{ample-budget}
 use Rattle.walk.specs.PlainMachine.{Answer, found, spent, ended, plain-call, plain-calls, state-after}
 use Rattle.walk.specs.WalkCall.{says-model, says-ended, kind-of, plain-result}
 use Rattle.walk.specs.Gaps.{gap-after, gaps-from, gaps, PacedLater, Paced}
 use Rattle.walk.proofs.Demands.{demand-3}
 use Rattle.walk.proofs.FormulaLaws.{call-plain, last-plain}
 use Rattle.printing.specs.Printing.{max-input, max-model-line, max-print}
-use Rattle.printing.specs.Printed.{header, model-line, more-line, refused-line, call-lines, max-models, line-budget, walk-lines, outcome-lines, decoding-lines, printed}
+use Rattle.printing.specs.Printed.{header, model-line, more-line, refused-line, call-lines, max-models, walk-lines, outcome-lines, decoding-lines, printed}
 use Rattle.printing.proofs.LineLaws.{header-length, model-line-length, end-line-length, refused-line-length}
 
 -- ---- the lines of a walk
@@ -39,18 +40,18 @@ use Rattle.printing.proofs.LineLaws.{header-length, model-line-length, 
 module _ (n B : ℕ) (cs : List (List Literal)) (few : n ≤ max-variables) (cheap : n * B < 10 ^ 7) where
   -- the walk calls from k entries behind, j of them on a line's budget
   abbrev from : ℕ → ℕ → List ℕ → Type 0
-  from j k x = PacedLater n B x (gaps (map (plain-result n cs) (plain-calls n cs k (replicate j line-budget))))
+  from j k x = PacedLater n B x (gaps (map (plain-result n cs) (plain-calls n cs k (replicate j ample-budget))))
 
   -- after a model
   later-short : (j k : ℕ) (x : List ℕ) → from j k x → length (walk-lines n cs j k) ≤ max-model-line * j + length more-line
   unfolding walk-lines plain-calls gaps-from
   later-short zero k x p = omega arith
   later-short (suc j) k x p =
-      let c = plain-call n cs line-budget k in
+      let c = plain-call n cs ample-budget k in
       go (c .answer) (c .steps) (c .expansions) (c .behind) _ p (later-short j (c .behind))
     where
       go : (a : Answer) (s e b : ℕ) (bytes : List ℕ)
-          → PacedLater n B x (gap-after (kind-of a) (0 + s) (0 + e) bytes (λ c′ e′. gaps-from c′ e′ (map (plain-result n cs) (plain-calls n cs b (replicate j line-budget)))))
+          → PacedLater n B x (gap-after (kind-of a) (0 + s) (0 + e) bytes (λ c′ e′. gaps-from c′ e′ (map (plain-result n cs) (plain-calls n cs b (replicate j ample-budget)))))
           → ((y : List ℕ) → from j b y → length (walk-lines n cs j b) ≤ max-model-line * j + length more-line)
           → length (call-lines n a s e (walk-lines n cs j b)) ≤ max-model-line * suc j + length more-line
       go (found a) s e b bytes p ih =
@@ -61,15 +62,15 @@ module _ (n B : ℕ) (cs : List (List Literal)) (few : n ≤ max-variables) (che
       go ended s e b bytes p ih = let l = end-line-length s e (omega (arith, p .0)) (omega (arith, p .1)) in omega arith
 
   -- from the start
-  first-short : (j k : ℕ) → Paced n B (gaps (map (plain-result n cs) (plain-calls n cs k (replicate j line-budget)))) → length (walk-lines n cs j k) ≤ max-model-line * j + length more-line
+  first-short : (j k : ℕ) → Paced n B (gaps (map (plain-result n cs) (plain-calls n cs k (replicate j ample-budget)))) → length (walk-lines n cs j k) ≤ max-model-line * j + length more-line
   unfolding walk-lines plain-calls gaps-from
   first-short zero k p = omega arith
   first-short (suc j) k p =
-      let c = plain-call n cs line-budget k in
+      let c = plain-call n cs ample-budget k in
       go (c .answer) (c .steps) (c .expansions) (c .behind) _ p
     where
       go : (a : Answer) (s e b : ℕ) (bytes : List ℕ)
-          → Paced n B (gap-after (kind-of a) (0 + s) (0 + e) bytes (λ c′ e′. gaps-from c′ e′ (map (plain-result n cs) (plain-calls n cs b (replicate j line-budget)))))
+          → Paced n B (gap-after (kind-of a) (0 + s) (0 + e) bytes (λ c′ e′. gaps-from c′ e′ (map (plain-result n cs) (plain-calls n cs b (replicate j ample-budget)))))
           → length (call-lines n a s e (walk-lines n cs j b)) ≤ max-model-line * suc j + length more-line
       go (found a) s e b bytes p =
           let i = later-short j b bytes (p .2) in
@@ -110,7 +111,7 @@ walk-short s n cs vs e w j =
     let z = accepted-only s n cs e .sized in
     let m = clauses-few n cs vs z w in
     let c = cost n (length cs) (z .most) (omega (arith, z .most)) in
-    let d = demand-3 s n cs e vs w (replicate j line-budget) in
+    let d = demand-3 s n cs e vs w (replicate j ample-budget) in
     first-short n (n * length cs * (length cs + 1)) cs (z .most) (omega arith) j 0 (rw (d .plain) at (d .paced))
 
 -- a refusal's place is within the input
@@ -163,11 +164,11 @@ not-spent a (inr h) e = let z : _≡_ {A = ℕ} 0 1 = cc in omega arith
 
 -- after j calls on a line's budget, the next one on it brings a model or the end
 pub never-spent : (s : List ℕ) (n : ℕ) (cs : List (List Literal)) (vs : List ℕ) → decode s ≡ readable n cs → Pairs cs vs → (j : ℕ)
-    → plain-call n cs line-budget (state-after n cs 0 (replicate j line-budget)) .answer ≡ spent → ⊥
-never-spent s n cs vs e w j = not-spent (plain-call n cs line-budget (state-after n cs 0 (replicate j line-budget)) .answer) (rw (call-plain s n cs e m bs line-budget) at (rw (last-plain s n cs e m bs) at (demand-3 s n cs e vs w bs .ample line-budget (omega arith))))
+    → plain-call n cs ample-budget (state-after n cs 0 (replicate j ample-budget)) .answer ≡ spent → ⊥
+never-spent s n cs vs e w j = not-spent (plain-call n cs ample-budget (state-after n cs 0 (replicate j ample-budget)) .answer) (rw (call-plain s n cs e m bs ample-budget) at (rw (last-plain s n cs e m bs) at (demand-3 s n cs e vs w bs .ample ample-budget (omega arith))))
   where
     bs : List ℕ
-    bs = replicate j line-budget
+    bs = replicate j ample-budget
 
     m : Matched (map variables cs)
     m = (vs, pairs-matches cs vs w)

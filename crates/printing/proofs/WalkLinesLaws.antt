@@ -8,6 +8,7 @@ use Rattle.formula.specs.Format.{Literal}
 use Rattle.formula.specs.Masked.{variables}
 use Rattle.formula.proofs.Demands.{accepted-only}
 use Rattle.matching.specs.Matched.{Matched}
+use Rattle.walk.specs.Gaps.{ample-budget}
 use Rattle.walk.specs.Checkpoints.{Checkpoint, start, checkpoint-after}
 use Rattle.walk.specs.PlainMachine.{Answer, found, spent, ended, plain-call, plain-calls}
 use Rattle.walk.specs.InnerStack.{empty, Tree, tree}
@@ -18,7 +19,7 @@ use Rattle.walk.proofs.RestLaws.{Live}
 use Rattle.walk.proofs.CallLaws.{resumes, results}
 use Rattle.walk.proofs.TreeLaws.{live}
 use Rattle.walk.proofs.FormulaLaws.{calls-plain, calls-results}
-use Rattle.printing.specs.Printed.{call-lines, line-budget, walk-lines}
+use Rattle.printing.specs.Printed.{call-lines, walk-lines}
 use Rattle.printing.specs.InnerLines.{lines-from, kind-lines, result-lines}
 
 -- one call
@@ -28,31 +29,31 @@ answer-lines n spent s e c rest = refl
 answer-lines n ended s e c rest = refl
 
 -- the plain machine's lines are those of its results
-plain-lines : (n : ℕ) (cs : List (List Literal)) (j k : ℕ) → walk-lines n cs j k ≡ result-lines n (map (plain-result n cs) (plain-calls n cs k (replicate j line-budget)))
+plain-lines : (n : ℕ) (cs : List (List Literal)) (j k : ℕ) → walk-lines n cs j k ≡ result-lines n (map (plain-result n cs) (plain-calls n cs k (replicate j ample-budget)))
 unfolding walk-lines result-lines plain-calls
 plain-lines n cs zero k = refl
 plain-lines n cs (suc j) k =
-    let c = plain-call n cs line-budget k in
+    let c = plain-call n cs ample-budget k in
     ap (call-lines n (c .answer) (c .steps) (c .expansions)) (plain-lines n cs j (c .behind))
     ∙ answer-lines n (c .answer) (c .steps) (c .expansions) (checkpoint-after n cs (c .behind)) _
 
 -- and so for the machine that resumes
-resumed-lines : (K : Tree) (L : Live K) (n j : ℕ) (p : Position) → lines-from K n j p ≡ result-lines n (results K L p (replicate j line-budget))
+resumed-lines : (K : Tree) (L : Live K) (n j : ℕ) (p : Position) → lines-from K n j p ≡ result-lines n (results K L p (replicate j ample-budget))
 unfolding lines-from result-lines resumes
 resumed-lines K L n zero p = refl
 resumed-lines K L n (suc j) p =
-    let r = resume K line-budget p in
+    let r = resume K ample-budget p in
     ap (call-lines n (r .answer) (r .steps) (r .expansions)) (resumed-lines K L n j (r .position))
     ∙ answer-lines n (r .answer) (r .steps) (r .expansions) (shown (r .position)) _
 
 module _ (s : List ℕ) (n : ℕ) (cs : List (List Literal)) (reads : decode s ≡ readable n cs) (M : Matched (map variables cs)) where
   -- the lines are those of walk calls on a line's budget, from the start on
-  pub lines-calls : (j : ℕ) → walk-lines n cs j 0 ≡ result-lines n (walk-calls s start (replicate j line-budget))
-  lines-calls j = plain-lines n cs j 0 ∙ ap (result-lines n) (sym (calls-plain s n cs reads M (replicate j line-budget)))
+  pub lines-calls : (j : ℕ) → walk-lines n cs j 0 ≡ result-lines n (walk-calls s start (replicate j ample-budget))
+  lines-calls j = plain-lines n cs j 0 ∙ ap (result-lines n) (sym (calls-plain s n cs reads M (replicate j ample-budget)))
 
   -- and of the machine that resumes
   pub lines-resumed : (j : ℕ) → walk-lines n cs j 0 ≡ lines-from (tree n cs) n j (down empty)
   lines-resumed j =
       lines-calls j
-      ∙ ap (result-lines n) (calls-results s n cs reads M (replicate j line-budget))
+      ∙ ap (result-lines n) (calls-results s n cs reads M (replicate j ample-budget))
       ∙ sym (resumed-lines (tree n cs) (live n cs (accepted-only s n cs reads .sized) M) n j (down empty))

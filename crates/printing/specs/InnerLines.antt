@@ -2,6 +2,7 @@
 use Prim.Native.Nat.{ℕ, zero, suc}
 use mathlib.Core.Path.{_≡_}
 use mathlib.Core.List.{List, [], _∷_, _++_}
+use Rattle.walk.specs.Gaps.{ample-budget}
 use Rattle.walk.specs.InnerStack.{empty, Tree}
 use Rattle.walk.specs.InnerMachine.{Position, down, resume}
 use Rattle.walk.specs.WalkCall.{Kind, says-model, says-spent, says-ended, says-refused, Result}
@@ -11,14 +12,14 @@ use Rattle.formula.specs.Format.{Literal}
 use Rattle.formula.specs.Masked.{formula-of, FormulaFits}
 use Rattle.enumeration.specs.InnerState.{Follows}
 use Rattle.writing.specs.Placed.{Room}
-use Rattle.printing.specs.Printed.{model-line, end-line, more-line, call-lines, max-models, line-budget, printed}
+use Rattle.printing.specs.Printed.{model-line, end-line, more-line, call-lines, max-models, printed}
 
 module _ (K : Tree) (n : ℕ) where
   -- from a position, with room for j models more
   unfoldable pub lines-from : ℕ → Position → List ℕ
   lines-from zero p = more-line
   lines-from (suc j) p =
-      let r = resume K line-budget p in
+      let r = resume K ample-budget p in
       call-lines n (r .answer) (r .steps) (r .expansions) (lines-from j (r .position))
 
 -- a formula within the limits, whose choices make a tree; and b has room for its lines from `at` on

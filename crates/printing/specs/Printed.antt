@@ -10,6 +10,7 @@ use Rattle.formula.specs.Masked.{variables}
 use Rattle.formula.specs.Refusals.{listing}
 use Rattle.matching.specs.Search.{Outcome, success, failure, outcome}
 use Rattle.writing.specs.Text.{decimal, digits, line-of}
+use Rattle.walk.specs.Gaps.{ample-budget}
 use Rattle.walk.specs.PlainMachine.{Answer, found, spent, ended, plain-call}
 
 -- the words `switches`, `rules`, `end`, `more`, `refused`
@@ -61,10 +62,6 @@ call-lines n ended steps expansions rest = end-line steps expansions
 abbrev pub max-models : ℕ
 max-models = 1000
 
--- the budget of a line's call: 'A call allowed 96 moves or more brings a set-up or the end.' (demand 3)
-abbrev pub line-budget : ℕ
-line-budget = 96
-
 module _ (n : ℕ) (cs : List (List Literal)) where
   -- The lines with k entries of the plain walk behind and room for j models more. A call of the plain machine on a line's budget goes on
   -- to the next model or to the end, so its steps and expansions are those 'since the line before'. 'After the 1,000th set-up the line
@@ -72,7 +69,7 @@ module _ (n : ℕ) (cs : List (List Literal)) where
   unfoldable pub walk-lines : ℕ → ℕ → List ℕ
   walk-lines zero k = more-line
   walk-lines (suc j) k =
-      let c = plain-call n cs line-budget k in
+      let c = plain-call n cs ample-budget k in
       call-lines n (c .answer) (c .steps) (c .expansions) (walk-lines j (c .behind))
 
 -- a formula that was read: refused by 10 if its clauses can't be matched

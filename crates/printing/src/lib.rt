@@ -92,7 +92,7 @@ fn put_walk(f: Formula, buffer: &mut [u8], at: usize) -> usize
     let mut next = at;
     let mut left: usize = MAX_MODELS;
     while 0 < left {
-        let r = enumeration::go_on(f, s, LINE_BUDGET);
+        let r = enumeration::go_on(f, s, enumeration::AMPLE_BUDGET);
         let ending = r.ending;
         match ending {
             Ending::Ended => return put_end_line(r.steps, r.expansions, buffer, next),

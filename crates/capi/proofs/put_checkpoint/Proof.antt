@@ -3,6 +3,7 @@ use mathlib.Core.Path.{_≡_, sym, ap, _∙_}
 use native.Mathlib.Omega.{arith}
 use lib.ListN.{length, length-set}
 use borrow.Author.Needs.{needs}
+use Rattle.limits.specs.Limits.{max-variables}
 use Rattle.capi.proofs.SliceLaws.{written, room}
 use Rattle.capi.proofs.put_checkpoint.Statement.{statement}
 use Rattle.capi.proofs.put_checkpoint.Tie as tie
@@ -30,21 +31,23 @@ copy-requires c κs =
     let a = c .before .before .before .before in
     room (a .args .checkpoint .now) (a .args .c .bytes) _ _ (a .pre) (sym (slice-aggregate-copy (c .before)))
 
+-- the entry of the function, from its end
+abbrev entry : tie.After-slice-known2 → tie.Start
+entry c = c .before .before .before .before .before .before .before
+
 -- the trail fills what lies behind the first two
-trail-length :
-    (c : tie.After-slice-known2) →
-    length (c .before .before .before .before .before .before .before .args .c .bytes) ≡ 48
+trail-length : (c : tie.After-slice-known2) → length (entry c .args .c .bytes) ≡ max-variables
 trail-length c = sym (slice-aggregate-copy (c .before .before .before .before))
 
 returns : tie.Need-returns
 returns c =
-    let a = c .before .before .before .before .before .before .before in
+    let a = entry c in
     written (a .args .checkpoint .now) (a .args .c .bytes) _ _ _ (a .pre) (trail-length c)
     (c .before .before .copy .ensures .1)
 
 same-length : tie.Need-same-length
 same-length c =
-    let a = c .before .before .before .before .before .before .before in
+    let a = entry c in
     let l = trail-length c in
     ap length (returns c) ∙ omega (arith, a .pre)
 

@@ -5,12 +5,13 @@ use mathlib.Core.Path.{_≡_, refl, sym, _∙_}
 use native.Mathlib.Omega.{arith}
 use borrow.Author.Needs.{needs}
 use lib.ListN.{length}
+use Rattle.walk.specs.Gaps.{ample-budget}
 use Rattle.walk.specs.InnerStack.{Tree}
 use Rattle.walk.specs.InnerMachine.{resume}
 use Rattle.enumeration.specs.declared.steps.Ending.the-variants.{Model, Ended}
 use Rattle.enumeration.specs.InnerState.{position-in, Follows, Ran}
 use Rattle.writing.specs.Placed.{Room}
-use Rattle.printing.specs.Printed.{model-line, end-line, more-line, line-budget}
+use Rattle.printing.specs.Printed.{model-line, end-line, more-line}
 use Rattle.printing.specs.InnerLines.{lines-from}
 use Rattle.printing.proofs.GoingLaws.{Going, going-first, lines-model, lines-end, lines-spent, lines-more, going-room, going-more, going-last, going-stop}
 use Rattle.writing.proofs.PlacedLaws.{wrote-length}
@@ -39,7 +40,7 @@ go-on-requires c κs =
     (v .fits, record { tree = v .tree; follows = v .follows; holds = c .before .loop .inv .1 (v .tree) (v .follows) .holds })
 
 -- what a run gives
-ran : (g : tie.After-go-on Inv-loop μ-loop) (K : Tree) → (let l = g .before .before in Follows (l .before .before .before .args .f) K → Ran K (g .go-on .result) (resume K line-budget (position-in (l .loop .s))))
+ran : (g : tie.After-go-on Inv-loop μ-loop) (K : Tree) → (let l = g .before .before in Follows (l .before .before .before .args .f) K → Ran K (g .go-on .result) (resume K ample-budget (position-in (l .loop .s))))
 ran g K F = g .go-on .ensures K F (g .before .before .loop .inv .1 K F .holds)
 
 -- room for the end's line

@@ -18,14 +18,14 @@ entry c = c .before .before .before .before
 
 -- the choice is the tree's
 choice : (c : tie.After-pick) (K : Tree) → Follows (entry c .args .f) K → Holds K (entry c .args .s) → c .pick .result .choice ≡ K .choose (stack-in (entry c .args .s))
-choice c K F h = choice-is _ K F _ h (c .before .if1 .left) _ (c .pick .ensures .0)
+choice c K F h = choice-is _ K F _ h (c .before .if1 .left) _ (c .pick .ensures .choice)
 
 -- there is room, and the chosen variable is low
 short : (c : tie.After-pick) → entry c .args .s .length < max-variables
 short c = let l = valid-short _ _ (entry c .pre .1) (c .before .if1 .left) in omega (arith, entry c .pre .0 .most)
 
 low : (c : tie.After-pick) → c .pick .result .choice .variable < max-variables
-low c = let l = valid-low _ _ (entry c .pre .1) (c .before .if1 .left) _ (c .pick .ensures .0) in omega (arith, entry c .pre .0 .most)
+low c = let l = valid-low _ _ (entry c .pre .1) (c .before .if1 .left) _ (c .pick .ensures .choice) in omega (arith, entry c .pre .0 .most)
 
 unknown-requires : tie.Need-unknown-requires
 unknown-requires c κs = search needs
@@ -67,16 +67,16 @@ push-requires c κs =
     (low p, omega arith)
 
 apply-requires : tie.Need-apply-requires
-apply-requires c κs = c .push .ensures .1
+apply-requires c κs = c .push .ensures .inside
 
 returns-3 : tie.Need-returns-3
 returns-3 c =
     λ K F h.
     let n = c .before .before .before in
     let p = n .before .before .before .before .before in
-    replayed-chosen _ K F _ h (p .before .if1 .left) _ (choice p K F h) _ _ true _ _ (p .pick .ensures .1 .1 K F h)
+    replayed-chosen _ K F _ h (p .before .if1 .left) _ (choice p K F h) _ _ true _ _ (p .pick .ensures .right K F h)
     (let e = n .before .before .before .number-of .ensures in let q = n .before .if2 .left in omega arith) (le-leb _ _ (c .before .before .if3 .taken))
-    (c .apply .ensures ∙ c .before .push .ensures .0 ∙ ap (λ (u : State). pushing u (p .pick .result .choice .variable) true) (n .note .ensures))
+    (c .apply .ensures ∙ c .before .push .ensures .state ∙ ap (λ (u : State). pushing u (p .pick .result .choice .variable) true) (n .note .ensures))
 
 push-requires-2 : tie.Need-push-requires-2
 push-requires-2 c κs =
@@ -86,16 +86,16 @@ push-requires-2 c κs =
     (low p, omega arith)
 
 apply-requires-2 : tie.Need-apply-requires-2
-apply-requires-2 c κs = c .push2 .ensures .1
+apply-requires-2 c κs = c .push2 .ensures .inside
 
 returns-4 : tie.Need-returns-4
 returns-4 c =
     λ K F h.
     let n = c .before .before .before in
     let p = n .before .before .before .before .before in
-    replayed-chosen _ K F _ h (p .before .if1 .left) _ (choice p K F h) _ _ false _ _ (p .pick .ensures .1 .1 K F h)
+    replayed-chosen _ K F _ h (p .before .if1 .left) _ (choice p K F h) _ _ false _ _ (p .pick .ensures .right K F h)
     (let e = n .before .before .before .number-of .ensures in let q = n .before .if2 .left in omega arith) (lt-leb _ _ (c .before .before .if3 .left))
-    (c .apply2 .ensures ∙ c .before .push2 .ensures .0 ∙ ap (λ (u : State). pushing u (p .pick .result .choice .variable) false) (n .note .ensures))
+    (c .apply2 .ensures ∙ c .before .push2 .ensures .state ∙ ap (λ (u : State). pushing u (p .pick .result .choice .variable) false) (n .note .ensures))
 
 pub replay-byte-spec : {M : Type 1} → statement M
 replay-byte-spec =

@@ -16,7 +16,7 @@ entry c = c .before .before .before .before .before
 
 -- the choice is the tree's
 choice : (c : tie.After-pick-by-clauses) (K : Tree) → Follows (entry c .args .f) K → Holds K (entry c .args .s) → c .pick-by-clauses .result .choice ≡ K .choose (stack-in (entry c .args .s))
-choice c K F h = choice-is _ K F _ h (c .before .before .if1 .left) _ (c .pick-by-clauses .ensures .0)
+choice c K F h = choice-is _ K F _ h (c .before .before .if1 .left) _ (c .pick-by-clauses .ensures .choice)
 
 unknown-requires : tie.Need-unknown-requires
 unknown-requires c κs = search needs

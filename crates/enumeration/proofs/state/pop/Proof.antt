@@ -30,7 +30,7 @@ without-requires c κs = let k = high c in omega arith
 returns : tie.Need-returns
 returns c =
     let a = c .before .before .before .before in
-    (rw (lt-ltb 128 (a .args .b) (c .before .if1 .taken), c .without .ensures), omega (arith, a .pre .1))
+    record { state = rw (lt-ltb 128 (a .args .b) (c .before .if1 .taken), c .without .ensures); inside = omega (arith, a .pre .1) }
 
 sub-v-2 : tie.Need-sub-v-2
 sub-v-2 c = let k = low c in omega arith
@@ -44,7 +44,7 @@ without-requires-2 c κs = let k = low c in omega arith
 returns-2 : tie.Need-returns-2
 returns-2 c =
     let a = c .before .before .before .before in
-    (rw (le-ltb 128 (a .args .b) (c .before .if1 .left), c .without2 .ensures), omega (arith, a .pre .1))
+    record { state = rw (le-ltb 128 (a .args .b) (c .before .if1 .left), c .without2 .ensures); inside = omega (arith, a .pre .1) }
 
 pub pop-spec : {M : Type 1} → statement M
 pop-spec =

@@ -24,7 +24,10 @@ byte-of-requires c κs = search needs
 returns : tie.Need-returns
 returns c =
     let m = c .before in
-    (rw (c .byte-of .ensures, m .mark .ensures, m .before .member .ensures, m .before .before .assign .ensures), m .before .before .before .before .pre .1)
+    record {
+      state = rw (c .byte-of .ensures, m .mark .ensures, m .before .member .ensures, m .before .before .assign .ensures);
+      inside = m .before .before .before .before .pre .1;
+    }
 
 pub push-spec : {M : Type 1} → statement M
 push-spec =
