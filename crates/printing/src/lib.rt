@@ -23,9 +23,6 @@ pub const MAX_MODELS: usize = 1000;
 // The most bytes of a print: its first line, the models, and `more`.
 pub const MAX_PRINT: usize = 21 + MAX_MODELS * (limits::MAX_VARIABLES + 12) + 5;
 
-// The steps that a line's call is allowed: it brings a model or the end.
-const LINE_BUDGET: u32 = 96;
-
 // The first line: the numbers of variables and clauses.
 fn put_header(n: usize, m: usize, buffer: &mut [u8], at: usize) -> usize
     requires { ⌜ Room at (header n m) (now buffer) ⌝ }

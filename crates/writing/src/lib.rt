@@ -42,7 +42,7 @@ pub fn put_decimal(x: u64, buffer: &mut [u8], at: usize) -> usize
 }
 
 // The digit of bit i of a mask.
-fn digit_of(a: u64, i: usize) -> u8
+pub fn digit_of(a: u64, i: usize) -> u8
     requires { ⌜ i < 64 ⌝ }
     ensures { λ r. ⌜ r ≡ digit a i ⌝ }
 {
