@@ -1,7 +1,7 @@
 -- What judge is by what comes of the input, and that it is what the code writes and answers.
 use Prim.Native.Nat.{ℕ, suc, _≤_, _<_}
 use mathlib.Core.List.{List, map}
-use mathlib.Core.Path.{_≡_, refl, ap, _∙_}
+use mathlib.Core.Path.{_≡_, refl, sym, ap, _∙_}
 use native.Mathlib.Omega.{arith}
 use lib.ListN.{length, take}
 use borrow.Author.Tests.{le-ltb, lt-ltb}
@@ -16,9 +16,13 @@ use Rattle.formula.specs.Format.{Literal}
 use Rattle.matched.specs.declared.Accepted.{Accepted}
 use Rattle.matched.specs.Acceptance.{Acceptance, accepted, declined, acceptance}
 use Rattle.matched.specs.InnerAccept.{row-of, Represents}
-use Rattle.matched.specs.Judge.{Judged, accepted-values, refused-values, judgement-of, judge}
+use Rattle.matched.specs.Judge.{Answer, Judged, accepted-values, refused-values, judgement-of, judge}
 use Rattle.matched.specs.Pairing.{Pairs, Pairable, Violator, marked}
 use Rattle.matched.proofs.AcceptanceLaws.{accepted-is, accepted-pairable, pairable-accepted, unpaired-declined, declined-number}
+
+-- the parts of what judge is
+pub told : {j : Judged} {a : Answer} {row left : List ℕ} → j ≡ record { answer = a; buffer = row } → left ≡ row → (a ≡ j .answer) × (left ≡ j .buffer)
+told e w = (ap (λ (j : Judged). j .answer) (sym e), w ∙ ap (λ (j : Judged). j .buffer) (sym e))
 
 pub judge-short : (s b : List ℕ) → length b < max-clauses → judge s b ≡ record { answer = refused-values (ShortBuffer 0); buffer = b }
 unfolding judge

@@ -29,17 +29,10 @@ pub record Fitting (f : Formula) (at : ℕ) (b : List ℕ) : Type 0 where
   pub follows : Follows f tree
   pub room : Room at (lines-from tree (f .variables) max-models (down empty)) b
 
--- s encodes the formula
-pub record Reads (s : List ℕ) (f : Formula) : Type 0 where
-  pub variables : ℕ
-  pub clauses : List (List Literal)
-  pub reads : decode s ≡ readable variables clauses
-  pub formula : f ≡ formula-of variables clauses
-
--- some input does, and b has room for its print
+-- an accepted input has this formula, and b has room for its print
 pub record Printable (f : Formula) (b : List ℕ) : Type 0 where
   pub input : List ℕ
-  pub reads : Reads input f
+  pub takes : Takes input f
   pub room : Room 0 (printed input) b
 
 -- the line of a result, and then the rest

@@ -3,14 +3,11 @@ use Prim.Native.Nat.{ℕ, zero, suc}
 use mathlib.Core.List.{List, [], _∷_, _++_, map}
 use lib.ListN.{length}
 use Rattle.formula.specs.declared.Refusal.{Refusal}
-use Rattle.formula.specs.declared.Refusal.the-variants.{Unmatched}
-use Rattle.formula.specs.Decode.{Decoding, readable, refused, decode}
-use Rattle.formula.specs.Format.{Literal}
-use Rattle.formula.specs.Masked.{variables}
 use Rattle.formula.specs.Refusals.{listing}
-use Rattle.matching.specs.Search.{Outcome, success, failure, outcome}
 use Rattle.writing.specs.Text.{decimal, digits, line-of}
 use Rattle.walk.specs.Gaps.{ample-budget}
+use Rattle.matched.specs.Acceptance.{Acceptance, accepted, declined, acceptance}
+use Rattle.walk.specs.Task.{Task, whole}
 use Rattle.walk.specs.PlainMachine.{Answer, found, spent, ended, plain-call}
 
 -- the words `switches`, `rules`, `end`, `more`, `refused`
@@ -52,7 +49,7 @@ refused-line number place = line-of (refused-word ∷ decimal number ∷ decimal
 abbrev pub refusal-line : Refusal → List ℕ
 refusal-line r = refused-line (listing r .number) (listing r .place)
 
--- What a call prints, and then the rest. A call that says spent would print nothing: on a line's budget none does.
+-- What a call prints, and then the rest. A call that says spent would print nothing: on an ample budget none does.
 abbrev pub call-lines : ℕ → Answer → ℕ → ℕ → List ℕ → List ℕ
 call-lines n (found a) steps expansions rest = model-line n a steps expansions ++ rest
 call-lines n spent steps expansions rest = []
@@ -62,25 +59,20 @@ call-lines n ended steps expansions rest = end-line steps expansions
 abbrev pub max-models : ℕ
 max-models = 1000
 
-module _ (n : ℕ) (cs : List (List Literal)) where
-  -- The lines with k entries of the plain walk behind and room for j models more. A call of the plain machine on a line's budget goes on
-  -- to the next model or to the end, so its steps and expansions are those 'since the line before'. 'After the 1,000th set-up the line
-  -- `more` stands alone instead, even if that set-up was the last.'
-  unfoldable pub walk-lines : ℕ → ℕ → List ℕ
-  walk-lines zero k = more-line
-  walk-lines (suc j) k =
-      let c = plain-call n cs ample-budget k in
-      call-lines n (c .answer) (c .steps) (c .expansions) (walk-lines j (c .behind))
+-- The lines with k entries of the plain walk behind and room for j models more. A call of the plain machine on an ample budget goes on
+-- to the next model or to the end, so its steps and expansions are those 'since the line before'. 'After the 1,000th set-up the line
+-- `more` stands alone instead, even if that set-up was the last.'
+unfoldable pub walk-lines : Task → ℕ → ℕ → List ℕ
+walk-lines T zero k = more-line
+walk-lines T (suc j) k =
+    let c = plain-call T ample-budget k in
+    call-lines (T .variables) (c .answer) (c .steps) (c .expansions) (walk-lines T j (c .behind))
 
--- a formula that was read: refused by 10 if its clauses can't be matched
-abbrev pub outcome-lines : ℕ → List (List Literal) → Outcome → List ℕ
-outcome-lines n cs (success vs e) = header n (length cs) ++ walk-lines n cs max-models 0
-outcome-lines n cs (failure taken e) = refusal-line (Unmatched (length taken))
-
-abbrev pub decoding-lines : Decoding → List ℕ
-decoding-lines (readable n cs) = outcome-lines n cs (outcome (map variables cs))
-decoding-lines (refused r) = refusal-line r
+-- the first line and the walk of an accepted input, or its refusal
+abbrev pub acceptance-lines : Acceptance → List ℕ
+acceptance-lines (accepted n cs row) = header n (length cs) ++ walk-lines (whole n cs) max-models 0
+acceptance-lines (declined r row) = refusal-line r
 
 -- what is printed for the bytes of an input
 unfoldable pub printed : List ℕ → List ℕ
-printed s = decoding-lines (decode s)
+printed s = acceptance-lines (acceptance s)

@@ -3,10 +3,11 @@ ghost use mathlib.Core.Path.{_≡_};
 ghost use mathlib.Core.List.{List};
 ghost use Prim.Native.Nat.{ℕ, _≤_};
 ghost use Rattle.writing.specs.Placed.{Room, Wrote};
+ghost use Rattle.matched.proofs.AcceptLaws.{Takes};
 ghost use Rattle.walk.specs.InnerStack.{empty, Tree};
 ghost use Rattle.walk.specs.InnerMachine.{down};
 ghost use Rattle.enumeration.specs.InnerState.{Follows};
-ghost use Rattle.printing.specs.InnerLines.{lines-from, Fitting, Reads, Printable};
+ghost use Rattle.printing.specs.InnerLines.{lines-from, Fitting, Printable};
 ghost use Rattle.printing.specs.Printing.{printing};
 ghost use Rattle.printing.specs.Printed.{header, model-line, end-line, more-line, refusal-line, max-models, printed};
 use enumeration::Ending;
@@ -104,17 +105,13 @@ fn put_walk(f: Formula, buffer: &mut [u8], at: usize) -> usize
     put_more_line(buffer, next)
 }
 
-// The print of a formula that was read.
+// The print of an accepted formula: the first line and the walk.
 fn put_formula(f: Formula, buffer: &mut [u8]) -> usize
     requires { ⌜ Printable f (now buffer) ⌝ }
-    ensures { λ r. ⌜ ((s : List ℕ) → Reads s f → Wrote (printed s) 0 (now (buffer .entry)) (now (buffer .exit)) r) ⌝ }
+    ensures { λ r. ⌜ ((s : List ℕ) → Takes s f → Wrote (printed s) 0 (now (buffer .entry)) (now (buffer .exit)) r) ⌝ }
 {
-    let m = matched::match_formula(f);
-    if m.complete {
-        let next = put_header(f.variables, f.count, buffer, 0);
-        return put_walk(f, buffer, next);
-    }
-    put_refusal_line(Refusal::Unmatched(m.marked), buffer, 0)
+    let next = put_header(f.variables, f.count, buffer, 0);
+    put_walk(f, buffer, next)
 }
 
 // Prints the walk of an input (01), or its refusal, into the first bytes of the buffer, and answers how many these are.
@@ -127,12 +124,12 @@ pub fn print(input: &[u8], buffer: &mut [u8]) -> usize
     if MAX_INPUT < input.len() {
         return 0;
     }
-    let d = formula::decode(input);
-    let outcome = d.outcome;
+    let a = matched::accept(input);
+    let outcome = a.outcome;
     match outcome {
         Outcome::Refused(refusal) => put_refusal_line(refusal, buffer, 0),
         Outcome::Accepted => {
-            let f = d.formula;
+            let f = a.formula;
             put_formula(f, buffer)
         }
     }

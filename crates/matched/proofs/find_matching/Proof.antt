@@ -1,21 +1,34 @@
 -- `matched::find_matching` meets its contract: by the buffer's length, then by what comes of the input.
 use borrow.Author.Needs.{needs}
-use mathlib.Core.Path.{sym, ap, _∙_}
-use Rattle.matched.specs.Judge.{Judged}
+use native.Mathlib.Omega.{arith}
+use mathlib.Core.Path.{refl}
 use Rattle.matched.proofs.AcceptanceLaws.{row-few}
-use Rattle.matched.proofs.JudgeLaws.{judge-short, accepted-judged, refused-judged}
+use Rattle.matched.proofs.JudgeLaws.{told, judge-short, accepted-judged, refused-judged}
 use Rattle.matched.proofs.find_matching.Statement.{statement}
 use Rattle.matched.proofs.find_matching.Tie as tie
 
--- the place after accept, where the table is written
+-- the place after accept
 abbrev accepting : tie.After-slice-known2 → tie.After-accept
 accepting c = c .before .before .before .before .before
 
+-- ---- what is answered
+
 returns : tie.Need-returns
-returns c =
-    let start = c .before .before .before in
-    let e = judge-short (start .args .input .now) (start .args .buffer .now) (c .if1 .taken) in
-    (ap (λ (j : Judged). j .answer) (sym e), ap (λ (j : Judged). j .buffer) (sym e))
+returns c = let start = c .before .before .before in told (judge-short (start .args .input .now) (start .args .buffer .now) (omega arith)) refl
+
+returns-2 : tie.Need-returns-2
+returns-2 c =
+    let after = c .before .before .before in
+    let a = accepting after in
+    told (refused-judged _ _ (a .before .if1 .left) (a .accept .result) _ (a .accept .ensures) (c .before .outcome .given .1)) (after .before .before .write .ensures)
+
+returns-3 : tie.Need-returns-3
+returns-3 c =
+    let after = c .before .before .before in
+    let a = accepting after in
+    told (accepted-judged _ _ (a .before .if1 .left) (a .accept .result) (a .accept .ensures) (c .before .enum-told .given .1)) (after .before .before .write .ensures)
+
+-- ---- what is asked on the way
 
 accept-requires : tie.Need-accept-requires
 accept-requires c κs = search needs
@@ -32,22 +45,8 @@ enum-told c = search needs
 same-length : tie.Need-same-length
 same-length c = search needs
 
-returns-2 : tie.Need-returns-2
-returns-2 c =
-    let after = c .before .before .before in
-    let a = accepting after in
-    let e = refused-judged _ _ (a .before .if1 .left) (a .accept .result) _ (a .accept .ensures) (c .before .outcome .given .1) in
-    (ap (λ (j : Judged). j .answer) (sym e), after .before .before .write .ensures ∙ ap (λ (j : Judged). j .buffer) (sym e))
-
 same-length-2 : tie.Need-same-length-2
 same-length-2 c = search needs
-
-returns-3 : tie.Need-returns-3
-returns-3 c =
-    let after = c .before .before .before in
-    let a = accepting after in
-    let e = accepted-judged _ _ (a .before .if1 .left) (a .accept .result) (a .accept .ensures) (c .before .enum-told .given .1) in
-    (ap (λ (j : Judged). j .answer) (sym e), after .before .before .write .ensures ∙ ap (λ (j : Judged). j .buffer) (sym e))
 
 pub find-matching-spec : {M : Type 1} → statement M
 find-matching-spec =

@@ -16,9 +16,10 @@ match-sets-requires c κs = rw (c .before .gather .ensures) (sets-clauses (c .be
 
 returns : tie.Need-returns
 returns c =
-    c .match-sets .ensures
-    ∙ ap (λ l. packed (c .before .before .before .args .f .count) (outcome l))
-    (ap (take (c .before .before .before .args .f .count)) (c .before .before .gather .ensures) ∙ sets-taken (c .before .before .before .args .f) (c .before .before .before .pre))
+    let gather = c .before .before .gather in
+    let start = c .before .before .before in
+    let f = start .args .f in
+    c .match-sets .ensures ∙ ap (λ l. packed (f .count) (outcome l)) (ap (take (f .count)) (gather .ensures) ∙ sets-taken f (start .pre))
 
 pub match-formula-spec : {M : Type 1} → statement M
 match-formula-spec = tie.close (tie.spec gather-requires match-sets-requires returns)
