@@ -8,7 +8,7 @@ use Rattle.limits.specs.Limits.{max-variables}
 use Rattle.formula.specs.declared.Formula.{Formula}
 use Rattle.formula.specs.declared.Refusal.the-variants.{ForeignCheckpoint}
 use Rattle.matched.proofs.AcceptanceLaws.{accepted-is}
-use Rattle.matched.proofs.AcceptLaws.{Takes}
+use Rattle.matched.specs.InnerAccept.{Takes}
 use Rattle.walk.specs.Task.{whole}
 use Rattle.walk.specs.Checkpoints.{Checkpoint}
 use Rattle.walk.specs.InnerStack.{Tree, tree}

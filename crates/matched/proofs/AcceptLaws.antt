@@ -24,25 +24,15 @@ use Rattle.matching.proofs.MatchedLaws.{length-marks}
 use Rattle.matching.proofs.Theorems.{success-matches}
 use Rattle.matched.specs.declared.Accepted.{Accepted}
 use Rattle.matched.specs.Acceptance.{Acceptance, accepted, declined, by-outcome, formula-acceptance, acceptance}
-use Rattle.matched.specs.InnerAccept.{Represents}
+use Rattle.matched.specs.InnerAccept.{Represents, Takes}
 use Rattle.matched.proofs.AcceptanceLaws.{accepted-is, unreadable-declined}
 use Rattle.matched.proofs.GatherLaws.{sets, sets-length, sets-words, formula-sets}
 use Rattle.matched.proofs.PairingLaws.{masks-words}
 
 -- ---- what the contract says
 
--- of an accepted input: its formula in masks
-pub record Takes (s : List ℕ) (f : Formula) : Type 0 where
-  pub variables : ℕ
-  pub clauses : List (List Literal)
-  pub row : List ℕ
-  pub accepts : acceptance s ≡ accepted variables clauses row
-  pub reads : decode s ≡ readable variables clauses
-  pub formula : f ≡ formula-of variables clauses
-  pub sized : Sized variables clauses
-  pub fits : FormulaFits f
-
 module _ (s : List ℕ) (r : Accepted) where
+  -- of an accepted input: its formula
   pub accept-accepted : Represents (acceptance s) r → r .outcome ≡ outcomes.Accepted → Takes s (r .formula)
   accept-accepted w o = by (acceptance s) refl w
     where

@@ -8,9 +8,11 @@ use Rattle.lists.specs.Padded.{padded}
 use Rattle.formula.specs.declared.Formula.{Formula}
 use Rattle.formula.specs.declared.Outcome.{Outcome}
 use Rattle.formula.specs.declared.Outcome.the-variants as outcomes
-use Rattle.formula.specs.Masked.{formula-of}
+use Rattle.formula.specs.Decode.{readable, decode}
+use Rattle.formula.specs.Format.{Literal, Sized}
+use Rattle.formula.specs.Masked.{formula-of, FormulaFits}
 use Rattle.matched.specs.declared.Accepted.{Accepted}
-use Rattle.matched.specs.Acceptance.{Acceptance, accepted, declined}
+use Rattle.matched.specs.Acceptance.{Acceptance, accepted, declined, acceptance}
 
 abbrev pub outcome-of : Acceptance → Outcome
 outcome-of (accepted n cs row) = outcomes.Accepted
@@ -30,3 +32,14 @@ pub record Represents (a : Acceptance) (r : Accepted) : Type 0 where
   pub formula : HasClauses a (r .formula)
   pub length : r .length ≡ length (row-of a)
   pub table : r .table ≡ padded max-clauses 0 (row-of a)
+
+-- the input is accepted, and f is its formula in masks
+pub record Takes (s : List ℕ) (f : Formula) : Type 0 where
+  pub variables : ℕ
+  pub clauses : List (List Literal)
+  pub row : List ℕ
+  pub accepts : acceptance s ≡ accepted variables clauses row
+  pub reads : decode s ≡ readable variables clauses
+  pub formula : f ≡ formula-of variables clauses
+  pub sized : Sized variables clauses
+  pub fits : FormulaFits f

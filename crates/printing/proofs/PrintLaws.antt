@@ -1,7 +1,7 @@
--- What is printed, by the reader's answer and by the matching.
+-- What is printed, by what comes of the input; and the act.
 use Prim.Native.Nat.{ℕ, _+_, _≤_, _<_}
-use mathlib.Core.Bool.{Bool, cond, true, false, true≢false, false≢true}
-use mathlib.Core.List.{List, _++_, map}
+use mathlib.Core.Bool.{Bool, cond, true, false}
+use mathlib.Core.List.{List, _++_}
 use mathlib.Core.Path.{_≡_, refl, sym, ap, _∙_}
 use native.Mathlib.Omega.{arith}
 use lib.Dec.{ltb}
@@ -11,84 +11,33 @@ use Rattle.lists.specs.Over.{over}
 use Rattle.lists.proofs.OverLaws.{over-length}
 use Rattle.formula.specs.declared.Formula.{Formula}
 use Rattle.formula.specs.declared.Refusal.{Refusal}
-use Rattle.formula.specs.declared.Refusal.the-variants.{Unmatched}
-use Rattle.formula.specs.Decode.{refused, decode}
-use Rattle.formula.specs.Format.{Literal, Sized}
-use Rattle.formula.specs.Masked.{variables, FormulaFits}
-use Rattle.formula.proofs.Demands.{accepted-only}
-use Rattle.formula.proofs.MaskedLaws.{formula-fits, Accepts}
-use Rattle.matching.specs.declared.Matching.{Matching}
-use Rattle.matching.specs.Result.{packed}
-use Rattle.matching.specs.Search.{Outcome, success, failure, outcome, succeeds}
-use Rattle.matching.proofs.Theorems.{succeeds-matched}
-use Rattle.matched.specs.InnerGather.{sets-of}
-use Rattle.matched.proofs.PairingLaws.{masks-words}
-use Rattle.walk.specs.InnerStack.{empty, tree}
+use Rattle.matched.specs.Acceptance.{declined, acceptance}
+use Rattle.matched.specs.InnerAccept.{Takes}
+use Rattle.walk.specs.InnerStack.{empty}
 use Rattle.walk.specs.InnerMachine.{down}
-use Rattle.enumeration.specs.InnerState.{Follows}
-use Rattle.enumeration.proofs.WalkLaws.{packed-is, succeeds-is, complete-follows}
+use Rattle.enumeration.proofs.EnterLaws.{tree-of}
 use Rattle.writing.specs.Placed.{Wrote}
-use Rattle.printing.specs.Printed.{header, refusal-line, max-models, walk-lines, outcome-lines, decoding-lines, printed}
-use Rattle.printing.specs.InnerLines.{lines-from, Reads}
+use Rattle.printing.specs.Printed.{header, refusal-line, max-models, acceptance-lines, printed}
+use Rattle.printing.specs.InnerLines.{lines-from}
 use Rattle.printing.specs.Printing.{max-input, max-print, Printing, unwritten, printing}
 use Rattle.printing.proofs.PrintedLaws.{printed-length}
 use Rattle.printing.proofs.WalkLinesLaws.{lines-resumed}
 
 -- a refused input
-pub refused-prints : (s : List ℕ) (r : Refusal) → decode s ≡ refused r → printed s ≡ refusal-line r
+pub declined-prints : (s : List ℕ) (r : Refusal) (row : List ℕ) → acceptance s ≡ declined r row → printed s ≡ refusal-line r
 unfolding printed
-refused-prints s r e = ap decoding-lines e
+declined-prints s r row e = ap acceptance-lines e
 
--- an accepted one
-pub accepts-reads : (s : List ℕ) (f : Formula) → Accepts s f → Reads s f
-accepts-reads s f a = record { variables = a .variables; clauses = a .clauses; reads = a .reads; formula = a .formula }
-
--- by the matching's outcome
-success-lines : (n : ℕ) (cs : List (List Literal)) (o : Outcome) → succeeds o ≡ true → outcome-lines n cs o ≡ header n (length cs) ++ walk-lines n cs max-models 0
-success-lines n cs (success vs e) t = refl
-success-lines n cs (failure taken e) t = absurd (false≢true t)
-
-failure-lines : (n k : ℕ) (cs : List (List Literal)) (o : Outcome) → packed k o .complete ≡ false → outcome-lines n cs o ≡ refusal-line (Unmatched (packed k o .marked))
-unfolding packed
-failure-lines n k cs (success vs e) t = absurd (true≢false t)
-failure-lines n k cs (failure taken e) t = refl
-
-module _ (s : List ℕ) (f : Formula) (R : Reads s f) where
-  sized : Sized (R .variables) (R .clauses)
-  sized = accepted-only s (R .variables) (R .clauses) (R .reads) .sized
-
-  pub reads-fits : FormulaFits f
-  reads-fits = rw (R .formula) (formula-fits sized)
-
-  printed-outcome : printed s ≡ outcome-lines (R .variables) (R .clauses) (outcome (map variables (R .clauses)))
-  unfolding printed
-  printed-outcome = ap decoding-lines (R .reads)
-
-  module _ (m : Matching) (e : m ≡ packed (f .count) (outcome (sets-of (f .clauses) (f .count)))) where
-    -- complete: the formula's choices make its tree
-    pub matched-follows : m .complete ≡ true → Follows f (tree (R .variables) (R .clauses))
-    matched-follows t = complete-follows f m e (R .variables) (R .clauses) (R .formula) sized t
-
-    -- and the lines of its walk are printed
-    pub matched-prints : m .complete ≡ true
-        → printed s ≡ header (f .variables) (f .count) ++ lines-from (tree (R .variables) (R .clauses)) (f .variables) max-models (down empty)
-    matched-prints t =
-        let n = R .variables in
-        let cs = R .clauses in
-        let a = succeeds-is f m e n cs (R .formula) sized t in
-        printed-outcome
-        ∙ success-lines n cs (outcome (map variables cs)) a
-        ∙ ap (λ (l : List ℕ). header n (length cs) ++ l) (lines-resumed s n cs (R .reads) (succeeds-matched (map variables cs) (masks-words sized) a) max-models)
-        ∙ ap (λ (g : Formula). header (g .variables) (g .count) ++ lines-from (tree n cs) (g .variables) max-models (down empty)) (sym (R .formula))
-
-    -- not complete: the refusal
-    pub unmatched-prints : m .complete ≡ false → printed s ≡ refusal-line (Unmatched (m .marked))
-    unmatched-prints t =
-        let o = outcome (map variables (R .clauses)) in
-        let p = packed-is f m e (R .variables) (R .clauses) (R .formula) sized in
-        printed-outcome
-        ∙ failure-lines (R .variables) (f .count) (R .clauses) o (sym (ap (λ (x : Matching). x .complete) p) ∙ t)
-        ∙ ap (λ (x : Matching). refusal-line (Unmatched (x .marked))) (sym p)
+-- an accepted one: the lines of its walk
+pub accepted-prints : (s : List ℕ) (f : Formula) (w : Takes s f)
+    → printed s ≡ header (f .variables) (f .count) ++ lines-from (tree-of s f w) (f .variables) max-models (down empty)
+unfolding printed
+accepted-prints s f w =
+    let n = w .variables in
+    let cs = w .clauses in
+    ap acceptance-lines (w .accepts)
+    ∙ ap (λ (l : List ℕ). header n (length cs) ++ l) (lines-resumed s n cs (w .row) (w .accepts) max-models)
+    ∙ ap (λ (g : Formula). header (g .variables) (g .count) ++ lines-from (tree-of s f w) (g .variables) max-models (down empty)) (sym (w .formula))
 
 -- ---- the act
 

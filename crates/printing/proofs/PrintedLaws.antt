@@ -36,46 +36,46 @@ use Rattle.printing.proofs.LineLaws.{header-length, model-line-length, 
 
 -- ---- the lines of a walk
 
--- n variables, at most B expansions for one assignment
-module _ (n B : ℕ) (cs : List (List Literal)) (few : n ≤ max-variables) (cheap : n * B < 10 ^ 7) where
+-- m variables to assign of at most 48, at most B expansions for one assignment
+module _ (T : Task) (m B : ℕ) (few : T .variables ≤ max-variables) (fewer : m ≤ max-variables) (cheap : m * B < 10 ^ 7) where
   -- the walk calls from k entries behind, j of them on a line's budget
   abbrev from : ℕ → ℕ → List ℕ → Type 0
-  from j k x = PacedLater n B x (gaps (map (plain-result n cs) (plain-calls n cs k (replicate j ample-budget))))
+  from j k x = PacedLater m B x (gaps (map (plain-result T) (plain-calls T k (replicate j ample-budget))))
 
   -- after a model
-  later-short : (j k : ℕ) (x : List ℕ) → from j k x → length (walk-lines n cs j k) ≤ max-model-line * j + length more-line
+  later-short : (j k : ℕ) (x : List ℕ) → from j k x → length (walk-lines T j k) ≤ max-model-line * j + length more-line
   unfolding walk-lines plain-calls gaps-from
   later-short zero k x p = omega arith
   later-short (suc j) k x p =
-      let c = plain-call n cs ample-budget k in
+      let c = plain-call T ample-budget k in
       go (c .answer) (c .steps) (c .expansions) (c .behind) _ p (later-short j (c .behind))
     where
       go : (a : Answer) (s e b : ℕ) (bytes : List ℕ)
-          → PacedLater n B x (gap-after (kind-of a) (0 + s) (0 + e) bytes (λ c′ e′. gaps-from c′ e′ (map (plain-result n cs) (plain-calls n cs b (replicate j ample-budget)))))
-          → ((y : List ℕ) → from j b y → length (walk-lines n cs j b) ≤ max-model-line * j + length more-line)
-          → length (call-lines n a s e (walk-lines n cs j b)) ≤ max-model-line * suc j + length more-line
+          → PacedLater m B x (gap-after (kind-of a) (0 + s) (0 + e) bytes (λ c′ e′. gaps-from c′ e′ (map (plain-result T) (plain-calls T b (replicate j ample-budget)))))
+          → ((y : List ℕ) → from j b y → length (walk-lines T j b) ≤ max-model-line * j + length more-line)
+          → length (call-lines (T .variables) a s e (walk-lines T j b)) ≤ max-model-line * suc j + length more-line
       go (found a) s e b bytes p ih =
           let i = ih bytes (p .3) in
-          let l = model-line-length n a s e few (omega (arith, p .1)) (omega (arith, p .2)) in
-          rw (length-append (model-line n a s e) (walk-lines n cs j b)) (omega arith)
+          let l = model-line-length (T .variables) a s e few (omega (arith, p .1)) (omega (arith, p .2)) in
+          rw (length-append (model-line (T .variables) a s e) (walk-lines T j b)) (omega arith)
       go spent s e b bytes p ih = omega arith
       go ended s e b bytes p ih = let l = end-line-length s e (omega (arith, p .0)) (omega (arith, p .1)) in omega arith
 
   -- from the start
-  first-short : (j k : ℕ) → Paced n B (gaps (map (plain-result n cs) (plain-calls n cs k (replicate j ample-budget)))) → length (walk-lines n cs j k) ≤ max-model-line * j + length more-line
+  first-short : (j k : ℕ) → Paced m B (gaps (map (plain-result T) (plain-calls T k (replicate j ample-budget)))) → length (walk-lines T j k) ≤ max-model-line * j + length more-line
   unfolding walk-lines plain-calls gaps-from
   first-short zero k p = omega arith
   first-short (suc j) k p =
-      let c = plain-call n cs ample-budget k in
+      let c = plain-call T ample-budget k in
       go (c .answer) (c .steps) (c .expansions) (c .behind) _ p
     where
       go : (a : Answer) (s e b : ℕ) (bytes : List ℕ)
-          → Paced n B (gap-after (kind-of a) (0 + s) (0 + e) bytes (λ c′ e′. gaps-from c′ e′ (map (plain-result n cs) (plain-calls n cs b (replicate j ample-budget)))))
-          → length (call-lines n a s e (walk-lines n cs j b)) ≤ max-model-line * suc j + length more-line
+          → Paced m B (gap-after (kind-of a) (0 + s) (0 + e) bytes (λ c′ e′. gaps-from c′ e′ (map (plain-result T) (plain-calls T b (replicate j ample-budget)))))
+          → length (call-lines (T .variables) a s e (walk-lines T j b)) ≤ max-model-line * suc j + length more-line
       go (found a) s e b bytes p =
           let i = later-short j b bytes (p .2) in
-          let l = model-line-length n a s e few (omega (arith, p .0)) (omega (arith, p .1)) in
-          rw (length-append (model-line n a s e) (walk-lines n cs j b)) (omega arith)
+          let l = model-line-length (T .variables) a s e few (omega (arith, p .0)) (omega (arith, p .1)) in
+          rw (length-append (model-line (T .variables) a s e) (walk-lines T j b)) (omega arith)
       go spent s e b bytes p = omega arith
       go ended s e b bytes p = absurd p
 
@@ -105,14 +105,15 @@ clauses-few n cs vs z w =
 cost : (n m : ℕ) → n ≤ max-variables → m ≤ max-variables → n * (n * m * (m + 1)) ≤ 5419008
 cost n m h k = let l : m + 1 ≤ 49 = omega arith in let c = mul-le-mul h (mul-le-mul (mul-le-mul h k) l) in omega arith
 
-walk-short : (s : List ℕ) (n : ℕ) (cs : List (List Literal)) (vs : List ℕ) → decode s ≡ readable n cs → Pairs cs vs → (j : ℕ)
-    → length (walk-lines n cs j 0) ≤ max-model-line * j + length more-line
-walk-short s n cs vs e w j =
-    let z = accepted-only s n cs e .sized in
-    let m = clauses-few n cs vs z w in
-    let c = cost n (length cs) (z .most) (omega (arith, z .most)) in
-    let d = demand-3 s n cs e vs w (replicate j ample-budget) in
-    first-short n (n * length cs * (length cs + 1)) cs (z .most) (omega arith) j 0 (rw (d .plain) at (d .paced))
+walk-short : (s : List ℕ) (n : ℕ) (cs : List (List Literal)) (w : Accepted s n cs) (j : ℕ)
+    → length (walk-lines (whole n cs) j 0) ≤ max-model-line * j + length more-line
+walk-short s n cs w j =
+    let z = w .sized in
+    let m = clauses-few n cs (w .vs) z (w .pairs) in
+    let t = whole-size n cs (omega (arith, z .most)) in
+    let c = cost (to-assign (whole n cs)) (length cs) (omega (arith, z .most)) (omega (arith, z .most)) in
+    let d = demand-3 s n cs (w .reads) (w .vs) (w .pairs) (replicate j ample-budget) in
+    first-short (whole n cs) (to-assign (whole n cs)) (step-bound (whole n cs)) (z .most) (omega (arith, z .most)) (omega arith) j 0 (rw (d .plain) at (d .paced))
 
 -- a refusal's place is within the input
 place-le : {len at : ℕ} {b : Beginning} {s : List ℕ} {r : Refusal} → Given len at b s r → len ≡ at + length s → listing r .place ≤ len
@@ -135,26 +136,22 @@ refused-short s r e h =
 -- the most bytes that are printed, 60,026
 pub printed-length : (s : List ℕ) → length s ≤ max-input → length (printed s) ≤ max-print
 unfolding printed
-printed-length s h = go (decode s) refl
+printed-length s h = go (acceptance s) refl
   where
-    walked : (n : ℕ) (cs : List (List Literal)) → decode s ≡ readable n cs → (o : Outcome) → outcome (map variables cs) ≡ o → length (outcome-lines n cs o) ≤ max-print
-    walked n cs e (success vs x) q =
-        let z = accepted-only s n cs e .sized in
-        let w = matches-pairs cs vs (success-matches (map variables cs) vs x (masks-words z) q) in
-        let m = clauses-few n cs vs z w in
+    walked : (n : ℕ) (cs : List (List Literal)) → Accepted s n cs → length (header n (length cs) ++ walk-lines (whole n cs) max-models 0) ≤ max-print
+    walked n cs w =
+        let z = w .sized in
+        let m = clauses-few n cs (w .vs) z (w .pairs) in
         let a = header-length n (length cs) (omega (arith, z .most)) (omega (arith, z .most)) in
-        let b = walk-short s n cs vs e w max-models in
-        rw (length-append (header n (length cs)) (walk-lines n cs max-models 0)) (omega arith)
-    walked n cs e (failure taken x) q =
-        let z = accepted-only s n cs e .sized in
-        let f = failure-few (map variables cs) taken x (masks-words z) q in
-        let m : length (map variables cs) ≡ length cs = length-map cs variables in
-        let a = refused-line-length 10 (length taken) (omega arith) (omega (arith, z .few)) in
-        omega arith
+        let b = walk-short s n cs w max-models in
+        rw (length-append (header n (length cs)) (walk-lines (whole n cs) max-models 0)) (omega arith)
 
-    go : (d : Decoding) → decode s ≡ d → length (decoding-lines d) ≤ max-print
-    go (readable n cs) e = walked n cs e (outcome (map variables cs)) refl
-    go (refused r) e = let a = refused-short s r e h in omega arith
+    refused-within : (r : Refusal) (row : List ℕ) → acceptance s ≡ declined r row → length (refusal-line r) ≤ max-print
+    refused-within r row e = ?
+
+    go : (a : Acceptance) → acceptance s ≡ a → length (acceptance-lines a) ≤ max-print
+    go (accepted n cs row) e = walked n cs (accepted-is s n cs row e)
+    go (declined r row) e = refused-within r row e
 
 -- ---- no call of the print says spent
 
@@ -162,13 +159,24 @@ not-spent : (a : Answer) → (kind-of a ≡ says-model) ⊎ (kind-of a ≡ says-
 not-spent a (inl h) e = let z : _≡_ {A = ℕ} 0 1 = cc in omega arith
 not-spent a (inr h) e = let z : _≡_ {A = ℕ} 0 1 = cc in omega arith
 
--- after j calls on a line's budget, the next one on it brings a model or the end
+-- after j calls on an ample budget, the next one on it brings a model or the end
 pub never-spent : (s : List ℕ) (n : ℕ) (cs : List (List Literal)) (vs : List ℕ) → decode s ≡ readable n cs → Pairs cs vs → (j : ℕ)
-    → plain-call n cs ample-budget (state-after n cs 0 (replicate j ample-budget)) .answer ≡ spent → ⊥
-never-spent s n cs vs e w j = not-spent (plain-call n cs ample-budget (state-after n cs 0 (replicate j ample-budget)) .answer) (rw (call-plain s n cs e m bs ample-budget) at (rw (last-plain s n cs e m bs) at (demand-3 s n cs e vs w bs .ample ample-budget (omega arith))))
+    → plain-call (whole n cs) ample-budget (state-after (whole n cs) 0 (replicate j ample-budget)) .answer ≡ spent → ⊥
+never-spent s n cs vs e w j =
+    not-spent (plain-call T ample-budget (state-after T 0 bs) .answer)
+    (rw (call-plain s T P walks bs ample-budget) at (rw (last-plain s T P walks bs) at (demand-3 s n cs e vs w bs .ample ample-budget (omega arith))))
   where
     bs : List ℕ
     bs = replicate j ample-budget
 
-    m : Matched (map variables cs)
-    m = (vs, pairs-matches cs vs w)
+    T : Task
+    T = whole n cs
+
+    a : (row : List ℕ) × (acceptance s ≡ accepted n cs row)
+    a = pairs-accepted s n cs vs e w
+
+    P : Posed (whole n cs)
+    P = accepted-posed s n cs (a .0) (a .1)
+
+    walks : (c : Checkpoint) (b : ℕ) → walk-call s c b ≡ task-call (whole n cs) c b
+    walks = call-accepted s n cs (a .0) (a .1)

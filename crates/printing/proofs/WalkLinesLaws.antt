@@ -3,22 +3,21 @@ use Prim.Native.Nat.{ℕ, zero, suc}
 use mathlib.Core.List.{List, map}
 use mathlib.Core.Path.{_≡_, refl, sym, ap, _∙_}
 use lib.ListN.{replicate}
-use Rattle.formula.specs.Decode.{readable, decode}
 use Rattle.formula.specs.Format.{Literal}
-use Rattle.formula.specs.Masked.{variables}
-use Rattle.formula.proofs.Demands.{accepted-only}
-use Rattle.matching.specs.Matched.{Matched}
+use Rattle.matched.specs.Acceptance.{accepted, acceptance}
+use Rattle.walk.specs.Task.{Task, whole, Posed}
 use Rattle.walk.specs.Gaps.{ample-budget}
 use Rattle.walk.specs.Checkpoints.{Checkpoint, start, checkpoint-after}
 use Rattle.walk.specs.PlainMachine.{Answer, found, spent, ended, plain-call, plain-calls}
 use Rattle.walk.specs.InnerStack.{empty, Tree, tree}
 use Rattle.walk.specs.InnerMachine.{Position, down, resume}
 use Rattle.walk.specs.InnerTest.{shown}
-use Rattle.walk.specs.WalkCall.{answered, plain-result, walk-calls}
+use Rattle.walk.specs.WalkCall.{answered, plain-result, task-call, walk-call, walk-calls}
 use Rattle.walk.proofs.RestLaws.{Live}
 use Rattle.walk.proofs.CallLaws.{resumes, results}
 use Rattle.walk.proofs.TreeLaws.{live}
 use Rattle.walk.proofs.FormulaLaws.{calls-plain, calls-results}
+use Rattle.walk.proofs.RefusalLaws.{accepted-posed, call-accepted}
 use Rattle.printing.specs.Printed.{call-lines, walk-lines}
 use Rattle.printing.specs.InnerLines.{lines-from, kind-lines, result-lines}
 
@@ -29,13 +28,13 @@ answer-lines n spent s e c rest = refl
 answer-lines n ended s e c rest = refl
 
 -- the plain machine's lines are those of its results
-plain-lines : (n : ℕ) (cs : List (List Literal)) (j k : ℕ) → walk-lines n cs j k ≡ result-lines n (map (plain-result n cs) (plain-calls n cs k (replicate j ample-budget)))
+plain-lines : (T : Task) (j k : ℕ) → walk-lines T j k ≡ result-lines (T .variables) (map (plain-result T) (plain-calls T k (replicate j ample-budget)))
 unfolding walk-lines result-lines plain-calls
-plain-lines n cs zero k = refl
-plain-lines n cs (suc j) k =
-    let c = plain-call n cs ample-budget k in
-    ap (call-lines n (c .answer) (c .steps) (c .expansions)) (plain-lines n cs j (c .behind))
-    ∙ answer-lines n (c .answer) (c .steps) (c .expansions) (checkpoint-after n cs (c .behind)) _
+plain-lines T zero k = refl
+plain-lines T (suc j) k =
+    let c = plain-call T ample-budget k in
+    ap (call-lines (T .variables) (c .answer) (c .steps) (c .expansions)) (plain-lines T j (c .behind))
+    ∙ answer-lines (T .variables) (c .answer) (c .steps) (c .expansions) (checkpoint-after T (c .behind)) _
 
 -- and so for the machine that resumes
 resumed-lines : (K : Tree) (L : Live K) (n j : ℕ) (p : Position) → lines-from K n j p ≡ result-lines n (results K L p (replicate j ample-budget))
@@ -46,14 +45,23 @@ resumed-lines K L n (suc j) p =
     ap (call-lines n (r .answer) (r .steps) (r .expansions)) (resumed-lines K L n j (r .position))
     ∙ answer-lines n (r .answer) (r .steps) (r .expansions) (shown (r .position)) _
 
-module _ (s : List ℕ) (n : ℕ) (cs : List (List Literal)) (reads : decode s ≡ readable n cs) (M : Matched (map variables cs)) where
-  -- the lines are those of walk calls on a line's budget, from the start on
-  pub lines-calls : (j : ℕ) → walk-lines n cs j 0 ≡ result-lines n (walk-calls s start (replicate j ample-budget))
-  lines-calls j = plain-lines n cs j 0 ∙ ap (result-lines n) (sym (calls-plain s n cs reads M (replicate j ample-budget)))
+module _ (s : List ℕ) (n : ℕ) (cs : List (List Literal)) (row : List ℕ) (accepts : acceptance s ≡ accepted n cs row) where
+  abbrev T : Task
+  T = whole n cs
+
+  P : Posed (whole n cs)
+  P = accepted-posed s n cs row accepts
+
+  walks : (c : Checkpoint) (b : ℕ) → walk-call s c b ≡ task-call (whole n cs) c b
+  walks = call-accepted s n cs row accepts
+
+  -- the lines are those of walk calls on an ample budget, from the start on
+  pub lines-calls : (j : ℕ) → walk-lines (whole n cs) j 0 ≡ result-lines n (walk-calls s start (replicate j ample-budget))
+  lines-calls j = plain-lines T j 0 ∙ ap (result-lines n) (sym (calls-plain s T P walks (replicate j ample-budget)))
 
   -- and of the machine that resumes
-  pub lines-resumed : (j : ℕ) → walk-lines n cs j 0 ≡ lines-from (tree n cs) n j (down empty)
+  pub lines-resumed : (j : ℕ) → walk-lines (whole n cs) j 0 ≡ lines-from (tree (whole n cs)) n j (down empty)
   lines-resumed j =
       lines-calls j
-      ∙ ap (result-lines n) (calls-results s n cs reads M (replicate j ample-budget))
-      ∙ sym (resumed-lines (tree n cs) (live n cs (accepted-only s n cs reads .sized) M) n j (down empty))
+      ∙ ap (result-lines n) (calls-results s T P walks (replicate j ample-budget))
+      ∙ sym (resumed-lines (tree T) (live T P) n j (down empty))

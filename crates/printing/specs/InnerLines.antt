@@ -10,6 +10,7 @@ use Rattle.formula.specs.declared.Formula.{Formula}
 use Rattle.formula.specs.Decode.{readable, decode}
 use Rattle.formula.specs.Format.{Literal}
 use Rattle.formula.specs.Masked.{formula-of, FormulaFits}
+use Rattle.matched.specs.InnerAccept.{Takes}
 use Rattle.enumeration.specs.InnerState.{Follows}
 use Rattle.writing.specs.Placed.{Room}
 use Rattle.printing.specs.Printed.{model-line, end-line, more-line, call-lines, max-models, printed}

@@ -3,7 +3,7 @@ ghost use mathlib.Core.Path.{_≡_};
 ghost use mathlib.Core.List.{List};
 ghost use Prim.Native.Nat.{ℕ, _≤_};
 ghost use Rattle.writing.specs.Placed.{Room, Wrote};
-ghost use Rattle.matched.proofs.AcceptLaws.{Takes};
+ghost use Rattle.matched.specs.InnerAccept.{Takes};
 ghost use Rattle.walk.specs.InnerStack.{empty, Tree};
 ghost use Rattle.walk.specs.InnerMachine.{down};
 ghost use Rattle.enumeration.specs.InnerState.{Follows};

@@ -6,7 +6,8 @@ use borrow.Author.Needs.{needs}
 use lib.ListN.{length}
 use Rattle.limits.specs.Limits.{max-variables}
 use Rattle.formula.specs.declared.Refusal.{Refusal}
-use Rattle.matched.proofs.AcceptLaws.{Takes, accept-accepted, accept-refused}
+use Rattle.matched.specs.InnerAccept.{Takes}
+use Rattle.matched.proofs.AcceptLaws.{accept-accepted, accept-refused}
 use Rattle.walk.specs.WalkCall.{refusing}
 use Rattle.walk.proofs.RefusalLaws.{call-declined}
 use Rattle.enumeration.specs.Values.{checkpoint-values}
