@@ -26,7 +26,7 @@ use Rattle.matched.specs.Pairing.{Pairs, Pairable, Violator, marked}
 use Rattle.matched.proofs.PairingLaws.{masks-words, matches-pairs, pairs-matches}
 
 -- what an accepted input is
-pub record Accepted (s : List ℕ) (n : ℕ) (cs : List (List Literal)) (row : List ℕ) : Type 0 where
+pub record AcceptedInput (s : List ℕ) (n : ℕ) (cs : List (List Literal)) (row : List ℕ) : Type 0 where
   pub reads : decode s ≡ readable n cs
   pub sized : Sized n cs
   pub vs : List ℕ
@@ -67,10 +67,10 @@ module _ (s : List ℕ) where
       by (readable n cs) reads = at n cs reads (outcome (map variables cs)) refl
       by (refused r) e = unreadable r e
 
-  pub accepted-is : (n : ℕ) (cs : List (List Literal)) (row : List ℕ) → acceptance s ≡ accepted n cs row → Accepted s n cs row
+  pub accepted-is : (n : ℕ) (cs : List (List Literal)) (row : List ℕ) → acceptance s ≡ accepted n cs row → AcceptedInput s n cs row
   accepted-is n cs row = by comes
     where
-      by : {a : Acceptance} → Comes s a → a ≡ accepted n cs row → Accepted s n cs row
+      by : {a : Acceptance} → Comes s a → a ≡ accepted n cs row → AcceptedInput s n cs row
       by (paired k ds vs reads w) q =
           let a : k ≡ n = cc in
           let b : ds ≡ cs = cc in

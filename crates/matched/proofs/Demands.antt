@@ -32,7 +32,7 @@ unreadable s b r l e = judge-declined s b l r [] (unreadable-declined s r e)
 pub acceptance-exactly : (s : List ℕ) → ((n : ℕ) × (cs : List (List Literal)) × (row : List ℕ) × (acceptance s ≡ accepted n cs row)) ↔ Pairable s
 acceptance-exactly s = (λ a. accepted-pairable s (a .0) (a .1) (a .2) (a .3), λ w. (w .variables, w .clauses, pairable-accepted s w .0, pairable-accepted s w .1))
 
--- and judge then refuses by no number
+-- and judge refuses by no number exactly then
 pub accepted-exactly : (s b : List ℕ) → max-clauses ≤ length b → (judge s b .answer .number ≡ 0) ↔ Pairable s
 accepted-exactly s b l = (numberless-pairable s b l, λ w. ap (λ (j : Judged). j .answer .number) (pairable-judged s b l w .2))
 

@@ -28,16 +28,16 @@ pub judge-short : (s b : List ℕ) → length b < max-clauses → judge s b ≡ 
 unfolding judge
 judge-short s b l = rw (lt-ltb (length b) max-clauses l)
 
+-- the table's first bytes are the row
+row-taken : (a : Acceptance) (r : Accepted) → Represents a r → take (r .length) (r .table) ≡ row-of a
+row-taken a r w = rw (w .length, w .table) (take-padded max-clauses 0 (row-of a))
+
 module _ (s b : List ℕ) (l : max-clauses ≤ length b) where
   judge-long : judge s b ≡ judgement-of (acceptance s) b
   unfolding judge
   judge-long = rw (le-ltb (length b) max-clauses l)
 
   -- ---- the code
-
-  -- the table's first bytes are the row
-  row-taken : (a : Acceptance) (r : Accepted) → Represents a r → take (r .length) (r .table) ≡ row-of a
-  row-taken a r w = rw (w .length, w .table) (take-padded max-clauses 0 (row-of a))
 
   pub accepted-judged : (r : Accepted) → Represents (acceptance s) r → r .outcome ≡ outcomes.Accepted
       → judge s b ≡ record { answer = accepted-values (r .formula .variables) (r .formula .count); buffer = over (take (r .length) (r .table)) b }

@@ -27,6 +27,7 @@ abbrev pub HasClauses : Acceptance → Formula → Type 0
 HasClauses (accepted n cs row) f = f ≡ formula-of n cs
 HasClauses (declined r row) f = Unit {0}
 
+-- r holds what comes of an input: the row stands in its table, and zeros after it
 pub record Represents (a : Acceptance) (r : Accepted) : Type 0 where
   pub outcome : r .outcome ≡ outcome-of a
   pub formula : HasClauses a (r .formula)

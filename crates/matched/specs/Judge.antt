@@ -41,7 +41,7 @@ abbrev pub judgement-of : Acceptance → List ℕ → Judged
 judgement-of (accepted n cs row) buffer = record { answer = accepted-values n (length cs); buffer = over row buffer }
 judgement-of (declined r row) buffer = record { answer = refused-values r; buffer = over row buffer }
 
--- a buffer that has no byte for each of 96 clauses is short
+-- a buffer below 96 bytes is short
 unfoldable pub judge : List ℕ → List ℕ → Judged
 judge s buffer =
     cond (ltb (length buffer) max-clauses) (record { answer = refused-values (ShortBuffer 0); buffer = buffer })

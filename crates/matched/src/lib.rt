@@ -1,4 +1,5 @@
-// The act judge (01): whether an encoded formula is matched, and the matching or a violator in a lent buffer.
+// What comes of an encoded formula: whether it is matched, and the matching or a violator. The act judge (01), which writes these into
+// a lent buffer.
 ghost use mathlib.Core.List.{List, map};
 ghost use mathlib.Core.Path.{_≡_};
 ghost use Prim.Native.Nat.{ℕ, suc, _<_, _≤_};
