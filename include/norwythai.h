@@ -120,9 +120,9 @@ uint32_t norwythai_walk(const uint8_t *input, size_t input_length, uint8_t *chec
 /*
  * The next models, as many as there is room for: what a list of walk calls of budget 96 gives, in one call.
  * Reads the input and the checkpoint; writes the models from the front of `models`, the results, and over the checkpoint the one to
- * go on from. It stops when `models` is full (NORWYTHAI_MODEL), at the end (NORWYTHAI_ENDED), or at a refusal, which leaves the
- * checkpoint as it was. What stands behind the last model written does not change. `models_length` may be any number; with 0 it makes
- * one walk call of budget 0 (NORWYTHAI_SPENT, or NORWYTHAI_ENDED from a checkpoint at the end, or a refusal).
+ * go on from. It stops when `models` is full (NORWYTHAI_MODEL), at the end (NORWYTHAI_ENDED), or at a refusal, which brings no model
+ * and leaves the checkpoint as it was. What stands behind the last model written does not change. `models_length` may be any number;
+ * with 0 it makes one walk call of budget 0 (NORWYTHAI_SPENT, or NORWYTHAI_ENDED from a checkpoint at the end, or a refusal).
  */
 uint32_t norwythai_list(const uint8_t *input, size_t input_length, uint8_t *checkpoint, size_t checkpoint_length,
                         uint64_t *models, size_t models_length, uint64_t *results, size_t results_length);
