@@ -1,6 +1,6 @@
 -- How long the whole print is, and that no call that it makes says spent.
 use Prim.Native.Nat.{ℕ, zero, suc, _+_, _*_, _^_, _≤_, _<_}
-use mathlib.Core.List.{List, [], _∷_, map}
+use mathlib.Core.List.{List, [], _∷_, _++_, map}
 use mathlib.Core.Logic.{_⊎_, inl, inr}
 use mathlib.Core.Path.{_≡_, refl, ap, _∙_}
 use native.Mathlib.Nat.{mul-le-mul}
@@ -12,26 +12,31 @@ use Rattle.limits.specs.Limits.{max-variables}
 use Rattle.lists.proofs.EveryLaws.{every-getD}
 use Rattle.masks.proofs.SizeLaws.{size-le}
 use Rattle.formula.specs.declared.Refusal.{Refusal}
-use Rattle.formula.specs.Decode.{Decoding, readable, refused, decode}
+use Rattle.formula.specs.declared.Refusal.the-variants.{Unmatched}
+use Rattle.formula.specs.Decode.{readable, refused, decode}
 use Rattle.formula.specs.Format.{Literal, ClauseOver, Sized}
 use Rattle.formula.specs.Masked.{variables}
 use Rattle.formula.specs.Refusals.{listing}
 use Rattle.formula.specs.Table.{Beginning, written, Given, no-kind, kind-unknown, kind-misplaced, no-body, count-bad, variable-unknown, variable-repeated, clause-extra, byte-extra}
 use Rattle.formula.proofs.ClauseLaws.{variables-lt}
 use Rattle.formula.proofs.Demands.{accepted-only, refused-only, numbers}
-use Rattle.matching.specs.Matched.{Matched, union}
-use Rattle.matching.specs.Search.{Outcome, success, failure, outcome}
-use Rattle.matching.proofs.Theorems.{success-matches, failure-few, pigeonhole}
-use Rattle.matched.specs.Pairing.{Pairs}
-use Rattle.matched.proofs.PairingLaws.{masks-words, matches-pairs, pairs-matches}
-use Rattle.walk.specs.Gaps.{ample-budget}
+use Rattle.matching.specs.Matched.{union}
+use Rattle.matching.proofs.MatchedLaws.{chosen-few}
+use Rattle.matching.proofs.Theorems.{pigeonhole}
+use Rattle.matched.specs.Acceptance.{Acceptance, accepted, declined, acceptance}
+use Rattle.matched.specs.Pairing.{Pairs, marked}
+use Rattle.matched.proofs.AcceptanceLaws.{AcceptedInput, Comes, paired, unpaired, unreadable, comes, accepted-is, pairs-accepted}
+use Rattle.matched.proofs.PairingLaws.{masks-words, pairs-matches}
+use Rattle.walk.specs.Task.{Task, whole, to-assign, Posed}
+use Rattle.walk.specs.Checkpoints.{Checkpoint}
 use Rattle.walk.specs.PlainMachine.{Answer, found, spent, ended, plain-call, plain-calls, state-after}
-use Rattle.walk.specs.WalkCall.{says-model, says-ended, kind-of, plain-result}
-use Rattle.walk.specs.Gaps.{gap-after, gaps-from, gaps, PacedLater, Paced}
-use Rattle.walk.proofs.Demands.{demand-3}
+use Rattle.walk.specs.WalkCall.{says-model, says-ended, kind-of, plain-result, task-call, walk-call}
+use Rattle.walk.specs.Gaps.{ample-budget, step-bound, gap-after, gaps-from, gaps, PacedLater, Paced}
+use Rattle.walk.proofs.Demands.{whole-size, demand-3}
 use Rattle.walk.proofs.FormulaLaws.{call-plain, last-plain}
+use Rattle.walk.proofs.RefusalLaws.{accepted-posed, call-accepted}
 use Rattle.printing.specs.Printing.{max-input, max-model-line, max-print}
-use Rattle.printing.specs.Printed.{header, model-line, more-line, refused-line, call-lines, max-models, walk-lines, outcome-lines, decoding-lines, printed}
+use Rattle.printing.specs.Printed.{header, model-line, more-line, refused-line, refusal-line, call-lines, max-models, walk-lines, acceptance-lines, printed}
 use Rattle.printing.proofs.LineLaws.{header-length, model-line-length, end-line-length, refused-line-length}
 
 -- ---- the lines of a walk
@@ -105,9 +110,9 @@ clauses-few n cs vs z w =
 cost : (n m : ℕ) → n ≤ max-variables → m ≤ max-variables → n * (n * m * (m + 1)) ≤ 5419008
 cost n m h k = let l : m + 1 ≤ 49 = omega arith in let c = mul-le-mul h (mul-le-mul (mul-le-mul h k) l) in omega arith
 
-walk-short : (s : List ℕ) (n : ℕ) (cs : List (List Literal)) (w : Accepted s n cs) (j : ℕ)
+walk-short : (s : List ℕ) (n : ℕ) (cs : List (List Literal)) (row : List ℕ) (w : AcceptedInput s n cs row) (j : ℕ)
     → length (walk-lines (whole n cs) j 0) ≤ max-model-line * j + length more-line
-walk-short s n cs w j =
+walk-short s n cs row w j =
     let z = w .sized in
     let m = clauses-few n cs (w .vs) z (w .pairs) in
     let t = whole-size n cs (omega (arith, z .most)) in
@@ -138,19 +143,29 @@ pub printed-length : (s : List ℕ) → length s ≤ max-input → length (print
 unfolding printed
 printed-length s h = go (acceptance s) refl
   where
-    walked : (n : ℕ) (cs : List (List Literal)) → Accepted s n cs → length (header n (length cs) ++ walk-lines (whole n cs) max-models 0) ≤ max-print
-    walked n cs w =
+    walked : (n : ℕ) (cs : List (List Literal)) (row : List ℕ) → AcceptedInput s n cs row → length (header n (length cs) ++ walk-lines (whole n cs) max-models 0) ≤ max-print
+    walked n cs row w =
         let z = w .sized in
         let m = clauses-few n cs (w .vs) z (w .pairs) in
         let a = header-length n (length cs) (omega (arith, z .most)) (omega (arith, z .most)) in
-        let b = walk-short s n cs w max-models in
+        let b = walk-short s n cs row w max-models in
         rw (length-append (header n (length cs)) (walk-lines (whole n cs) max-models 0)) (omega arith)
 
     refused-within : (r : Refusal) (row : List ℕ) → acceptance s ≡ declined r row → length (refusal-line r) ≤ max-print
-    refused-within r row e = ?
+    refused-within r row = by (comes s)
+      where
+        by : {a : Acceptance} → Comes s a → a ≡ declined r row → length (refusal-line r) ≤ max-print
+        by (paired n cs vs reads w) q = let z : _≡_ {A = ℕ} 0 1 = cc in absurd (omega arith)
+        by (unpaired n cs ms reads v none) q =
+            let e : Unmatched (length (marked ms cs)) ≡ r = cc in
+            let f = accepted-only s n cs reads .sized .few in
+            let k = chosen-few ms (map variables cs) in
+            let l = refused-line-length 10 (length (marked ms cs)) (omega arith) (omega (arith, length-map cs variables)) in
+            rw (← e) (omega arith)
+        by (unreadable t reads) q = let e : t ≡ r = cc in let l = refused-short s t reads h in rw (← e) (omega arith)
 
     go : (a : Acceptance) → acceptance s ≡ a → length (acceptance-lines a) ≤ max-print
-    go (accepted n cs row) e = walked n cs (accepted-is s n cs row e)
+    go (accepted n cs row) e = walked n cs row (accepted-is s n cs row e)
     go (declined r row) e = refused-within r row e
 
 -- ---- no call of the print says spent

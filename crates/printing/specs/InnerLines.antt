@@ -1,15 +1,12 @@
 -- The lines as the code writes them: call after call of the machine that resumes, and as results of walk calls.
 use Prim.Native.Nat.{ℕ, zero, suc}
-use mathlib.Core.Path.{_≡_}
 use mathlib.Core.List.{List, [], _∷_, _++_}
 use Rattle.walk.specs.Gaps.{ample-budget}
 use Rattle.walk.specs.InnerStack.{empty, Tree}
 use Rattle.walk.specs.InnerMachine.{Position, down, resume}
 use Rattle.walk.specs.WalkCall.{Kind, says-model, says-spent, says-ended, says-refused, Result}
 use Rattle.formula.specs.declared.Formula.{Formula}
-use Rattle.formula.specs.Decode.{readable, decode}
-use Rattle.formula.specs.Format.{Literal}
-use Rattle.formula.specs.Masked.{formula-of, FormulaFits}
+use Rattle.formula.specs.Masked.{FormulaFits}
 use Rattle.matched.specs.InnerAccept.{Takes}
 use Rattle.enumeration.specs.InnerState.{Follows}
 use Rattle.writing.specs.Placed.{Room}

@@ -1,6 +1,6 @@
 -- 01, 'The printed walk': what the program prints for an input, byte for byte. Words are lists of ASCII bytes.
 use Prim.Native.Nat.{ℕ, zero, suc}
-use mathlib.Core.List.{List, [], _∷_, _++_, map}
+use mathlib.Core.List.{List, [], _∷_, _++_}
 use lib.ListN.{length}
 use Rattle.formula.specs.declared.Refusal.{Refusal}
 use Rattle.formula.specs.Refusals.{listing}

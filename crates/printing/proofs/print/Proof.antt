@@ -5,12 +5,12 @@ use mathlib.Core.List.{List}
 use Prim.Native.Nat.{ℕ, _≤_}
 use lib.ListN.{length}
 use borrow.Author.Needs.{needs}
-use Rattle.formula.proofs.MaskedLaws.{decoded-accepted, decoded-refused}
+use Rattle.matched.proofs.AcceptLaws.{accept-accepted, accept-refused}
 use Rattle.writing.specs.Placed.{Room}
 use Rattle.printing.specs.Printing.{max-input, max-print}
 use Rattle.printing.specs.Printed.{printed}
 use Rattle.printing.proofs.PrintedLaws.{printed-length}
-use Rattle.printing.proofs.PrintLaws.{refused-prints, accepts-reads, print-short, print-long, print-written}
+use Rattle.printing.proofs.PrintLaws.{declined-prints, print-short, print-long, print-written}
 use Rattle.printing.proofs.print.Statement.{statement}
 use Rattle.printing.proofs.print.Tie as tie
 
@@ -19,7 +19,7 @@ room : (s b : List ℕ) → length s ≤ max-input → max-print ≤ length b �
 room s b h k = let l = printed-length s h in omega arith
 
 -- the entry
-abbrev entry : tie.After-decode → tie.Start
+abbrev entry : tie.After-accept → tie.Start
 entry d = d .before .before .before .before .before
 
 returns : tie.Need-returns
@@ -28,8 +28,8 @@ returns c = let b = c .before .before .before in print-short (b .args .input .no
 returns-2 : tie.Need-returns-2
 returns-2 c = let b = c .before .before .before .before in print-long (b .args .input .now) (b .args .buffer .now) (omega arith) (omega arith)
 
-decode-requires : tie.Need-decode-requires
-decode-requires c κs = search needs
+accept-requires : tie.Need-accept-requires
+accept-requires c κs = search needs
 
 enum-known-outcome : tie.Need-enum-known-outcome
 enum-known-outcome c = search needs
@@ -39,7 +39,7 @@ put-refusal-line-requires c κs =
     let o = c .before .before in
     let d = o .before .before in
     let b = entry d in
-    subst (λ (l : List ℕ). Room 0 l (b .args .buffer .now)) (refused-prints (b .args .input .now) _ (decoded-refused _ _ _ (d .decode .ensures) (o .outcome .given .1)))
+    subst (λ (l : List ℕ). Room 0 l (b .args .buffer .now)) (let w = accept-refused (b .args .input .now) _ _ (d .accept .ensures) (o .outcome .given .1) in declined-prints (b .args .input .now) _ (w .0) (w .1))
     (room (b .args .input .now) (b .args .buffer .now) (omega arith) (omega arith))
 
 enum-told : tie.Need-enum-told
@@ -52,7 +52,7 @@ put-formula-requires c κs =
     let b = entry d in
     record {
       input = b .args .input .now;
-      reads = accepts-reads _ _ (decoded-accepted _ _ (d .decode .ensures) (t .enum-told .given .1));
+      takes = accept-accepted _ _ (d .accept .ensures) (t .enum-told .given .1);
       room = room (b .args .input .now) (b .args .buffer .now) (omega arith) (omega arith);
     }
 
@@ -65,8 +65,8 @@ returns-3 c =
     let o = line .before .before .before in
     let d = o .before .before in
     let b = entry d in
-    let r = decoded-refused (b .args .input .now) _ _ (d .decode .ensures) (o .outcome .given .1) in
-    print-written (b .args .input .now) (b .args .buffer .now) (omega arith) _ _ (omega arith) (rw (refused-prints (b .args .input .now) _ r) (line .put-refusal-line .ensures))
+    let w = accept-refused (b .args .input .now) _ _ (d .accept .ensures) (o .outcome .given .1) in
+    print-written (b .args .input .now) (b .args .buffer .now) (omega arith) _ _ (omega arith) (rw (declined-prints (b .args .input .now) _ (w .0) (w .1)) (line .put-refusal-line .ensures))
 
 same-length-2 : tie.Need-same-length-2
 same-length-2 c = search needs
@@ -77,8 +77,8 @@ returns-4 c =
     let t = lines .before .before .before in
     let d = t .before .before in
     let b = entry d in
-    let a = decoded-accepted (b .args .input .now) _ (d .decode .ensures) (t .enum-told .given .1) in
-    print-written (b .args .input .now) (b .args .buffer .now) (omega arith) _ _ (omega arith) (lines .put-formula .ensures _ (accepts-reads _ _ a))
+    let w = accept-accepted (b .args .input .now) _ (d .accept .ensures) (t .enum-told .given .1) in
+    print-written (b .args .input .now) (b .args .buffer .now) (omega arith) _ _ (omega arith) (lines .put-formula .ensures _ w)
 
 pub print-spec : {M : Type 1} → statement M
 print-spec =
@@ -86,7 +86,7 @@ print-spec =
     (tie.spec
     returns
     returns-2
-    decode-requires
+    accept-requires
     enum-known-outcome
     put-refusal-line-requires
     enum-told
