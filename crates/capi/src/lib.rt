@@ -71,7 +71,7 @@ fn check_row(v: Verdict) -> Row
 }
 
 fn judge_row(j: Judgement) -> Row
-    ensures { λ r. ⌜ numbers r ≡ judge-row (judging.values j) ⌝ }
+    ensures { λ r. ⌜ numbers r ≡ judge-row (judging.judgement-values j) ⌝ }
 {
     match j {
         Judgement::Accepted(n, m) => plain_row(0, 0, n as u64, m as u64),

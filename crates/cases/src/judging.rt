@@ -2,7 +2,7 @@
 ghost use Prim.Native.Nat.{_+_, _≤_};
 ghost use mathlib.Core.Path.{_≡_};
 ghost use lib.ListN.{length, replicate};
-ghost use Rattle.matched.specs.Judge.{values};
+ghost use Rattle.matched.specs.Judge.{judgement-values};
 ghost use Rattle.cases.specs.Judging.{written, judged, alike, judge-agrees};
 use crate::answers::Answer;
 use crate::answers::equal;
@@ -22,7 +22,7 @@ pub struct Judged {
 }
 
 fn answer_of(j: Judgement) -> Answer
-    ensures { λ r. ⌜ r ≡ written (values j) ⌝ }
+    ensures { λ r. ⌜ r ≡ written (judgement-values j) ⌝ }
 {
     match j {
         Judgement::Accepted(n, m) => Answer {
