@@ -1,5 +1,5 @@
 -- 01's marked cases, and some more, computed from the definitions. The statements of the marked ones are in specs/MarkedCases.antt.
-use mathlib.Core.Bool.{true, xor}
+use mathlib.Core.Bool.{xor}
 use Prim.Native.Nat.{ℕ}
 use mathlib.Core.List.{List, [], _∷_, _++_, map}
 use mathlib.Core.Path.{_≡_, refl, ap}
@@ -9,23 +9,24 @@ use Rattle.limits.specs.Limits.{max-clauses}
 use Rattle.lists.specs.Tabulated.{tabulated}
 use Rattle.masks.specs.Mask.{bit, members}
 use Rattle.writing.specs.Text.{line-feed, blank, decimal-within, decimal}
-use Rattle.formula.specs.Decode.{readable, decode, records, read-record}
+use Rattle.formula.specs.Decode.{decode, records, read-record}
 use Rattle.formula.specs.Format.{Literal, names, names-as, literal-bytes, literals-bytes, clause-bytes, clauses-bytes, formula-bytes}
 use Rattle.formula.specs.Masked.{variables}
-use Rattle.formula.proofs.Demands.{accepted-only}
-use Rattle.matching.specs.Search.{owner, no-links, begin, see, scan, take-front, expand, search-from, rematch-from, match-rest, outcome, succeeds, marks}
-use Rattle.matching.proofs.Theorems.{succeeds-matched}
+use Rattle.matching.specs.Search.{owner, no-links, begin, see, scan, take-front, expand, search-from, rematch-from, match-rest, outcome, marks}
+use Rattle.matched.specs.Acceptance.{accepted, acceptance}
 use Rattle.matched.specs.Judge.{judge}
-use Rattle.matched.proofs.PairingLaws.{masks-words}
 use Rattle.splitting.specs.Nodes.{less, assign, remaining, occurs, named, first-from, upward-from}
 use Rattle.splitting.specs.Stripping.{pure, not-naming, strip}
 use Rattle.splitting.specs.Choosing.{matched, trial, first-passing, candidates, among, listed, last, emptied, last-listed, choice}
+use Rattle.walk.specs.Task.{whole}
 use Rattle.walk.specs.Plain.{assignment, node-walk, plain-walk}
+use Rattle.walk.specs.Gaps.{ample-budget}
 use Rattle.walk.specs.PlainMachine.{go-on, plain-call, plain-calls}
 use Rattle.walk.specs.WalkCall.{plain-result}
 use Rattle.walk.proofs.Demands.{start-zero}
 use Rattle.walk.proofs.FormulaLaws.{calls-plain}
-use Rattle.printing.specs.Printed.{refused-word, line-budget, walk-lines, printed}
+use Rattle.walk.proofs.RefusalLaws.{accepted-posed, call-accepted}
+use Rattle.printing.specs.Printed.{refused-word, walk-lines, printed}
 use Rattle.edge_cases.specs.MarkedCases.{on, off, line, model-at, end-at, walked, MarkedCases}
 
 -- ---- what computes: to unfold one of these is to unfold all that its line names
@@ -43,7 +44,7 @@ unfolding variables outcome match-rest search-from expand take-front scan see be
 searching = tt
 
 judging : Unit {0}
-unfolding reading searching judge marks
+unfolding reading searching acceptance marks judge
 judging = tt
 
 choosing : Unit {0}
@@ -51,7 +52,7 @@ unfolding searching choice remaining assign less names names-as occurs named fir
 choosing = tt
 
 walking : Unit {0}
-unfolding reading encoding choosing plain-calls plain-call go-on plain-walk node-walk assignment
+unfolding judging encoding choosing plain-calls plain-call go-on plain-walk node-walk assignment
 walking = tt
 
 printing : Unit {0}
@@ -61,11 +62,10 @@ printing = tt
 -- ---- walks
 
 -- what walk calls bring is what the plain machine brings, which needs no search for the state of a checkpoint
-walked-plain : (s : List ℕ) (n : ℕ) (cs : List (List Literal)) → decode s ≡ readable n cs → succeeds (outcome (map variables cs)) ≡ true → (k : ℕ)
-    → walked s k ≡ map line (map (plain-result n cs) (plain-calls n cs 0 (replicate k line-budget)))
-walked-plain s n cs reads matches k =
-    let words = masks-words (accepted-only s n cs reads .sized) in
-    ap (map line) (calls-plain s n cs reads (succeeds-matched (map variables cs) words matches) (replicate k line-budget))
+walked-plain : (s : List ℕ) (n : ℕ) (cs : List (List Literal)) (row : List ℕ) → acceptance s ≡ accepted n cs row → (k : ℕ)
+    → walked s k ≡ map line (map (plain-result (whole n cs)) (plain-calls (whole n cs) 0 (replicate k ample-budget)))
+walked-plain s n cs row e k =
+    ap (map line) (calls-plain s (whole n cs) (accepted-posed s n cs row e) (call-accepted s n cs row e) (replicate k ample-budget))
 
 -- ---- the marked cases
 
@@ -74,9 +74,9 @@ unfolding judging walking printing
 marked-cases = record {
   example-matching = λ b l. rw (le-ltb (length b) max-clauses l);
   example-printed = refl;
-  three-pairs = walked-plain _ _ _ refl refl 5;
-  wrong-turn = walked-plain _ _ _ refl refl 3;
-  no-clauses = walked-plain _ _ _ refl refl 5;
+  three-pairs = walked-plain _ _ _ _ refl 5;
+  wrong-turn = walked-plain _ _ _ _ refl 3;
+  no-clauses = walked-plain _ _ _ _ refl 5;
   no-bytes = refl;
   empty-clause = λ b l. rw (le-ltb (length b) max-clauses l);
   both-ways = λ b l. rw (le-ltb (length b) max-clauses l);
@@ -98,7 +98,7 @@ pub failed-trials : walked (formula-bytes 4 ((off 1 ∷ off 2 ∷ off 3 ∷ []) 
     ∷ end-at 4 0
     ∷ []
 unfolding walking
-failed-trials = walked-plain _ _ _ refl refl 6
+failed-trials = walked-plain _ _ _ _ refl 6
 
 -- and another such
 pub more-failed-trials : walked (formula-bytes 4 ((on 3 ∷ on 4 ∷ []) ∷ (on 2 ∷ off 3 ∷ off 4 ∷ []) ∷ (on 1 ∷ on 2 ∷ []) ∷ (off 2 ∷ off 3 ∷ []) ∷ [])) 5
@@ -109,7 +109,7 @@ pub more-failed-trials : walked (formula-bytes 4 ((on 3 ∷ on 4 ∷ []) ∷ (on
     ∷ end-at 4 0
     ∷ []
 unfolding walking
-more-failed-trials = walked-plain _ _ _ refl refl 5
+more-failed-trials = walked-plain _ _ _ _ refl 5
 
 -- refusals as they are printed: no bytes, 'refused 2 0'
 pub no-bytes-printed : printed [] ≡ refused-word ++ (blank ∷ 50 ∷ blank ∷ 48 ∷ line-feed ∷ [])

@@ -10,7 +10,7 @@ use Rattle.writing.specs.Text.{line-feed, blank}
 use Rattle.formula.specs.Decode.{Decoding, readable, refused, decode}
 use Rattle.formula.specs.Format.{Literal, formula-bytes}
 use Rattle.formula.specs.Refusals.{Listing, listing}
-use Rattle.matched.specs.Judge.{accepted, judge}
+use Rattle.matched.specs.Judge.{accepted-values, judge}
 use Rattle.matched.specs.Pairing.{Pairs}
 use Rattle.walk.specs.Gaps.{ample-budget}
 use Rattle.walk.specs.Checkpoints.{start}
@@ -48,7 +48,7 @@ model-at ds steps expansions = record { kind = says-model; model = assigned ds; 
 abbrev pub end-at : ℕ → ℕ → Line
 end-at steps expansions = record { kind = says-ended; model = 0; steps = steps; expansions = expansions }
 
--- the lines of the first k walk calls on an input: from the start, on a line's budget, which brings a model or the end
+-- the lines of the first k walk calls on an input: from the start, on an ample budget, which brings a model or the end
 abbrev pub walked : List ℕ → ℕ → List Line
 walked s k = map line (walk-calls s start (replicate k ample-budget))
 
@@ -74,7 +74,7 @@ example = 1 ∷ 2 ∷ 2 ∷ 1 ∷ 2 ∷ 2 ∷ 4 ∷ 3 ∷ 1 ∷ 3 ∷ 2 ∷ 4 �
 
 pub record MarkedCases : Type 0 where
   -- 'the sheet above: slate 1, 2,'
-  pub example-matching : (b : List ℕ) → max-clauses ≤ length b → judge example b ≡ record { answer = accepted 2 2; buffer = 1 ∷ 2 ∷ drop 2 b }
+  pub example-matching : (b : List ℕ) → max-clauses ≤ length b → judge example b ≡ record { answer = accepted-values 2 2; buffer = 1 ∷ 2 ∷ drop 2 b }
   -- 'and the four lines': switches 2 rules 2, 01 2 2, 10 4 0, end 2 0
   pub example-printed : printed example
       ≡ (switches-word ++ (blank ∷ 50 ∷ blank ∷ [])) ++ (rules-word ++ (blank ∷ 50 ∷ line-feed ∷ []))
