@@ -12,8 +12,8 @@ use Rattle.walk.specs.Checkpoints.{Checkpoint, start}
 use Rattle.walk.specs.WalkCall.{Result, walk-call}
 use Rattle.enumeration.specs.declared.listing.Listed.{Listed}
 use Rattle.enumeration.specs.declared.calls.Walked.{Walked}
-use Rattle.enumeration.specs.Values.{checkpoint-values, values, listed-values}
-use Rattle.enumeration.specs.Lists.{Listing, next-models}
+use Rattle.enumeration.specs.Values.{checkpoint-values, walked-values, listed-values}
+use Rattle.enumeration.specs.Lists.{BroughtInto, next-models}
 use Rattle.capi.specs.Interface.{results-size, checkpoint-size, check-row, judge-row, walk-row, list-row, checkpoint-bytes, checkpoint-in, check-called, judge-called, start-called, walk-told, walk-called, list-told, list-called}
 use Rattle.capi.proofs.RowLaws.{beside}
 
@@ -23,7 +23,7 @@ module _ (s results : List ℕ) (a : ℕ) where
   check-unwritten h = rw (ne-eqb _ _ h)
 
   pub check-written :
-      (r : check.Answer) (after : List ℕ) →
+      (r : check.VerdictValues) (after : List ℕ) →
       length results ≡ results-size →
       r ≡ checked s a → after ≡ check-row r → check-called s a results ≡ record { code = 0; results = after }
   unfolding check-called
@@ -36,7 +36,7 @@ module _ (s buffer results : List ℕ) where
   judge-unwritten h = rw (ne-eqb _ _ h)
 
   pub judge-written :
-      (r : judging.Answer) (left after : List ℕ) →
+      (r : judging.JudgementValues) (left after : List ℕ) →
       length results ≡ results-size →
       r ≡ judge s buffer .answer →
       left ≡ judge s buffer .buffer →
@@ -83,9 +83,9 @@ module _ (s checkpoint results : List ℕ) (budget : ℕ) where
       length checkpoint ≡ checkpoint-size →
       length results ≡ results-size →
       from ≡ checkpoint-in checkpoint →
-      values w ≡ walk-call s from budget →
+      walked-values w ≡ walk-call s from budget →
       left ≡ checkpoint-bytes (checkpoint-values (w .checkpoint)) →
-      after ≡ walk-row (values w) →
+      after ≡ walk-row (walked-values w) →
       walk-called s checkpoint budget results ≡ record { code = 0; checkpoint = left; results = after }
   walk-written from w left after h k f e l g =
       rw (walk-called-is h k, ← f, ← e, l, g, beside (w .answer) (w .steps) (w .expansions) (checkpoint-values (w .checkpoint)))
@@ -117,7 +117,7 @@ module _ (s checkpoint models results : List ℕ) where
       length checkpoint ≡ checkpoint-size →
       length results ≡ results-size →
       from ≡ checkpoint-in checkpoint →
-      Listing (next-models s from (length models)) models brought r →
+      BroughtInto (next-models s from (length models)) models brought r →
       left ≡ checkpoint-bytes (checkpoint-values (r .checkpoint)) →
       after ≡ list-row (r .count) (listed-values r) →
       list-called s checkpoint models results ≡ record { code = 0; checkpoint = left; models = brought; results = after }

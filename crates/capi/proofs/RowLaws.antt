@@ -5,7 +5,7 @@ use mathlib.Core.Path.{_≡_, refl}
 use lib.Dec.{eqb}
 use Rattle.formula.specs.declared.Refusal.{Refusal}
 use Rattle.formula.specs.declared.Refusal.the-variants.{ShortBuffer, Truncated, UnknownKind, Misplaced, BadVariableCount, NoSuchVariable, RepeatedVariable, TooManyClauses, TrailingByte, Unmatched, ForeignCheckpoint, StrayVariable}
-use Rattle.formula.specs.Refusals.{listing}
+use Rattle.formula.specs.Refusals.{table-row}
 use Rattle.walk.specs.Checkpoints.{Checkpoint}
 use Rattle.enumeration.specs.declared.calls.Answer.{Answer}
 use Rattle.enumeration.specs.declared.calls.Answer.the-variants.{Model, Spent, Ended, Refused}
@@ -13,7 +13,7 @@ use Rattle.enumeration.specs.Values.{answer-values}
 use Rattle.capi.specs.Interface.{walk-row, list-row}
 
 -- a refusal's number is never 0
-pub refused-code : (r : Refusal) → _≡_ {A = ℕ} (cond (eqb (listing r .number) 0) 0 3) 3
+pub refused-code : (r : Refusal) → _≡_ {A = ℕ} (cond (eqb (table-row r .number) 0) 0 3) 3
 refused-code (ShortBuffer p) = refl
 refused-code (Truncated p) = refl
 refused-code (UnknownKind p) = refl

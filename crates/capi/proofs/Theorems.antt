@@ -10,7 +10,7 @@ use Rattle.limits.specs.Limits.{max-variables}
 use Rattle.lists.specs.Over.{over}
 use Rattle.lists.proofs.PaddedLaws.{padded-none}
 use Rattle.walk.specs.Checkpoints.{Checkpoint, checkpoint-of, start}
-use Rattle.walk.specs.WalkCall.{Kind, says-model, says-spent, says-ended, says-refused, Result, walk-call, walk-calls}
+use Rattle.walk.specs.WalkCall.{AnswerKind, says-model, says-spent, says-ended, says-refused, Result, walk-call, walk-calls}
 use Rattle.walk.proofs.ResumedLaws.{call-bytes}
 use Rattle.enumeration.proofs.RefusedLaws.{refuses-or-goes}
 use Rattle.enumeration.proofs.ListTheorems.{next-refused}
@@ -35,7 +35,7 @@ start-zeros = ap (λ (t : List ℕ). 0 ∷ 0 ∷ t) (padded-none max-variables 0
 -- ---- refused calls
 
 -- which answer the results say
-kind-refused : (q : Kind) → kind-code q ≡ kind-code says-refused → q ≡ says-refused
+kind-refused : (q : AnswerKind) → kind-code q ≡ kind-code says-refused → q ≡ says-refused
 kind-refused says-model e = absurd (omega arith)
 kind-refused says-spent e = absurd (omega arith)
 kind-refused says-ended e = absurd (omega arith)

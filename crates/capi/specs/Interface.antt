@@ -11,7 +11,7 @@ use Rattle.formula.specs.Check.{Said, said-yes, said-no, said-neither, checked}
 use Rattle.matched.specs.Judge as judging
 use Rattle.matched.specs.Judge.{judge}
 use Rattle.walk.specs.Checkpoints.{Checkpoint, start}
-use Rattle.walk.specs.WalkCall.{Kind, says-model, says-spent, says-ended, says-refused, Result, walk-call}
+use Rattle.walk.specs.WalkCall.{AnswerKind, says-model, says-spent, says-ended, says-refused, Result, walk-call}
 use Rattle.enumeration.specs.Lists.{Brought, next-models}
 
 -- ---- results: six numbers, of which the first says the answer, and the third and fourth are the refusal's number and place
@@ -24,17 +24,17 @@ said-code said-yes = 0
 said-code said-no = 1
 said-code said-neither = 3
 
-abbrev pub kind-code : Kind → ℕ
+abbrev pub kind-code : AnswerKind → ℕ
 kind-code says-model = 0
 kind-code says-spent = 1
 kind-code says-ended = 2
 kind-code says-refused = 3
 
-abbrev pub check-row : check.Answer → List ℕ
+abbrev pub check-row : check.VerdictValues → List ℕ
 check-row a = said-code (a .said) ∷ 0 ∷ a .number ∷ a .place ∷ 0 ∷ 0 ∷ []
 
 -- accepted if there is no refusal's number; at the end the numbers of variables and of clauses
-abbrev pub judge-row : judging.Answer → List ℕ
+abbrev pub judge-row : judging.JudgementValues → List ℕ
 judge-row a = cond (eqb (a .number) 0) 0 3 ∷ 0 ∷ a .number ∷ a .place ∷ a .variables ∷ a .clauses ∷ []
 
 -- the model, or 0; at the end the steps and the expansions

@@ -3,10 +3,10 @@
 ghost use mathlib.Core.Path.{_≡_};
 ghost use lib.ListN.{length, drop};
 ghost use Rattle.formula.specs.Check as check;
-ghost use Rattle.formula.specs.Refusals.{listing};
+ghost use Rattle.formula.specs.Refusals.{table-row};
 ghost use Rattle.matched.specs.Judge as judging;
 ghost use Rattle.walk.specs.Checkpoints as walk;
-ghost use Rattle.enumeration.specs.Values.{checkpoint-values, answer-values, values, listed-values};
+ghost use Rattle.enumeration.specs.Values.{checkpoint-values, answer-values, walked-values, listed-values};
 ghost use Rattle.capi.specs.InnerRow.{numbers};
 ghost use Rattle.capi.specs.Interface.{results-size, check-row, judge-row, walk-row, list-row, checkpoint-size, checkpoint-bytes, checkpoint-in, check-called, judge-called, start-called, walk-called, list-called};
 use enumeration::Checkpoint;
@@ -48,7 +48,7 @@ fn plain_row(answer: u64, model: u64, steps: u64, expansions: u64) -> Row
 }
 
 fn refusal_row(refusal: Refusal, steps: u64, expansions: u64) -> Row
-    ensures { λ r. ⌜ r ≡ record { answer = 3; model = 0; number = listing refusal .number; place = listing refusal .place; steps = steps; expansions = expansions } ⌝ }
+    ensures { λ r. ⌜ r ≡ record { answer = 3; model = 0; number = table-row refusal .number; place = table-row refusal .place; steps = steps; expansions = expansions } ⌝ }
 {
     Row {
         answer: 3,
@@ -61,7 +61,7 @@ fn refusal_row(refusal: Refusal, steps: u64, expansions: u64) -> Row
 }
 
 fn check_row(v: Verdict) -> Row
-    ensures { λ r. ⌜ numbers r ≡ check-row (check.values v) ⌝ }
+    ensures { λ r. ⌜ numbers r ≡ check-row (check.verdict-values v) ⌝ }
 {
     match v {
         Verdict::Model => plain_row(0, 0, 0, 0),
@@ -91,7 +91,7 @@ fn answer_row(answer: enumeration::Answer, steps: u64, expansions: u64) -> Row
 }
 
 fn walk_row(w: Walked) -> Row
-    ensures { λ r. ⌜ numbers r ≡ walk-row (values w) ⌝ }
+    ensures { λ r. ⌜ numbers r ≡ walk-row (walked-values w) ⌝ }
 {
     let answer = w.answer;
     answer_row(answer, w.steps, w.expansions)

@@ -4,18 +4,18 @@ use mathlib.Core.List.{List}
 use mathlib.Core.Path.{_≡_}
 use lib.ListN.{take, drop}
 use Rattle.formula.specs.Check.{checked}
-use Rattle.formula.specs.Check.{Answer as Values}
+use Rattle.formula.specs.Check.{VerdictValues as Values}
 use Rattle.cases.specs.declared.answers.Answer.{Answer}
 use Rattle.cases.specs.declared.corpus.Vector.{Vector}
-use Rattle.cases.specs.Answers.{expected, same}
-use Rattle.cases.specs.Checking.{written, check-agrees}
+use Rattle.cases.specs.Answers.{expected, same-answer}
+use Rattle.cases.specs.Checking.{check-written, check-agrees}
 use Rattle.cases.specs.Corpus.{eight-bytes}
 
 pub compared :
     (s : List ℕ) (v : Vector) (wanted got : Answer) (values : Values) (assignment : ℕ) →
     wanted ≡ expected s (v .end) →
-    got ≡ written values →
+    got ≡ check-written values →
     values ≡ checked (take (v .end - v .start) (drop (v .start) s)) assignment →
-    assignment ≡ eight-bytes s (v .end + 6) → same wanted got ≡ check-agrees s v
+    assignment ≡ eight-bytes s (v .end + 6) → same-answer wanted got ≡ check-agrees s v
 unfolding check-agrees
 compared s v wanted got values assignment w g e a = rw (w, g, e, a)

@@ -6,18 +6,18 @@ use lib.ListN.{getD, take, drop}
 use Rattle.limits.specs.Limits.{max-clauses}
 use Rattle.formula.specs.declared.Refusal.{Refusal}
 use Rattle.formula.specs.declared.Refusal.the-variants.{ShortBuffer, Truncated, UnknownKind, Misplaced, BadVariableCount, NoSuchVariable, RepeatedVariable, TooManyClauses, TrailingByte, Unmatched, ForeignCheckpoint, StrayVariable}
-use Rattle.formula.specs.Refusals.{listing}
+use Rattle.formula.specs.Refusals.{table-row}
 use Rattle.matched.specs.Judge.{judge}
-use Rattle.matched.specs.Judge.{Answer as Values}
+use Rattle.matched.specs.Judge.{JudgementValues as Values}
 use Rattle.cases.specs.declared.answers.Answer.{Answer}
 use Rattle.cases.specs.declared.corpus.Vector.{Vector}
 use Rattle.cases.specs.declared.judging.Judged.{Judged}
 use Rattle.cases.specs.Answers.{expected}
 use Rattle.cases.specs.Comparing.{first-wrong}
-use Rattle.cases.specs.Judging.{code, written, filled, judged, alike, judge-agrees}
+use Rattle.cases.specs.Judging.{number-code, judge-written, filled, judged, judge-alike, judge-agrees}
 
 -- every refusal has a number
-pub refusal-code : (r : Refusal) → code (listing r .number) ≡ 2
+pub refusal-code : (r : Refusal) → number-code (table-row r .number) ≡ 2
 refusal-code (ShortBuffer p) = refl
 refusal-code (Truncated p) = refl
 refusal-code (UnknownKind p) = refl
@@ -35,7 +35,7 @@ refusal-code (StrayVariable p) = refl
 pub judged-of :
     (s array buffer : List ℕ) (size fill : ℕ) (values : Values) (answer : Answer) →
     array ≡ filled fill →
-    answer ≡ written values →
+    answer ≡ judge-written values →
     values ≡ judge s (take size array) .answer →
     buffer ≡ judge s (take size array) .buffer →
     record { answer = answer; array = buffer ++ drop size array } ≡ judged s size fill
@@ -49,6 +49,6 @@ pub compared :
     size ≡ getD s (v .end + 6) 0 →
     got ≡ judged (take (v .end - v .start) (drop (v .start) s)) size (getD s (v .end + 7) 0) →
     wrong ≡ first-wrong s (v .end + 8) max-clauses (getD s (v .end + 7) 0) (got .array) →
-    alike wanted (got .answer) wrong ≡ judge-agrees s v
+    judge-alike wanted (got .answer) wrong ≡ judge-agrees s v
 unfolding judge-agrees
 compared s v wanted size got wrong w z g f = rw (w, f, g, z)

@@ -11,7 +11,7 @@ use Rattle.cases.specs.declared.corpus.Vector.{Vector}
 use Rattle.cases.specs.declared.runs.Act.{Act}
 use Rattle.cases.specs.declared.totals.Totals.{Totals}
 use Rattle.cases.specs.Corpus.{framed}
-use Rattle.cases.specs.Runs.{size-of, agrees, leaves, run-from, run-of}
+use Rattle.cases.specs.Runs.{size-of, act-agrees, leaves, run-from, run-of}
 use Rattle.cases.specs.Totals.{counted}
 use Rattle.cases.proofs.FrameLaws.{within}
 
@@ -35,7 +35,7 @@ run-whole :
     at < length s →
     framed s at (size-of act) ≡ Whole v →
     run-from (suc k) act s at t last
-    ≡ run-from k act s (v .end + size-of act) (counted t (agrees act s v last)) (leaves act s v last)
+    ≡ run-from k act s (v .end + size-of act) (counted t (act-agrees act s v last)) (leaves act s v last)
 unfolding run-from
 run-whole k act s at t last v h e = rw (lt-ltb _ _ h, e)
 
@@ -64,7 +64,7 @@ module _
       run-from k act s at t last ≡ run-of act s first →
       at < length s →
       framed s at (size-of act) ≡ Whole v →
-      Stands act s first (v .end + size-of act) (counted t (agrees act s v last)) (leaves act s v last)
+      Stands act s first (v .end + size-of act) (counted t (act-agrees act s v last)) (leaves act s v last)
   step zero v n r h e = absurd (omega arith)
   step (suc k) v n r h e =
       let w = within s at (size-of act) v e in
@@ -74,5 +74,5 @@ module _
       (v : Vector) →
       at < length s →
       framed s at (size-of act) ≡ Whole v →
-      Stands act s first (v .end + size-of act) (counted t (agrees act s v last)) (leaves act s v last)
+      Stands act s first (v .end + size-of act) (counted t (act-agrees act s v last)) (leaves act s v last)
   stands-next v h e = step (p .fuel) v (p .enough) (p .rest) h e

@@ -11,11 +11,11 @@ use Rattle.walk.specs.WalkCall.{Result, walk-call}
 use Rattle.enumeration.specs.declared.calls.Answer.{Answer}
 use Rattle.enumeration.specs.declared.calls.Answer.the-variants.{Model, Spent, Ended, Refused}
 use Rattle.enumeration.specs.declared.calls.Walked.{Walked}
-use Rattle.enumeration.specs.Values.{checkpoint-values, answer-values, values}
+use Rattle.enumeration.specs.Values.{checkpoint-values, answer-values, walked-values}
 use Rattle.cases.specs.declared.corpus.Vector.{Vector}
 use Rattle.cases.specs.declared.walking.Told.{Told}
 use Rattle.cases.specs.Corpus.{four-bytes}
-use Rattle.cases.specs.Walking.{checkpoint-size, written, expected-call, alike, origin, called, checkpoint-wrong, start-agrees, walk-agrees}
+use Rattle.cases.specs.Walking.{checkpoint-size, walk-written, expected-call, walk-alike, origin, called, checkpoint-wrong, start-agrees, walk-agrees}
 
 -- a byte of the trail is two places on in the checkpoint
 pub past-two :
@@ -39,14 +39,14 @@ copied k s old new at h l f =
     let z : drop k old ≡ [] = rw (← l) (drop-length old) in
     f ∙ rw (d, take-length, n, z, append-nil)
 
--- the values of an answer have the checkpoint beside it
+-- the walked-values of an answer have the checkpoint beside it
 kept : (a : Answer) (s e : ℕ) (c : Checkpoint) → answer-values a s e c .checkpoint ≡ c
 kept (Model a) s e c = refl
 kept Spent s e c = refl
 kept Ended s e c = refl
 kept (Refused r) s e c = refl
 
-pub checkpoint-kept : (w : Walked) → values w .checkpoint ≡ checkpoint-values (w .checkpoint)
+pub checkpoint-kept : (w : Walked) → walked-values w .checkpoint ≡ checkpoint-values (w .checkpoint)
 checkpoint-kept w = kept (w .answer) (w .steps) (w .expansions) (checkpoint-values (w .checkpoint))
 
 pub calling :
@@ -67,8 +67,8 @@ pub compared :
     (s : List ℕ) (v : Vector) (last : Checkpoint) (wanted got : Told) (r : Result) (c : Checkpoint) (wrong : ℕ) →
     wanted ≡ expected-call s (v .end) →
     r ≡ called s v last →
-    got ≡ written r →
+    got ≡ walk-written r →
     r .checkpoint ≡ c →
-    wrong ≡ checkpoint-wrong s (v .end + 22) c → alike wanted got wrong ≡ walk-agrees s v last
+    wrong ≡ checkpoint-wrong s (v .end + 22) c → walk-alike wanted got wrong ≡ walk-agrees s v last
 unfolding walk-agrees
 compared s v last wanted got r c wrong w e g k f = rw (f, ← k, w, g, e)

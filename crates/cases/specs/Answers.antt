@@ -11,8 +11,8 @@ use Rattle.cases.specs.Corpus.{two-bytes}
 abbrev pub plain : ℕ → ℕ → ℕ → Answer
 plain says number place = record { says = says; number = number; place = place; variables = 0; clauses = 0 }
 
-abbrev pub refused : ℕ → ℕ → Answer
-refused number place = plain 2 number place
+abbrev pub refused-answer : ℕ → ℕ → Answer
+refused-answer number place = plain 2 number place
 
 abbrev pub expected : List ℕ → ℕ → Answer
 expected s at = record {
@@ -23,7 +23,7 @@ expected s at = record {
   clauses = getD s (at + 5) 0;
 }
 
-abbrev pub same : Answer → Answer → Bool
-same a b =
+abbrev pub same-answer : Answer → Answer → Bool
+same-answer a b =
     eqb (a .says) (b .says) && eqb (a .number) (b .number) && eqb (a .place) (b .place) && eqb (a .variables) (b .variables)
     && eqb (a .clauses) (b .clauses)

@@ -4,22 +4,22 @@ use mathlib.Core.Bool.{Bool}
 use mathlib.Core.List.{List}
 use lib.ListN.{take, drop}
 use Rattle.formula.specs.Check.{Said, said-yes, said-no, said-neither, checked}
-use Rattle.formula.specs.Check.{Answer as Values}
+use Rattle.formula.specs.Check.{VerdictValues as Values}
 use Rattle.cases.specs.declared.answers.Answer.{Answer}
 use Rattle.cases.specs.declared.corpus.Vector.{Vector}
-use Rattle.cases.specs.Answers.{plain, expected, same}
+use Rattle.cases.specs.Answers.{plain, expected, same-answer}
 use Rattle.cases.specs.Corpus.{eight-bytes}
 
 -- how the corpus writes what an answer says
-abbrev pub code : Said → ℕ
-code said-no = 0
-code said-yes = 1
-code said-neither = 2
+abbrev pub said-code : Said → ℕ
+said-code said-no = 0
+said-code said-yes = 1
+said-code said-neither = 2
 
-abbrev pub written : Values → Answer
-written a = plain (code (a .said)) (a .number) (a .place)
+abbrev pub check-written : Values → Answer
+check-written a = plain (said-code (a .said)) (a .number) (a .place)
 
 -- check of the vector's input and assignment has the expected answer
 unfoldable pub check-agrees : List ℕ → Vector → Bool
 check-agrees s v =
-    same (expected s (v .end)) (written (checked (take (v .end - v .start) (drop (v .start) s)) (eight-bytes s (v .end + 6))))
+    same-answer (expected s (v .end)) (check-written (checked (take (v .end - v .start) (drop (v .start) s)) (eight-bytes s (v .end + 6))))

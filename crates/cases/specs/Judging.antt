@@ -6,21 +6,21 @@ use lib.Dec.{eqb}
 use lib.ListN.{getD, take, drop, replicate}
 use Rattle.limits.specs.Limits.{max-clauses}
 use Rattle.matched.specs.Judge.{judge}
-use Rattle.matched.specs.Judge.{Answer as Values}
+use Rattle.matched.specs.Judge.{JudgementValues as Values}
 use Rattle.cases.specs.declared.answers.Answer.{Answer}
 use Rattle.cases.specs.declared.corpus.Vector.{Vector}
 use Rattle.cases.specs.declared.judging.Judged.{Judged}
-use Rattle.cases.specs.Answers.{expected, same}
+use Rattle.cases.specs.Answers.{expected, same-answer}
 use Rattle.cases.specs.Comparing.{first-wrong}
 
 -- how the corpus writes what an answer says, by the refusal's number: matched if there is none
-abbrev pub code : ℕ → ℕ
-code zero = 3
-code (suc n) = 2
+abbrev pub number-code : ℕ → ℕ
+number-code zero = 3
+number-code (suc n) = 2
 
-abbrev pub written : Values → Answer
-written a = record {
-  says = code (a .number);
+abbrev pub judge-written : Values → Answer
+judge-written a = record {
+  says = number-code (a .number);
   number = a .number;
   place = a .place;
   variables = a .variables;
@@ -35,15 +35,15 @@ filled fill = replicate 256 fill
 unfoldable pub judged : List ℕ → ℕ → ℕ → Judged
 judged s size fill =
     let j = judge s (take size (filled fill)) in
-    record { answer = written (j .answer); array = j .buffer ++ drop size (filled fill) }
+    record { answer = judge-written (j .answer); array = j .buffer ++ drop size (filled fill) }
 
--- the answers are the same, and no byte of the array is wrong
-abbrev pub alike : Answer → Answer → ℕ → Bool
-alike wanted got wrong = same wanted got && eqb wrong 256
+-- the answers are the same-answer, and no byte of the array is wrong
+abbrev pub judge-alike : Answer → Answer → ℕ → Bool
+judge-alike wanted got wrong = same-answer wanted got && eqb wrong 256
 
 -- judge of the vector's input has the expected answer and leaves the expected array
 unfoldable pub judge-agrees : List ℕ → Vector → Bool
 judge-agrees s v =
     let fill = getD s (v .end + 7) 0 in
     let j = judged (take (v .end - v .start) (drop (v .start) s)) (getD s (v .end + 6) 0) fill in
-    alike (expected s (v .end)) (j .answer) (first-wrong s (v .end + 8) max-clauses fill (j .array))
+    judge-alike (expected s (v .end)) (j .answer) (first-wrong s (v .end + 8) max-clauses fill (j .array))

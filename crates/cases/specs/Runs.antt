@@ -35,13 +35,13 @@ pub record FieldsOf (act : Act) (r : ℕ) : Type 0 where
   pub few : r ≤ size-of Walk
 
 -- the act gives what the vector expects
-abbrev pub agrees : Act → List ℕ → Vector → Checkpoint → Bool
-agrees Check s v last = check-agrees s v
-agrees Judge s v last = judge-agrees s v
-agrees Start s v last = start-agrees s v
-agrees Walk s v last = walk-agrees s v last
-agrees Compare s v last = compare-agrees s v
-agrees Print s v last = print-agrees s v
+abbrev pub act-agrees : Act → List ℕ → Vector → Checkpoint → Bool
+act-agrees Check s v last = check-agrees s v
+act-agrees Judge s v last = judge-agrees s v
+act-agrees Start s v last = start-agrees s v
+act-agrees Walk s v last = walk-agrees s v last
+act-agrees Compare s v last = compare-agrees s v
+act-agrees Print s v last = print-agrees s v
 
 -- the checkpoint that the last walk call returned, after the vector
 abbrev pub leaves : Act → List ℕ → Vector → Checkpoint → Checkpoint
@@ -59,7 +59,7 @@ run-from zero act s at t last = record { at = at; totals = t }
 run-from (suc k) act s at t last =
     cond (ltb at (length s))
     (elim (framed s at (size-of act)) [
-      | Whole v ↦ run-from k act s (v .end + size-of act) (counted t (agrees act s v last)) (leaves act s v last)
+      | Whole v ↦ run-from k act s (v .end + size-of act) (counted t (act-agrees act s v last)) (leaves act s v last)
       | Broken ↦ record { at = at; totals = t }
     ])
     (record { at = at; totals = t })

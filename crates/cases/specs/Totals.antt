@@ -8,7 +8,7 @@ counted t true = record { vectors = t .vectors + 1; differences = t .differences
 counted t false = record { vectors = t .vectors + 1; differences = t .differences + 1 }
 
 -- each count may grow by k
-pub record Room (k : ℕ) (t : Totals) : Type 0 where
+pub record RoomFor (k : ℕ) (t : Totals) : Type 0 where
   pub vectors : t .vectors + k < 2 ^ 64
   pub differences : t .differences + k < 2 ^ 64
 

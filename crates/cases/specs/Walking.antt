@@ -7,25 +7,25 @@ use lib.Dec.{eqb}
 use lib.ListN.{getD, take, drop}
 use Rattle.limits.specs.Limits.{max-variables}
 use Rattle.walk.specs.Checkpoints.{Checkpoint, start}
-use Rattle.walk.specs.WalkCall.{Kind, says-model, says-spent, says-ended, says-refused, Result, walk-call}
+use Rattle.walk.specs.WalkCall.{AnswerKind, says-model, says-spent, says-ended, says-refused, Result, walk-call}
 use Rattle.enumeration.specs.Values.{checkpoint-values}
 use Rattle.cases.specs.declared.corpus.Vector.{Vector}
 use Rattle.cases.specs.declared.walking.Compared.{Compared}
 use Rattle.cases.specs.declared.walking.Told.{Told}
-use Rattle.cases.specs.Answers.{plain, expected, same}
+use Rattle.cases.specs.Answers.{plain, expected, same-answer}
 use Rattle.cases.specs.Comparing.{first-wrong}
 use Rattle.cases.specs.Corpus.{four-bytes, eight-bytes}
 
 -- how the corpus writes what an answer says
-abbrev pub code : Kind → ℕ
-code says-model = 4
-code says-spent = 5
-code says-ended = 6
-code says-refused = 2
+abbrev pub kind-code : AnswerKind → ℕ
+kind-code says-model = 4
+kind-code says-spent = 5
+kind-code says-ended = 6
+kind-code says-refused = 2
 
-abbrev pub written : Result → Told
-written r = record {
-  answer = plain (code (r .kind)) (r .number) (r .place);
+abbrev pub walk-written : Result → Told
+walk-written r = record {
+  answer = plain (kind-code (r .kind)) (r .number) (r .place);
   model = r .model;
   steps = r .steps;
   expansions = r .expansions;
@@ -65,11 +65,11 @@ checkpoint-wrong s at c =
     (cond (eqb (c .length) (getD s (at + 1) 0)) (2 + first-wrong s (at + 2) max-variables 0 (c .bytes)) 1)
     0
 
--- no byte of the checkpoint is wrong, and all else is the same
-abbrev pub alike : Told → Told → ℕ → Bool
-alike a b wrong =
+-- no byte of the checkpoint is wrong, and all else is the same-answer
+abbrev pub walk-alike : Told → Told → ℕ → Bool
+walk-alike a b wrong =
     eqb wrong checkpoint-size && eqb (a .model) (b .model) && eqb (a .steps) (b .steps) && eqb (a .expansions) (b .expansions)
-    && same (a .answer) (b .answer)
+    && same-answer (a .answer) (b .answer)
 
 -- the start checkpoint is the expected one
 unfoldable pub start-agrees : List ℕ → Vector → Bool
@@ -79,7 +79,7 @@ start-agrees s v = eqb (checkpoint-wrong s (v .end) start) checkpoint-size
 unfoldable pub walk-agrees : List ℕ → Vector → Checkpoint → Bool
 walk-agrees s v last =
     let r = called s v last in
-    alike (expected-call s (v .end)) (written r) (checkpoint-wrong s (v .end + 22) (r .checkpoint))
+    walk-alike (expected-call s (v .end)) (walk-written r) (checkpoint-wrong s (v .end + 22) (r .checkpoint))
 
 -- the checkpoint that the call returns
 unfoldable pub walk-leaves : List ℕ → Vector → Checkpoint → Checkpoint

@@ -2,8 +2,8 @@
 ghost use Prim.Native.Nat.{_+_, _≤_};
 ghost use mathlib.Core.Path.{_≡_};
 ghost use lib.ListN.{length};
-ghost use Rattle.formula.specs.Refusals.{listing};
-ghost use Rattle.cases.specs.Answers.{plain, refused, expected, same};
+ghost use Rattle.formula.specs.Refusals.{table-row};
+ghost use Rattle.cases.specs.Answers.{plain, refused-answer, expected, same-answer};
 use crate::corpus::two_bytes;
 use crate::corpus::wide;
 use formula::Refusal;
@@ -32,7 +32,7 @@ pub fn bare(says: u64) -> Answer
 }
 
 pub fn refusal_answer(refusal: Refusal) -> Answer
-    ensures { λ r. ⌜ r ≡ refused (listing refusal .number) (listing refusal .place) ⌝ }
+    ensures { λ r. ⌜ r ≡ refused-answer (table-row refusal .number) (table-row refusal .place) ⌝ }
 {
     Answer {
         says: 2,
@@ -58,7 +58,7 @@ pub fn expected_at(bytes: &[u8], at: usize) -> Answer
 }
 
 pub fn equal(a: Answer, b: Answer) -> bool
-    ensures { λ r. ⌜ r ≡ same a b ⌝ }
+    ensures { λ r. ⌜ r ≡ same-answer a b ⌝ }
 {
     if a.says != b.says {
         return false;

@@ -2,8 +2,8 @@
 ghost use Prim.Native.Nat.{_+_, _≤_};
 ghost use mathlib.Core.Path.{_≡_};
 ghost use lib.ListN.{length};
-ghost use Rattle.formula.specs.Check.{values};
-ghost use Rattle.cases.specs.Checking.{written, check-agrees};
+ghost use Rattle.formula.specs.Check.{verdict-values};
+ghost use Rattle.cases.specs.Checking.{check-written, check-agrees};
 use crate::answers::Answer;
 use crate::answers::bare;
 use crate::answers::equal;
@@ -15,7 +15,7 @@ use crate::report;
 use formula::Verdict;
 
 fn answer_of(v: Verdict) -> Answer
-    ensures { λ r. ⌜ r ≡ written (values v) ⌝ }
+    ensures { λ r. ⌜ r ≡ check-written (verdict-values v) ⌝ }
 {
     match v {
         Verdict::NotModel => bare(0),

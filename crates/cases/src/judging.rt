@@ -3,7 +3,7 @@ ghost use Prim.Native.Nat.{_+_, _≤_};
 ghost use mathlib.Core.Path.{_≡_};
 ghost use lib.ListN.{length, replicate};
 ghost use Rattle.matched.specs.Judge.{judgement-values};
-ghost use Rattle.cases.specs.Judging.{written, judged, alike, judge-agrees};
+ghost use Rattle.cases.specs.Judging.{judge-written, judged, judge-alike, judge-agrees};
 use crate::answers::Answer;
 use crate::answers::equal;
 use crate::answers::expected_at;
@@ -22,7 +22,7 @@ pub struct Judged {
 }
 
 fn answer_of(j: Judgement) -> Answer
-    ensures { λ r. ⌜ r ≡ written (judgement-values j) ⌝ }
+    ensures { λ r. ⌜ r ≡ judge-written (judgement-values j) ⌝ }
 {
     match j {
         Judgement::Accepted(n, m) => Answer {
@@ -54,7 +54,7 @@ fn judge_filled(input: &[u8], size: usize, fill: u8) -> Judged
 
 // The answers are the same, and the array is wrong nowhere.
 fn agree(wanted: Answer, got: Answer, wrong: usize) -> bool
-    ensures { λ r. ⌜ r ≡ alike wanted got wrong ⌝ }
+    ensures { λ r. ⌜ r ≡ judge-alike wanted got wrong ⌝ }
 {
     if equal(wanted, got) {
         return wrong == 256;

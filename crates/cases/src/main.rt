@@ -32,14 +32,14 @@ mod walking;
 ghost use Prim.Native.Nat.{_<_, _≤_};
 ghost use lib.ListN.{length};
 ghost use Rattle.cases.specs.Runs.{AfterFile};
-ghost use Rattle.cases.specs.Totals.{Room};
+ghost use Rattle.cases.specs.Totals.{RoomFor};
 use runs::Act;
 use runs::run_all;
 use totals::Totals;
 
 // The vectors of one file, counted on from the totals so far.
 fn run_file(t: Totals, name: &[u8], act: Act) -> Totals
-    requires { ⌜ Room 65536 t ⌝ }
+    requires { ⌜ RoomFor 65536 t ⌝ }
     ensures { λ r. ⌜ AfterFile act t r ⌝ }
 {
     let file = os::open_read(name);

@@ -2,8 +2,8 @@
 ghost use Prim.Native.Nat.{_+_, _≤_};
 ghost use lib.ListN.{length};
 ghost use Rattle.enumeration.specs.Values.{checkpoint-values};
-ghost use Rattle.cases.specs.Runs.{size-of, FieldsOf, agrees, leaves, Ran};
-ghost use Rattle.cases.specs.Totals.{Room};
+ghost use Rattle.cases.specs.Runs.{size-of, FieldsOf, act-agrees, leaves, Ran};
+ghost use Rattle.cases.specs.Totals.{RoomFor};
 ghost use Rattle.cases.specs.Walking.{Gives};
 use crate::checking::check_vector;
 use crate::corpus::Framed;
@@ -52,7 +52,7 @@ fn fields_of(act: Act) -> usize
 // Whether the act gives what the vector expects, and the checkpoint of the last walk call; a difference is printed.
 fn run_vector(bytes: &[u8], v: Vector, act: Act, last: Checkpoint) -> Compared
     requires { ⌜ (v .start ≤ v .end) × (v .end + size-of act ≤ length (now bytes)) ⌝ }
-    ensures { λ r. ⌜ Gives (agrees act (now (bytes .entry)) v (checkpoint-values last)) (leaves act (now (bytes .entry)) v (checkpoint-values last)) r ⌝ }
+    ensures { λ r. ⌜ Gives (act-agrees act (now (bytes .entry)) v (checkpoint-values last)) (leaves act (now (bytes .entry)) v (checkpoint-values last)) r ⌝ }
 {
     match act {
         Act::Check => Compared {
@@ -81,7 +81,7 @@ fn run_vector(bytes: &[u8], v: Vector, act: Act, last: Checkpoint) -> Compared
 
 // All vectors of a file, up to one that runs past its end, counted on from the totals so far.
 pub fn run_all(bytes: &[u8], act: Act, t: Totals) -> Run
-    requires { ⌜ Room (length (now bytes)) t ⌝ }
+    requires { ⌜ RoomFor (length (now bytes)) t ⌝ }
     ensures { λ r. ⌜ Ran act (now (bytes .entry)) t r ⌝ }
 {
     let fields = fields_of(act);

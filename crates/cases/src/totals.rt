@@ -1,6 +1,6 @@
 // How many vectors were run, and how many answers differed.
 ghost use mathlib.Core.Path.{_≡_};
-ghost use Rattle.cases.specs.Totals.{counted, Room};
+ghost use Rattle.cases.specs.Totals.{counted, RoomFor};
 
 pub struct Totals {
     pub vectors: u64,
@@ -18,7 +18,7 @@ pub fn none() -> Totals
 
 // One vector more, whose answer is the expected one or differs.
 pub fn count(t: Totals, agrees: bool) -> Totals
-    requires { ⌜ Room 1 t ⌝ }
+    requires { ⌜ RoomFor 1 t ⌝ }
     ensures { λ r. ⌜ r ≡ counted t agrees ⌝ }
 {
     if agrees {

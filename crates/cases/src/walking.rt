@@ -4,8 +4,8 @@ ghost use mathlib.Core.List.{_∷_};
 ghost use mathlib.Core.Path.{_≡_};
 ghost use lib.ListN.{length, getD, take, drop};
 ghost use Rattle.limits.specs.Limits.{max-variables};
-ghost use Rattle.enumeration.specs.Values.{checkpoint-values, values};
-ghost use Rattle.cases.specs.Walking.{written, expected-call, checkpoint-size, alike, checkpoint-at, origin, called, checkpoint-wrong, start-agrees, walk-agrees, walk-leaves, Gives};
+ghost use Rattle.enumeration.specs.Values.{checkpoint-values, walked-values};
+ghost use Rattle.cases.specs.Walking.{walk-written, expected-call, checkpoint-size, walk-alike, checkpoint-at, origin, called, checkpoint-wrong, start-agrees, walk-agrees, walk-leaves, Gives};
 use crate::answers::Answer;
 use crate::answers::bare;
 use crate::answers::equal;
@@ -37,7 +37,7 @@ pub struct Compared {
 }
 
 fn told_of(w: Walked) -> Told
-    ensures { λ r. ⌜ r ≡ written (values w) ⌝ }
+    ensures { λ r. ⌜ r ≡ walk-written (walked-values w) ⌝ }
 {
     let answer = w.answer;
     match answer {
@@ -83,7 +83,7 @@ fn expected_call(bytes: &[u8], at: usize) -> Told
 
 // The checkpoint is wrong nowhere, and all else is the same.
 fn agree(wanted: Told, got: Told, wrong: usize) -> bool
-    ensures { λ r. ⌜ r ≡ alike wanted got wrong ⌝ }
+    ensures { λ r. ⌜ r ≡ walk-alike wanted got wrong ⌝ }
 {
     if wrong != CHECKPOINT_SIZE {
         return false;
@@ -142,7 +142,7 @@ fn call_origin(bytes: &[u8], at: usize, last: Checkpoint) -> Checkpoint
 // The vector's call.
 fn call(bytes: &[u8], v: Vector, last: Checkpoint) -> Walked
     requires { ⌜ (v .start ≤ v .end) × (v .end + 127 ≤ length (now bytes)) ⌝ }
-    ensures { λ r. ⌜ values r ≡ called (now (bytes .entry)) v (checkpoint-values last) ⌝ }
+    ensures { λ r. ⌜ walked-values r ≡ called (now (bytes .entry)) v (checkpoint-values last) ⌝ }
 {
     let start = v.start;
     let end = v.end;

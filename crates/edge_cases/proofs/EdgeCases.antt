@@ -17,14 +17,14 @@ use Rattle.matched.specs.Acceptance.{accepted, acceptance}
 use Rattle.matched.specs.Judge.{judge}
 use Rattle.splitting.specs.Nodes.{less, assign, remaining, occurs, named, first-from, upward-from}
 use Rattle.splitting.specs.Stripping.{pure, not-naming, strip}
-use Rattle.splitting.specs.Choosing.{matched, trial, first-passing, candidates, among, listed, last, emptied, last-listed, choice}
+use Rattle.splitting.specs.Choosing.{matching-of, trial, first-passing, candidates, among, listed, last, emptied, last-listed, choice}
 use Rattle.walk.specs.Task.{whole}
 use Rattle.walk.specs.Plain.{assignment, node-walk, plain-walk}
 use Rattle.walk.specs.Gaps.{ample-budget}
 use Rattle.walk.specs.PlainMachine.{go-on, plain-call, plain-calls}
 use Rattle.walk.specs.WalkCall.{plain-result}
 use Rattle.walk.proofs.Demands.{start-zero}
-use Rattle.walk.proofs.FormulaLaws.{calls-plain}
+use Rattle.walk.proofs.TaskLaws.{calls-plain}
 use Rattle.walk.proofs.RefusalLaws.{accepted-posed, call-accepted}
 use Rattle.printing.specs.Printed.{refused-word, walk-lines, printed}
 use Rattle.edge_cases.specs.MarkedCases.{on, off, line, model-at, end-at, walked, MarkedCases}
@@ -48,7 +48,7 @@ unfolding reading searching acceptance marks judge
 judging = tt
 
 choosing : Unit {0}
-unfolding searching choice remaining assign less names names-as occurs named first-from upward-from pure not-naming strip matched trial first-passing candidates among listed last emptied last-listed xor
+unfolding searching choice remaining assign less names names-as occurs named first-from upward-from pure not-naming strip matching-of trial first-passing candidates among listed last emptied last-listed xor
 choosing = tt
 
 walking : Unit {0}

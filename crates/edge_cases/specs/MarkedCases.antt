@@ -9,13 +9,13 @@ use Rattle.limits.specs.Limits.{max-clauses}
 use Rattle.writing.specs.Text.{line-feed, blank}
 use Rattle.formula.specs.Decode.{Decoding, readable, refused, decode}
 use Rattle.formula.specs.Format.{Literal, formula-bytes}
-use Rattle.formula.specs.Refusals.{Listing, listing}
+use Rattle.formula.specs.Refusals.{TableRow, table-row}
 use Rattle.matched.specs.Judge.{accepted-values, judge}
 use Rattle.matched.specs.Pairing.{Pairs}
 use Rattle.walk.specs.Gaps.{ample-budget}
 use Rattle.walk.specs.Checkpoints.{start}
 use Rattle.walk.specs.PlainMachine.{spent}
-use Rattle.walk.specs.WalkCall.{Kind, says-model, says-ended, Result, answered, walk-call, walk-calls}
+use Rattle.walk.specs.WalkCall.{AnswerKind, says-model, says-ended, Result, answered, walk-call, walk-calls}
 use Rattle.printing.specs.Printed.{switches-word, rules-word, end-word, printed}
 
 -- ---- how the cases are written
@@ -28,13 +28,13 @@ abbrev pub off : ℕ → Literal
 off s = record { variable = s - 1; positive = false }
 
 -- 01's digits of a set-up, switch 1 first
-abbrev pub assigned : List ℕ → ℕ
-assigned [] = 0
-assigned (d ∷ ds) = d + 2 * assigned ds
+abbrev pub digits-assignment : List ℕ → ℕ
+digits-assignment [] = 0
+digits-assignment (d ∷ ds) = d + 2 * digits-assignment ds
 
 -- a line of a walk: what a walk call says, its model, its steps (01: moves) and its expansions (01: reaches)
 pub record Line : Type 0 where
-  pub kind : Kind
+  pub kind : AnswerKind
   pub model : ℕ
   pub steps : ℕ
   pub expansions : ℕ
@@ -43,7 +43,7 @@ abbrev pub line : Result → Line
 line r = record { kind = r .kind; model = r .model; steps = r .steps; expansions = r .expansions }
 
 abbrev pub model-at : List ℕ → ℕ → ℕ → Line
-model-at ds steps expansions = record { kind = says-model; model = assigned ds; steps = steps; expansions = expansions }
+model-at ds steps expansions = record { kind = says-model; model = digits-assignment ds; steps = steps; expansions = expansions }
 
 abbrev pub end-at : ℕ → ℕ → Line
 end-at steps expansions = record { kind = says-ended; model = 0; steps = steps; expansions = expansions }
@@ -53,11 +53,11 @@ abbrev pub walked : List ℕ → ℕ → List Line
 walked s k = map line (walk-calls s start (replicate k ample-budget))
 
 -- the number and the place of the refusal that reading gives, zeros if it gives none
-abbrev pub refusal-of : Decoding → Listing
+abbrev pub refusal-of : Decoding → TableRow
 refusal-of (readable n cs) = record { number = 0; place = 0 }
-refusal-of (refused r) = listing r
+refusal-of (refused r) = table-row r
 
-abbrev pub number-at : ℕ → ℕ → Listing
+abbrev pub number-at : ℕ → ℕ → TableRow
 number-at k p = record { number = k; place = p }
 
 -- judge refuses by 10 with this place, and writes these marks into a buffer (01: slate) that is not short

@@ -17,7 +17,7 @@ use Rattle.formula.specs.Masked.{formula-of}
 use Rattle.splitting.specs.declared.Assignment.{Assignment}
 use Rattle.splitting.specs.Choosing.{choice}
 use Rattle.splitting.specs.Terms.{Sound}
-use Rattle.splitting.specs.InnerChoose.{set-to, assign-all, assignment-of, chosen}
+use Rattle.splitting.specs.InnerChoose.{set-to, assign-all, assignment-of, mask-choice}
 use Rattle.splitting.proofs.Theorems.{formula-below, trail-lacks}
 use Rattle.splitting.proofs.MaskChoiceLaws.{chosen-choice}
 use Rattle.walk.specs.Task.{Task, whole, to-assign, Posed}
@@ -78,7 +78,7 @@ follows {n} {cs} Z S =
     all = whole-size n cs small
 
     chooses : (t : Stack) → replays (tree (whole n cs)) t ≡ true → depth t < to-assign (whole n cs)
-        → chosen (formula-of n cs) (full n) (assignment-of (trail-of t)) ≡ choice n (full n) cs (trail-of t)
+        → mask-choice (formula-of n cs) (full n) (assignment-of (trail-of t)) ≡ choice n (full n) cs (trail-of t)
     chooses t r h =
         let W = trail-over (whole n cs) P t (replays-replayed (tree (whole n cs)) t r) in
         let w = trail-lacks n (full n) (trail-of t) small (P .below) W (omega (arith, length-trail t)) in

@@ -11,7 +11,7 @@ use borrow.Author.Tests.{eq-eqb, ne-eqb, lt-ltb, le-ltb}
 use Rattle.masks.specs.Mask.{full}
 use Rattle.formula.specs.declared.Formula.{Formula}
 use Rattle.splitting.specs.declared.Choice.{Choice}
-use Rattle.splitting.specs.InnerChoose.{chosen}
+use Rattle.splitting.specs.InnerChoose.{mask-choice}
 use Rattle.splitting.specs.Terms.{opened}
 use Rattle.walk.specs.InnerStack.{Stack, empty, push, depth, Tree}
 use Rattle.walk.specs.InnerTest.{byte-number, byte-value, pushed, replays}
@@ -46,14 +46,14 @@ module _ (f : Formula) (K : Tree) (F : Follows f K) (s : State) (h : Holds K s) 
     within = let d = h .deep in let l = not-full in let q = F .size in omega arith
 
     -- the code's choice is the tree's
-    pub choice-is : (c : Choice) → c ≡ chosen f (full (f .variables)) (s .assignment) → c ≡ K .choose (stack-in s)
+    pub choice-is : (c : Choice) → c ≡ mask-choice f (full (f .variables)) (s .assignment) → c ≡ K .choose (stack-in s)
     choice-is c x = x ∙ choice-at f K F s h not-full
 
     module _ (c : Choice) (e : c ≡ K .choose (stack-in s)) where
       choice-low : c .variable < f .variables
       choice-low = rw e (F .low (stack-in s) (h .replayed) within)
 
-      -- another variable than the chosen one
+      -- another variable than the mask-choice one
       replays-other : (v : ℕ) (b : Bool) → (v ≡ c .variable → ⊥) → replays K (push v b (stack-in s)) ≡ false
       unfolding replays
       replays-other v b x =
@@ -65,7 +65,7 @@ module _ (f : Formula) (K : Tree) (F : Follows f K) (s : State) (h : Holds K s) 
       pub replayed-other : (v : ℕ) (b : Bool) → (v ≡ c .variable → ⊥) → Replayed K (push v b (stack-in s)) (record { known = false; state = s })
       replayed-other v b x = record { known = sym (replays-other v b x); node = λ y. absurd (false≢true y) }
 
-      -- the chosen one
+      -- the mask-choice one
       replays-open : (b : Bool) → replays K (push (c .variable) b (stack-in s)) ≡ opened c b
       unfolding replays
       replays-open b =
@@ -88,7 +88,7 @@ module _ (f : Formula) (K : Tree) (F : Follows f K) (s : State) (h : Holds K s) 
             place = refl;
           }
 
-      -- so the chosen one is known if its value is open
+      -- so the mask-choice one is known if its value is open
       pub replayed-chosen : (v : ℕ) (x b free : Bool) (u : State) → (free ≡ true → Free K (stack-in s)) → v ≡ c .variable → x ≡ b
           → u ≡ pushing (noted s (c .true_open) free) (c .variable) b → Replayed K (push v x (stack-in s)) (record { known = opened c b; state = u })
       replayed-chosen v x b free u g p q r = rw (p, q, r) (record { known = sym (replays-open b); node = node-more b free g })
@@ -99,8 +99,8 @@ module _ (f : Formula) (s : State) (w : Valid f s) (ne : s .length ≡ f .variab
   pub valid-short : s .length < f .variables
   valid-short = not-full f (w .tree) (w .follows) s (w .holds) ne
 
-  -- the chosen variable is one of the formula's
-  pub valid-low : (c : Choice) → c ≡ chosen f (full (f .variables)) (s .assignment) → c .variable < f .variables
+  -- the mask-choice variable is one of the formula's
+  pub valid-low : (c : Choice) → c ≡ mask-choice f (full (f .variables)) (s .assignment) → c .variable < f .variables
   valid-low c x = choice-low f (w .tree) (w .follows) s (w .holds) ne c (choice-is f (w .tree) (w .follows) s (w .holds) ne c x)
 
 -- ---- the trail, byte by byte

@@ -1,6 +1,6 @@
--- 01's values of what a walk call gives, for each case of its answer.
+-- 01's walked-values of what a walk call gives, for each case of its answer.
 use Prim.Native.Nat.{ℕ}
-use Rattle.formula.specs.Refusals.{listing}
+use Rattle.formula.specs.Refusals.{table-row}
 use Rattle.walk.specs.Checkpoints as walk
 use Rattle.walk.specs.WalkCall.{says-model, says-spent, says-ended, says-refused, Result}
 use Rattle.enumeration.specs.declared.calls.Answer.{Answer}
@@ -19,10 +19,10 @@ answer-values (Model a) s e c = record { kind = says-model; model = a; number = 
 answer-values Spent s e c = record { kind = says-spent; model = 0; number = 0; place = 0; steps = s; expansions = e; checkpoint = c }
 answer-values Ended s e c = record { kind = says-ended; model = 0; number = 0; place = 0; steps = s; expansions = e; checkpoint = c }
 answer-values (Refused r) s e c =
-    record { kind = says-refused; model = 0; number = listing r .number; place = listing r .place; steps = s; expansions = e; checkpoint = c }
+    record { kind = says-refused; model = 0; number = table-row r .number; place = table-row r .place; steps = s; expansions = e; checkpoint = c }
 
-abbrev pub values : Walked → Result
-values w = answer-values (w .answer) (w .steps) (w .expansions) (checkpoint-values (w .checkpoint))
+abbrev pub walked-values : Walked → Result
+walked-values w = answer-values (w .answer) (w .steps) (w .expansions) (checkpoint-values (w .checkpoint))
 
 -- the result without its steps and expansions
 abbrev pub uncounted : Result → Result

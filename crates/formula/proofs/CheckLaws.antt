@@ -22,7 +22,7 @@ use Rattle.formula.specs.declared.Clause.{Clause}
 use Rattle.formula.specs.declared.Formula.{Formula}
 use Rattle.formula.specs.declared.Refusal.{Refusal}
 use Rattle.formula.specs.declared.Refusal.the-variants.{StrayVariable}
-use Rattle.formula.specs.Check.{said-yes, said-no, answer, refusal, checked}
+use Rattle.formula.specs.Check.{said-yes, said-no, verdict-said, verdict-refused, checked}
 use Rattle.formula.specs.Decode.{refused, decode}
 use Rattle.formula.specs.Format.{Literal}
 use Rattle.formula.specs.InnerCheck.{clause-holds, all-first, clauses-hold}
@@ -129,11 +129,11 @@ clauses-hold-of a cs =
 
 -- what check says of an accepted input
 pub checked-accepted : (s : List ℕ) (f : Formula) (a : ℕ) → Accepts s f
-    → checked s a ≡ cond (stray (f .variables) a) (refusal (StrayVariable 0)) (cond (clauses-hold a (f .clauses) (f .count)) (answer said-yes) (answer said-no))
+    → checked s a ≡ cond (stray (f .variables) a) (verdict-refused (StrayVariable 0)) (cond (clauses-hold a (f .clauses) (f .count)) (verdict-said said-yes) (verdict-said said-no))
 unfolding checked
 checked-accepted s f a w = rw (w .reads, w .formula, clauses-hold-of a (w .clauses))
 
 -- and of a refused one
-pub checked-refused : (s : List ℕ) (r : Refusal) (a : ℕ) → decode s ≡ refused r → checked s a ≡ refusal r
+pub checked-refused : (s : List ℕ) (r : Refusal) (a : ℕ) → decode s ≡ refused r → checked s a ≡ verdict-refused r
 unfolding checked
 checked-refused s r a e = rw e

@@ -16,7 +16,7 @@ use Rattle.masks.proofs.MembersLaws.{mask-same, member-some}
 use Rattle.formula.specs.declared.Clause.{Clause}
 use Rattle.formula.specs.Decode.{none-yet}
 use Rattle.formula.specs.Format.{Literal, names, names-as, distinct, ClauseOver}
-use Rattle.formula.specs.Masked.{no-clause, named, with-literal, with-literals, variables, clause-of, side, ClauseFits}
+use Rattle.formula.specs.Masked.{no-clause, clause-variables, with-literal, with-literals, variables, clause-of, side, ClauseFits}
 use Rattle.formula.proofs.FormatLaws.{distinct-rest}
 
 -- ---- what the masks name
@@ -28,36 +28,36 @@ unfolding with-literals
 with-literals-last c [] l = refl
 with-literals-last c (k ∷ ls) l = with-literals-last (with-literal c (k .variable) (k .positive)) ls l
 
--- a literal more names its variable and what was named
-pub with-literal-names : (c : Clause) (v : ℕ) (sign : Bool) (i : ℕ) → bit (named (with-literal c v sign)) i ≡ bit (named c) i || eqb i v
+-- a literal more names its variable and what was clause-variables
+pub with-literal-names : (c : Clause) (v : ℕ) (sign : Bool) (i : ℕ) → bit (clause-variables (with-literal c v sign)) i ≡ bit (clause-variables c) i || eqb i v
 with-literal-names c v true i =
     simp (bit-or, bit-pow) (or-swap (bit (c .positive) i) (bit (c .negative) i) (eqb i v))
 with-literal-names c v false i =
     simp (bit-or, bit-pow) (sym (or-assoc (bit (c .positive) i) (bit (c .negative) i) (eqb i v)))
 
--- the masks name v if they named it before, or a literal does
-with-literals-names : (c : Clause) (ls : List Literal) (v : ℕ) → bit (named (with-literals c ls)) v ≡ bit (named c) v || names ls v
+-- the masks name v if they clause-variables it before, or a literal does
+with-literals-names : (c : Clause) (ls : List Literal) (v : ℕ) → bit (clause-variables (with-literals c ls)) v ≡ bit (clause-variables c) v || names ls v
 unfolding with-literals names
-with-literals-names c [] v = sym (or-false (bit (named c) v))
+with-literals-names c [] v = sym (or-false (bit (clause-variables c) v))
 with-literals-names c (l ∷ ls) v =
     with-literals-names (with-literal c (l .variable) (l .positive)) ls v
     ∙ ap (λ (b : Bool). b || names ls v)
-    (with-literal-names c (l .variable) (l .positive) v ∙ ap (λ (b : Bool). bit (named c) v || b) (eqb-comm v (l .variable)))
-    ∙ or-assoc (bit (named c) v) (eqb (l .variable) v) (names ls v)
+    (with-literal-names c (l .variable) (l .positive) v ∙ ap (λ (b : Bool). bit (clause-variables c) v || b) (eqb-comm v (l .variable)))
+    ∙ or-assoc (bit (clause-variables c) v) (eqb (l .variable) v) (names ls v)
 
 -- the masks of a clause name what its literals name
-pub clause-names : (c : List Literal) (v : ℕ) → bit (named (clause-of c)) v ≡ names c v
+pub clause-names : (c : List Literal) (v : ℕ) → bit (clause-variables (clause-of c)) v ≡ names c v
 clause-names c v =
-    let e : bit (named no-clause) v ≡ false = bit-none v in
+    let e : bit (clause-variables no-clause) v ≡ false = bit-none v in
     with-literals-names no-clause c v ∙ rw e
 
 -- and are empty only where there is no literal
-pub clause-empty : (c : List Literal) → eqb (named (clause-of c)) 0 ≡ none-yet c
+pub clause-empty : (c : List Literal) → eqb (clause-variables (clause-of c)) 0 ≡ none-yet c
 unfolding with-literals names
 clause-empty [] = refl
 clause-empty (l ∷ c) =
     let here : names (l ∷ c) (l .variable) ≡ true = rw (eq-eqb (l .variable) (l .variable) refl) in
-    ne-eqb (named (clause-of (l ∷ c))) 0 (member-some (named (clause-of (l ∷ c))) (l .variable) (clause-names (l ∷ c) (l .variable) ∙ here))
+    ne-eqb (clause-variables (clause-of (l ∷ c))) 0 (member-some (clause-variables (clause-of (l ∷ c))) (l .variable) (clause-names (l ∷ c) (l .variable) ∙ here))
 
 -- the mask of all its variables has the variables that the clause names
 pub variables-bit : (c : List Literal) (v : ℕ) → bit (variables c) v ≡ names c v
@@ -66,8 +66,8 @@ variables-bit [] v = bit-none v
 variables-bit (l ∷ c) v = bit-with (variables c) (l .variable) v ∙ rw (variables-bit c v, eqb-comm v (l .variable)) (or-comm (names c v) (eqb (l .variable) v))
 
 -- those that its masks name
-pub variables-named : (c : List Literal) → variables c ≡ named (clause-of c)
-variables-named c = mask-same (variables c) (named (clause-of c)) (λ i. variables-bit c i ∙ sym (clause-names c i))
+pub variables-named : (c : List Literal) → variables c ≡ clause-variables (clause-of c)
+variables-named c = mask-same (variables c) (clause-variables (clause-of c)) (λ i. variables-bit c i ∙ sym (clause-names c i))
 
 -- and is a mask of n digits for a clause over n variables
 pub variables-lt : (n : ℕ) (c : List Literal) → Every (λ l. l .variable < n) c → variables c < 2 ^ n
@@ -118,7 +118,7 @@ empty-below : (n : ℕ) (sign : Bool) → side no-clause sign < 2 ^ n
 empty-below n true = pow-pos n
 empty-below n false = pow-pos n
 
--- what is named one way is named
+-- what is clause-variables one way is clause-variables
 pub named-as : (c : List Literal) (v : ℕ) (sign : Bool) → names-as c v sign ≡ true → names c v ≡ true
 unfolding names names-as
 named-as [] v sign e = e

@@ -10,14 +10,14 @@ use lib.Seq.{append-snoc}
 use Rattle.limits.specs.Limits.{max-variables, max-clauses}
 use Rattle.lists.specs.Every.{Every}
 use Rattle.formula.specs.Format.{Literal, literal-kind, literal-bytes, literals-bytes, clause-bytes, clauses-bytes, names, distinct, ClauseOver}
-use Rattle.formula.specs.Decode.{Decoding, readable, Reading, start, next, stop, read-record, records, decode}
+use Rattle.formula.specs.Decode.{Decoding, readable, Reading, reading-start, next, stop, read-record, records, decode}
 use Rattle.formula.specs.Table.{Beginning, nothing, inside, written, Begins}
 use Rattle.formula.proofs.ExtendsLaws.{Extends, count, literal, clause-end, extends-length, extends-longer}
 use Rattle.formula.proofs.FormatLaws.{distinct-fresh}
 
 -- where the reader stands after a beginning
 abbrev pub reading-of : Beginning → Reading
-reading-of nothing = start
+reading-of nothing = reading-start
 reading-of (inside n cs c) = record { at = length (written (inside n cs c)); variables = n; ended = cs; current = c }
 
 -- its offset is the number of the bytes before it
@@ -99,7 +99,7 @@ gives-clauses {n = n} cs (c ∷ ds) h l g =
     (gives-literals [] c (h .0 .below) (h .0 .once) (gives-record x (gives-clauses (cs ++ (c ∷ [])) ds (h .1) (rw append-snoc l) (rw append-snoc g))))
 
 -- what follows a beginning of the grammar gives, the beginning and it give
-gives-beginning : {len : ℕ} {s : List ℕ} {r : Decoding} (b : Beginning) → Begins b → Gives len (reading-of b) s r → Gives len start (written b ++ s) r
+gives-beginning : {len : ℕ} {s : List ℕ} {r : Decoding} (b : Beginning) → Begins b → Gives len (reading-of b) s r → Gives len reading-start (written b ++ s) r
 gives-beginning nothing h g = g
 gives-beginning (inside n cs c) h g =
     simp append-assoc
@@ -116,4 +116,4 @@ pub decode-after : {s : List ℕ} {r : Decoding} (b : Beginning) → Begins b �
     → Gives (length s) (reading-of b) rest r → decode s ≡ r
 unfolding decode
 decode-after {s} b h rest e g =
-    ap (λ (t : List ℕ). records (length s) (length s) start t) e ∙ gives-beginning b h g .runs (length s) (omega (arith, ap length e))
+    ap (λ (t : List ℕ). records (length s) (length s) reading-start t) e ∙ gives-beginning b h g .runs (length s) (omega (arith, ap length e))

@@ -11,10 +11,10 @@ use Rattle.limits.specs.Limits.{max-variables}
 use Rattle.formula.specs.declared.Refusal.{Refusal}
 use Rattle.formula.specs.Format.{Literal, formula-bytes, max-bytes, Encodes}
 use Rattle.formula.specs.Decode.{Decoding, Reading, next, stop, read-record, records, readable, refused, decode}
-use Rattle.formula.specs.Refusals.{listing}
+use Rattle.formula.specs.Refusals.{table-row}
 use Rattle.formula.specs.Table.{Refuses}
 use Rattle.formula.specs.declared.Refusal.the-variants.{StrayVariable}
-use Rattle.formula.specs.Check.{Answer, said-yes, said-no, refusal, checked}
+use Rattle.formula.specs.Check.{VerdictValues, said-yes, said-no, verdict-refused, checked}
 use Rattle.formula.specs.Masked.{formula-of, FormulaFits}
 use Rattle.formula.specs.Models.{ModelOf, NoModelOf, StrayOf}
 use Rattle.formula.proofs.BoundLaws.{records-same, records-on}
@@ -34,11 +34,11 @@ accepted-only s n cs e = rw e at (decode-means s)
 pub accepted-all : (s : List ℕ) (n : ℕ) (cs : List (List Literal)) → Encodes s n cs → decode s ≡ readable n cs
 accepted-all s n cs = decode-gives s (readable n cs)
 
--- 'The refusal table': a refusal is given only where its column 'given if' says so, and no check before it in the order fails
+-- 'The verdict-refused table': a verdict-refused is given only where its column 'given if' says so, and no check before it in the order fails
 pub refused-only : (s : List ℕ) (r : Refusal) → decode s ≡ refused r → Refuses s r
 refused-only s r e = rw e at (decode-means s)
 
--- 'The refusal table': and wherever it says so
+-- 'The verdict-refused table': and wherever it says so
 pub refused-all : (s : List ℕ) (r : Refusal) → Refuses s r → decode s ≡ refused r
 refused-all s r = decode-gives s (refused r)
 
@@ -54,7 +54,7 @@ longest s n cs e = formula-le (accepted-only s n cs e)
 pub longest-exists : (s : List ℕ) × (cs : List (List Literal)) × (length s ≡ max-bytes) × (decode s ≡ readable max-variables cs)
 longest-exists = (formula-bytes max-variables fullest, fullest, fullest-length, accepted-all (formula-bytes max-variables fullest) max-variables fullest fullest-encoded)
 
--- 'The refusal table', order, 'record by record from the front': the bound in the definition is never what stops it. Wherever
+-- 'The verdict-refused table', order, 'record by record from the front': the bound in the definition is never what stops it. Wherever
 -- reading stands and s is left, any larger bound gives the same,
 pub records-unbounded : (len : ℕ) (r : Reading) (s : List ℕ) (k : ℕ) → length s ≤ k → records k len r s ≡ records (length s) len r s
 records-unbounded len r s k h = records-same k (length s) len r s h (omega arith)
@@ -71,8 +71,8 @@ records-stop len r s d e = gives-stop e .runs (length s) (omega arith)
 pub unique : (s : List ℕ) (n n′ : ℕ) (cs cs′ : List (List Literal)) → Encodes s n cs → Encodes s n′ cs′ → (n ≡ n′) × (cs ≡ cs′)
 unique s n n′ cs cs′ e e′ = let q : readable n cs ≡ readable n′ cs′ = sym (accepted-all s n cs e) ∙ accepted-all s n′ cs′ e′ in (cc, cc)
 
--- 'The refusal table', order: reading gives the refusals 2 to 9 only
-pub numbers : (s : List ℕ) (r : Refusal) → decode s ≡ refused r → (2 ≤ listing r .number) × (listing r .number ≤ 9)
+-- 'The verdict-refused table', order: reading gives the refusals 2 to 9 only
+pub numbers : (s : List ℕ) (r : Refusal) → decode s ≡ refused r → (2 ≤ table-row r .number) × (table-row r .number ≤ 9)
 numbers s r e = given-number (refused-only s r e .given)
 
 -- 'n, 1 to 48', 'At most 96 rules': an accepted formula fits, its masks are below 2 ^ n and no variable is in both masks of a clause
@@ -81,16 +81,16 @@ accepted-fits s n cs e = formula-fits (accepted-only s n cs e .sized)
 
 -- 'Check answers yes if the set-up is permitted', whether or not the clauses can be matched
 pub check-yes : (s : List ℕ) (a : ℕ) → (checked s a .said ≡ said-yes) ↔ ModelOf s a
-check-yes s a = (says-yes (says s a), λ m. ap (λ (x : Answer). x .said) (checked-model s a m))
+check-yes s a = (says-yes (says s a), λ m. ap (λ (x : VerdictValues). x .said) (checked-model s a m))
 
 -- 'and no if it isn't'
 pub check-no : (s : List ℕ) (a : ℕ) → (checked s a .said ≡ said-no) ↔ NoModelOf s a
-check-no s a = (says-no (says s a), λ m. ap (λ (x : Answer). x .said) (checked-no-model s a m))
+check-no s a = (says-no (says s a), λ m. ap (λ (x : VerdictValues). x .said) (checked-no-model s a m))
 
 -- 12: 'a checked set-up has a switch above n on', place 0
-pub check-stray : (s : List ℕ) (a : ℕ) → (checked s a ≡ refusal (StrayVariable 0)) ↔ StrayOf s a
+pub check-stray : (s : List ℕ) (a : ℕ) → (checked s a ≡ verdict-refused (StrayVariable 0)) ↔ StrayOf s a
 check-stray s a = (says-stray (says s a), checked-stray s a)
 
--- 'Check uses 2 to 9 and 12 only': an unreadable input gets its own refusal
-pub check-refused : (s : List ℕ) (r : Refusal) (a : ℕ) → decode s ≡ refused r → checked s a ≡ refusal r
+-- 'Check uses 2 to 9 and 12 only': an unreadable input gets its own verdict-refused
+pub check-refused : (s : List ℕ) (r : Refusal) (a : ℕ) → decode s ≡ refused r → checked s a ≡ verdict-refused r
 check-refused = checked-refused

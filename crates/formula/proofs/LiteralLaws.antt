@@ -15,7 +15,7 @@ use Rattle.formula.specs.declared.Event.the-variants.{Next}
 use Rattle.formula.specs.declared.Reader.{Reader}
 use Rattle.formula.specs.Decode.{one-to}
 use Rattle.formula.specs.InnerReader.{variable-event, literal-event, record-event, literal-stands, literal-read, Passes}
-use Rattle.formula.specs.Masked.{named}
+use Rattle.formula.specs.Masked.{clause-variables}
 use Rattle.formula.proofs.OneTo.{one-to-least, one-to-most}
 use Rattle.formula.proofs.ReaderLaws.{whole, turn-next}
 
@@ -25,7 +25,7 @@ pub record Stands (s : List ℕ) (r : Reader) : Type 0 where
   pub inside : r .at + 1 < length s
   pub sign : eqb (getD s (r .at) 0) 2 || eqb (getD s (r .at) 0) 3 ≡ true
   pub within : one-to (r .variables) (getD s (r .at + 1) 0) ≡ true
-  pub fresh : bit (named (r .current)) (getD s (r .at + 1) 0 - 1) ≡ false
+  pub fresh : bit (clause-variables (r .current)) (getD s (r .at + 1) 0 - 1) ≡ false
 
 module _ (s : List ℕ) (r : Reader) (e : literal-stands s r ≡ true) where
   pub stands : Stands s r

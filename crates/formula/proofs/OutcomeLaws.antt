@@ -84,18 +84,18 @@ module _ (len : ℕ) where
       (formula-front n cs c s) (λ k o. fails (UnknownKind _) (kind-unknown k o)) k
 
 -- what a result of reading says of the input: it is the bytes of that formula, or meets that refusal's 'given if'
-abbrev pub Means : List ℕ → Decoding → Type 0
-Means s (readable n cs) = Encodes s n cs
-Means s (refused r) = Refuses s r
+abbrev pub DecodesTo : List ℕ → Decoding → Type 0
+DecodesTo s (readable n cs) = Encodes s n cs
+DecodesTo s (refused r) = Refuses s r
 
 -- some result says what the input is, after a beginning of the grammar
-means-after : (s : List ℕ) (k : ℕ) (b : Beginning) → Begins b → (rest : List ℕ) → length rest ≤ k → s ≡ written b ++ rest → (d : Decoding) × Means s d
+means-after : (s : List ℕ) (k : ℕ) (b : Beginning) → Begins b → (rest : List ℕ) → length rest ≤ k → s ≡ written b ++ rest → (d : Decoding) × DecodesTo s d
 means-after s zero b g [] l e = (refused (Truncated (length s)), record { before = b; begins = g; rest = []; bytes = e; given = no-kind })
 means-after s zero b g (x ∷ rest) l e = absurd (omega arith)
 means-after s (suc k) b g rest l e = go (means-after s k) b g rest l e (front (length s) b g rest)
   where
-    go : ((b : Beginning) → Begins b → (rest : List ℕ) → length rest ≤ k → s ≡ written b ++ rest → (d : Decoding) × Means s d) → (b : Beginning)
-        → Begins b → (rest : List ℕ) → length rest ≤ suc k → s ≡ written b ++ rest → Front (length s) b rest → (d : Decoding) × Means s d
+    go : ((b : Beginning) → Begins b → (rest : List ℕ) → length rest ≤ k → s ≡ written b ++ rest → (d : Decoding) × DecodesTo s d) → (b : Beginning)
+        → Begins b → (rest : List ℕ) → length rest ≤ suc k → s ≡ written b ++ rest → Front (length s) b rest → (d : Decoding) × DecodesTo s d
     go again b g rest l e (ends {n} {cs}) = (readable n cs, record { bytes = e ∙ formula-written n cs; sized = g .0 })
     go again b g rest l e (fails r w) = (refused r, record { before = b; begins = g; rest = rest; bytes = e; given = w })
     go again b g rest l e (continues {b′ = b′} {x = x} t w q) =
@@ -103,7 +103,7 @@ means-after s (suc k) b g rest l e = go (means-after s k) b g rest l e (front (l
         (e ∙ rw (q, extends-written w, append-assoc))
 
 -- a result that says what the input is, is the one that reading gives
-pub decode-gives : (s : List ℕ) (d : Decoding) → Means s d → decode s ≡ d
+pub decode-gives : (s : List ℕ) (d : Decoding) → DecodesTo s d → decode s ≡ d
 unfolding distinct
 decode-gives s (readable n cs) e =
     decode-after (inside n cs []) (e .sized, record { below = tt; once = refl }) (5 ∷ []) (e .bytes ∙ sym (formula-written n cs)) (gives-formula (length s) n cs)
@@ -111,7 +111,7 @@ decode-gives s (refused r) e =
     decode-after (e .before) (e .begins) (e .rest) (e .bytes) (gives-stop (given-read (length s) (e .given) refl))
 
 -- what reading gives says what the input is
-pub decode-means : (s : List ℕ) → Means s (decode s)
+pub decode-means : (s : List ℕ) → DecodesTo s (decode s)
 decode-means s =
-    let w : (d : Decoding) × Means s d = means-after s (length s) nothing tt s (omega arith) refl in
+    let w : (d : Decoding) × DecodesTo s d = means-after s (length s) nothing tt s (omega arith) refl in
     rw (decode-gives s (w .0) (w .1)) (w .1)

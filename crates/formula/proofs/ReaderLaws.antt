@@ -16,7 +16,7 @@ use Rattle.formula.specs.declared.Event.the-variants.{Next, Finished, St
 use Rattle.formula.specs.declared.Reader.{Reader}
 use Rattle.formula.specs.declared.Refusal.{Refusal}
 use Rattle.formula.specs.declared.Refusal.the-variants.{Truncated, UnknownKind, Misplaced, BadVariableCount, NoSuchVariable, RepeatedVariable, TooManyClauses, TrailingByte}
-use Rattle.formula.specs.Decode.{readable, refused, Kind, variable-count, literal, clause-end, formula-end, unknown, kind-of, known, allowed, Reading, start, Step, next, stop, refuse, none-yet, one-to, after-kind, variable-count-body, literal-body, clause-ends, formula-ends, read-record, records, decode}
+use Rattle.formula.specs.Decode.{readable, refused, Kind, variable-count, literal, clause-end, formula-end, unknown, kind-of, known, allowed, Reading, reading-start, Step, next, stop, refuse, none-yet, one-to, after-kind, variable-count-body, literal-body, clause-ends, formula-ends, read-record, records, decode}
 use Rattle.formula.specs.Format.{Literal, names}
 use Rattle.formula.specs.InnerReader.{count-event, variable-event, literal-event, end-event, finish-event, kind-event, record-event, reader-of, Reads}
 use Rattle.formula.proofs.ClauseLaws.{with-literals-last, clause-names, clause-empty}
@@ -184,7 +184,7 @@ follows s g small = go (front s (g .at) (g .at + 1) (omega arith))
 pub reads-start : (s : List ℕ) → Reads s (record { at = 0; variables = 0; count = 0; current = no-clause }) (padded max-clauses no-clause [])
 unfolding decode with-literals
 reads-start s = record {
-  reading = start;
+  reading = reading-start;
   is = refl;
   kept = refl;
   inside = zero-le;

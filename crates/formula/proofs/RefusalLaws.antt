@@ -12,8 +12,8 @@ use Rattle.limits.specs.Limits.{max-variables, max-clauses}
 use Rattle.formula.specs.declared.Refusal.{Refusal}
 use Rattle.formula.specs.declared.Refusal.the-variants.{Truncated, UnknownKind, Misplaced, NoSuchVariable, RepeatedVariable}
 use Rattle.formula.specs.Format.{Literal, literal-kind, names}
-use Rattle.formula.specs.Decode.{Reading, start, refuse, read-record}
-use Rattle.formula.specs.Refusals.{listing}
+use Rattle.formula.specs.Decode.{Reading, reading-start, refuse, read-record}
+use Rattle.formula.specs.Refusals.{table-row}
 use Rattle.formula.specs.Table.{Beginning, nothing, inside, written, MayStand, Given, no-kind, kind-unknown, kind-misplaced, no-body, count-bad, variable-unknown, variable-repeated, clause-extra, byte-extra}
 use Rattle.formula.proofs.DecodeLaws.{reading-of, reading-at}
 
@@ -55,7 +55,7 @@ module _ (len : ℕ) where
       → read-record len (reading-of b) (k ∷ s) ≡ refuse (Misplaced (length (written b)))
   unfolding read-record
   misplaced-read nothing k s =
-      each-kind (λ k. 1 ≤ k → k ≤ 5 → (k ≡ 1 → ⊥) → read-record len start (k ∷ s) ≡ refuse (Misplaced 0)) (λ h l m. absurd (m refl)) (λ h l m. refl)
+      each-kind (λ k. 1 ≤ k → k ≤ 5 → (k ≡ 1 → ⊥) → read-record len reading-start (k ∷ s) ≡ refuse (Misplaced 0)) (λ h l m. absurd (m refl)) (λ h l m. refl)
       (λ h l m. refl) (λ h l m. refl) (λ h l m. refl) (λ k o h l m. not-both k o h l) k
   misplaced-read (inside n cs c) k s =
       each-kind
@@ -108,7 +108,7 @@ module _ (len : ℕ) where
   given-read (byte-extra {n} {cs} x s) e = rw (e, lt-ltb 0 (length (written (inside n cs []))) (omega arith))
 
 -- a refusal of the reader has a number from 2 to 9
-pub given-number : {len at : ℕ} {b : Beginning} {s : List ℕ} {r : Refusal} → Given len at b s r → (2 ≤ listing r .number) × (listing r .number ≤ 9)
+pub given-number : {len at : ℕ} {b : Beginning} {s : List ℕ} {r : Refusal} → Given len at b s r → (2 ≤ table-row r .number) × (table-row r .number ≤ 9)
 given-number no-kind = omega arith
 given-number (kind-unknown k h) = omega arith
 given-number (kind-misplaced k h l m) = omega arith

@@ -7,7 +7,7 @@ use native.Mathlib.Omega.{arith}
 use Rattle.masks.specs.Mask.{bit}
 use Rattle.formula.specs.declared.Refusal.{Refusal}
 use Rattle.formula.specs.declared.Refusal.the-variants.{StrayVariable}
-use Rattle.formula.specs.Check.{Answer, said-yes, said-no, answer, refusal, answered, checked}
+use Rattle.formula.specs.Check.{VerdictValues, said-yes, said-no, verdict-said, verdict-refused, verdict-on, checked}
 use Rattle.formula.specs.Decode.{Decoding, readable, refused, decode}
 use Rattle.formula.specs.Models.{ModelOf, NoModelOf, StrayOf, satisfied, stray}
 use Rattle.formula.specs.Table.{Refuses}
@@ -16,11 +16,11 @@ use Rattle.formula.proofs.OutcomeLaws.{decode-means}
 use Rattle.formula.proofs.RefusalLaws.{given-number}
 
 -- the four answers, each with what it says
-pub data Says (s : List ℕ) (a : ℕ) : Answer → Type 0 where
-  yes-for : ModelOf s a → Says s a (answer said-yes)
-  no-for : NoModelOf s a → Says s a (answer said-no)
-  stray-for : StrayOf s a → Says s a (refusal (StrayVariable 0))
-  refused-for : (r : Refusal) → decode s ≡ refused r → Says s a (refusal r)
+pub data Says (s : List ℕ) (a : ℕ) : VerdictValues → Type 0 where
+  yes-for : ModelOf s a → Says s a (verdict-said said-yes)
+  no-for : NoModelOf s a → Says s a (verdict-said said-no)
+  stray-for : StrayOf s a → Says s a (verdict-refused (StrayVariable 0))
+  refused-for : (r : Refusal) → decode s ≡ refused r → Says s a (verdict-refused r)
 
 no-strays : (n a : ℕ) → stray n a ≡ false → (v : ℕ) → n ≤ v → bit a v ≡ false
 no-strays n a e v l = go (bit a v) refl
@@ -29,10 +29,10 @@ no-strays n a e v l = go (bit a v) refl
     go true q = sym (some-stray n a v l q) ∙ e
     go false q = refl
 
-says-of : (s : List ℕ) (a : ℕ) (x : Decoding) → decode s ≡ x → Says s a (answered x a)
+says-of : (s : List ℕ) (a : ℕ) (x : Decoding) → decode s ≡ x → Says s a (verdict-on x a)
 says-of s a (readable n cs) e = go (stray n a) refl (satisfied a cs) refl
   where
-    go : (t : Bool) → stray n a ≡ t → (u : Bool) → satisfied a cs ≡ u → Says s a (cond t (refusal (StrayVariable 0)) (cond u (answer said-yes) (answer said-no)))
+    go : (t : Bool) → stray n a ≡ t → (u : Bool) → satisfied a cs ≡ u → Says s a (cond t (verdict-refused (StrayVariable 0)) (cond u (verdict-said said-yes) (verdict-said said-no)))
     go true p u q =
         let w = stray-some n a p in
         stray-for (record { variables = n; clauses = cs; reads = e; variable = w .0; above = w .1; is-true = w .2 })
@@ -54,24 +54,24 @@ unfolding checked
 says s a = says-of s a (decode s) refl
 
 -- read off what is said
-pub says-yes : {s : List ℕ} {a : ℕ} {x : Answer} → Says s a x → x .said ≡ said-yes → ModelOf s a
+pub says-yes : {s : List ℕ} {a : ℕ} {x : VerdictValues} → Says s a x → x .said ≡ said-yes → ModelOf s a
 says-yes (yes-for m) e = m
 says-yes (no-for m) e = let z : _≡_ {A = ℕ} 0 1 = cc in absurd (omega arith)
 says-yes (stray-for m) e = let z : _≡_ {A = ℕ} 0 1 = cc in absurd (omega arith)
 says-yes (refused-for r d) e = let z : _≡_ {A = ℕ} 0 1 = cc in absurd (omega arith)
 
-pub says-no : {s : List ℕ} {a : ℕ} {x : Answer} → Says s a x → x .said ≡ said-no → NoModelOf s a
+pub says-no : {s : List ℕ} {a : ℕ} {x : VerdictValues} → Says s a x → x .said ≡ said-no → NoModelOf s a
 says-no (yes-for m) e = let z : _≡_ {A = ℕ} 0 1 = cc in absurd (omega arith)
 says-no (no-for m) e = m
 says-no (stray-for m) e = let z : _≡_ {A = ℕ} 0 1 = cc in absurd (omega arith)
 says-no (refused-for r d) e = let z : _≡_ {A = ℕ} 0 1 = cc in absurd (omega arith)
 
--- and what the assignment is fixes the answer
-pub checked-model : (s : List ℕ) (a : ℕ) → ModelOf s a → checked s a ≡ answer said-yes
+-- and what the assignment is fixes the verdict-said
+pub checked-model : (s : List ℕ) (a : ℕ) → ModelOf s a → checked s a ≡ verdict-said said-yes
 unfolding checked
 checked-model s a m = let t = model-tests (m .variables) (m .clauses) a (m .model) in rw (m .reads, t .0, t .1)
 
-pub checked-no-model : (s : List ℕ) (a : ℕ) → NoModelOf s a → checked s a ≡ answer said-no
+pub checked-no-model : (s : List ℕ) (a : ℕ) → NoModelOf s a → checked s a ≡ verdict-said said-no
 unfolding checked
 checked-no-model s a m = rw (m .reads, quiet, unsatisfied (satisfied a (m .clauses)) refl)
   where
@@ -86,15 +86,15 @@ checked-no-model s a m = rw (m .reads, quiet, unsatisfied (satisfied a (m .claus
     unsatisfied true e = absurd (m .fails (tests-model (m .variables) (m .clauses) a quiet e))
     unsatisfied false e = e
 
-pub checked-stray : (s : List ℕ) (a : ℕ) → StrayOf s a → checked s a ≡ refusal (StrayVariable 0)
+pub checked-stray : (s : List ℕ) (a : ℕ) → StrayOf s a → checked s a ≡ verdict-refused (StrayVariable 0)
 unfolding checked
 checked-stray s a m = rw (m .reads, some-stray (m .variables) a (m .variable) (m .above) (m .is-true))
 
--- a refusal that reading gives is not 12
-pub says-stray : {s : List ℕ} {a : ℕ} {x : Answer} → Says s a x → x ≡ refusal (StrayVariable 0) → StrayOf s a
-says-stray (yes-for m) e = absurd (omega (arith, ap (λ (x : Answer). x .number) e))
-says-stray (no-for m) e = absurd (omega (arith, ap (λ (x : Answer). x .number) e))
+-- a verdict-refused that reading gives is not 12
+pub says-stray : {s : List ℕ} {a : ℕ} {x : VerdictValues} → Says s a x → x ≡ verdict-refused (StrayVariable 0) → StrayOf s a
+says-stray (yes-for m) e = absurd (omega (arith, ap (λ (x : VerdictValues). x .number) e))
+says-stray (no-for m) e = absurd (omega (arith, ap (λ (x : VerdictValues). x .number) e))
 says-stray (stray-for m) e = m
 says-stray {s} (refused-for r d) e =
     let h : Refuses s r = rw d at (decode-means s) in
-    absurd (omega (arith, given-number (h .given) .1, ap (λ (x : Answer). x .number) e))
+    absurd (omega (arith, given-number (h .given) .1, ap (λ (x : VerdictValues). x .number) e))

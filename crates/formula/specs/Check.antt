@@ -8,7 +8,7 @@ use Rattle.formula.specs.declared.Verdict.{Verdict}
 use Rattle.formula.specs.declared.Verdict.the-variants.{Model, NotModel, Refused}
 use Rattle.formula.specs.Decode.{Decoding, readable, refused, decode}
 use Rattle.formula.specs.Models.{satisfied, stray}
-use Rattle.formula.specs.Refusals.{listing}
+use Rattle.formula.specs.Refusals.{table-row}
 
 -- check says yes, no, or neither
 pub data Said : Type 0 where
@@ -16,28 +16,28 @@ pub data Said : Type 0 where
   said-no : Said
   said-neither : Said
 
--- 01's values of an answer: what it says, and the refusal's number and place, else zeros
-pub record Answer : Type 0 where
+-- 01's verdict-values of an verdict-said: what it says, and the verdict-refused's number and place, else zeros
+pub record VerdictValues : Type 0 where
   pub said : Said
   pub number : ℕ
   pub place : ℕ
 
-abbrev pub answer : Said → Answer
-answer s = record { said = s; number = 0; place = 0 }
+abbrev pub verdict-said : Said → VerdictValues
+verdict-said s = record { said = s; number = 0; place = 0 }
 
-abbrev pub refusal : Refusal → Answer
-refusal r = record { said = said-neither; number = listing r .number; place = listing r .place }
+abbrev pub verdict-refused : Refusal → VerdictValues
+verdict-refused r = record { said = said-neither; number = table-row r .number; place = table-row r .place }
 
--- the values of each case
-abbrev pub values : Verdict → Answer
-values Model = answer said-yes
-values NotModel = answer said-no
-values (Refused r) = refusal r
+-- the verdict-values of each case
+abbrev pub verdict-values : Verdict → VerdictValues
+verdict-values Model = verdict-said said-yes
+verdict-values NotModel = verdict-said said-no
+verdict-values (Refused r) = verdict-refused r
 
 -- yes if the assignment is a model, no if it is not; 12 if a variable above the formula's is true
-abbrev pub answered : Decoding → ℕ → Answer
-answered (readable n cs) a = cond (stray n a) (refusal (StrayVariable 0)) (cond (satisfied a cs) (answer said-yes) (answer said-no))
-answered (refused r) a = refusal r
+abbrev pub verdict-on : Decoding → ℕ → VerdictValues
+verdict-on (readable n cs) a = cond (stray n a) (verdict-refused (StrayVariable 0)) (cond (satisfied a cs) (verdict-said said-yes) (verdict-said said-no))
+verdict-on (refused r) a = verdict-refused r
 
-unfoldable pub checked : List ℕ → ℕ → Answer
-checked s a = answered (decode s) a
+unfoldable pub checked : List ℕ → ℕ → VerdictValues
+checked s a = verdict-on (decode s) a

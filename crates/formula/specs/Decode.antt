@@ -40,8 +40,8 @@ pub record Reading : Type 0 where
   pub ended : List (List Literal)
   pub current : List Literal
 
-abbrev pub start : Reading
-start = record { at = 0; variables = 0; ended = []; current = [] }
+abbrev pub reading-start : Reading
+reading-start = record { at = 0; variables = 0; ended = []; current = [] }
 
 -- after a record: reading goes on, with the bytes that follow, or it stops
 pub data Step : Type 0 where
@@ -137,4 +137,4 @@ records zero len r s = refused (Truncated len)
 records (suc k) len r s = elim (read-record len r s) [ next r′ s′ ↦ records k len r′ s′ | stop d ↦ d ]
 
 unfoldable pub decode : List ℕ → Decoding
-decode s = records (length s) (length s) start s
+decode s = records (length s) (length s) reading-start s

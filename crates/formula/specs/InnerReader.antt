@@ -14,7 +14,7 @@ use Rattle.formula.specs.declared.Event.the-variants.{Next, Finished, St
 use Rattle.formula.specs.declared.Reader.{Reader}
 use Rattle.formula.specs.declared.Refusal.the-variants.{Truncated, UnknownKind, Misplaced, BadVariableCount, NoSuchVariable, RepeatedVariable, TooManyClauses, TrailingByte}
 use Rattle.formula.specs.Decode.{Kind, variable-count, literal, clause-end, formula-end, unknown, kind-of, one-to, Reading, records, decode}
-use Rattle.formula.specs.Masked.{no-clause, with-literal, clause-of, named}
+use Rattle.formula.specs.Masked.{no-clause, with-literal, clause-of, clause-variables}
 
 -- kind 1
 unfoldable pub count-event : List ℕ → Reader → Event
@@ -30,7 +30,7 @@ count-event s r =
 -- a literal of variable v
 unfoldable pub variable-event : Reader → ℕ → Bool → Event
 variable-event r v sign =
-    cond (bit (named (r .current)) v)
+    cond (bit (clause-variables (r .current)) v)
     (Stopped (RepeatedVariable (r .at)))
     (Next (record { at = r .at + 2; variables = r .variables; count = r .count; current = with-literal (r .current) v sign }))
 
@@ -59,7 +59,7 @@ unfoldable pub finish-event : List ℕ → Reader → Event
 finish-event s r =
     cond (eqb (r .at) 0)
     (Stopped (Misplaced (r .at)))
-    (cond (eqb (named (r .current)) 0)
+    (cond (eqb (clause-variables (r .current)) 0)
     (cond (ltb (r .at + 1) (length s)) (Stopped (TrailingByte (r .at + 1))) Finished)
     (Stopped (Misplaced (r .at))))
 
@@ -79,7 +79,7 @@ record-event s r =
 abbrev pub literal-stands : List ℕ → Reader → Bool
 literal-stands s r =
     ltb 0 (r .at) && (ltb (r .at + 1) (length s) && ((eqb (getD s (r .at) 0) 2 || eqb (getD s (r .at) 0) 3)
-    && (one-to (r .variables) (getD s (r .at + 1) 0) && not (bit (named (r .current)) (getD s (r .at + 1) 0 - 1)))))
+    && (one-to (r .variables) (getD s (r .at + 1) 0) && not (bit (clause-variables (r .current)) (getD s (r .at + 1) 0 - 1)))))
 
 -- the reader behind it
 abbrev pub literal-read : List ℕ → Reader → Reader

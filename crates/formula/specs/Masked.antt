@@ -20,8 +20,8 @@ abbrev pub no-clause : Clause
 no-clause = record { positive = 0; negative = 0 }
 
 -- the variables that the clause names
-abbrev pub named : Clause → ℕ
-named c = bitOr (c .positive) (c .negative)
+abbrev pub clause-variables : Clause → ℕ
+clause-variables c = bitOr (c .positive) (c .negative)
 
 -- the clause that names v as well, as true or as false
 abbrev pub with-literal : Clause → ℕ → Bool → Clause
@@ -58,7 +58,7 @@ held (refused r) = record { outcome = Refused r; formula = formula-of 0 [] }
 unfoldable pub decoded : List ℕ → Decoded
 decoded s = held (decode s)
 
--- a clause over the variables below n, none of them named both ways
+-- a clause over the variables below n, none of them clause-variables both ways
 pub record ClauseFits (n : ℕ) (c : Clause) : Type 0 where
   pub below : (sign : Bool) → side c sign < 2 ^ n
   pub apart : meets (c .positive) (c .negative) ≡ false

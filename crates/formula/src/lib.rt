@@ -7,11 +7,11 @@ ghost use lib.Dec.{eqb};
 ghost use lib.ListN.{length, getD};
 ghost use mathlib.Core.List.{[]};
 ghost use Rattle.limits.specs.Limits.{max-variables, max-clauses};
-ghost use Rattle.formula.specs.Check.{values, checked};
+ghost use Rattle.formula.specs.Check.{verdict-values, checked};
 ghost use Rattle.formula.specs.InnerCheck.{clause-holds, clauses-hold};
 ghost use Rattle.formula.specs.Masked.{no-clause, with-literal, formula-of, held, decoded};
 ghost use Rattle.formula.specs.Decode.{refused};
-ghost use Rattle.formula.specs.Refusals.{listing};
+ghost use Rattle.formula.specs.Refusals.{table-row};
 ghost use Rattle.formula.specs.InnerReader.{count-event, variable-event, literal-event, end-event, finish-event, literal-stands, literal-read, record-event, PassesLiterals};
 
 // A clause (01: rule): the variables that it names as true (01: on) and those that it names as false.
@@ -372,7 +372,7 @@ pub fn decode(input: &[u8]) -> Decoded
 
 // 01's number of a refusal.
 pub fn number_of(refusal: Refusal) -> u64
-    ensures { λ r. ⌜ r ≡ listing refusal .number ⌝ }
+    ensures { λ r. ⌜ r ≡ table-row refusal .number ⌝ }
 {
     match refusal {
         Refusal::ShortBuffer(_) => 1,
@@ -392,7 +392,7 @@ pub fn number_of(refusal: Refusal) -> u64
 
 // 01's place of a refusal.
 pub fn place_of(refusal: Refusal) -> usize
-    ensures { λ r. ⌜ r ≡ listing refusal .place ⌝ }
+    ensures { λ r. ⌜ r ≡ table-row refusal .place ⌝ }
 {
     match refusal {
         Refusal::ShortBuffer(p) => p,
@@ -434,7 +434,7 @@ pub fn all_hold(f: Formula, assignment: u64) -> bool
 
 // The act check (01): whether the assignment is a model of the encoded formula, matched or not.
 pub fn check(input: &[u8], assignment: u64) -> Verdict
-    ensures { λ r. ⌜ values r ≡ checked (now (input .entry)) assignment ⌝ }
+    ensures { λ r. ⌜ verdict-values r ≡ checked (now (input .entry)) assignment ⌝ }
 {
     let d = decode(input);
     let outcome = d.outcome;

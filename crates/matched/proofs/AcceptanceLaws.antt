@@ -12,7 +12,7 @@ use Rattle.formula.specs.declared.Refusal.the-variants.{Unmatched}
 use Rattle.formula.specs.Decode.{Decoding, readable, refused, decode}
 use Rattle.formula.specs.Format.{Literal, Sized}
 use Rattle.formula.specs.Masked.{variables}
-use Rattle.formula.specs.Refusals.{listing}
+use Rattle.formula.specs.Refusals.{table-row}
 use Rattle.formula.proofs.Demands.{accepted-only, numbers}
 use Rattle.matching.specs.Matched.{union}
 use Rattle.matching.specs.Search.{Outcome, success, failure, outcome, marks}
@@ -114,10 +114,10 @@ module _ (s : List ℕ) where
   unreadable-declined r e = rw e
 
   -- a declined input has a number
-  pub declined-number : (r : Refusal) (row : List ℕ) → acceptance s ≡ declined r row → 2 ≤ listing r .number
+  pub declined-number : (r : Refusal) (row : List ℕ) → acceptance s ≡ declined r row → 2 ≤ table-row r .number
   declined-number r row = by comes
     where
-      by : {a : Acceptance} → Comes s a → a ≡ declined r row → 2 ≤ listing r .number
+      by : {a : Acceptance} → Comes s a → a ≡ declined r row → 2 ≤ table-row r .number
       by (paired n cs vs reads w) q = let z : _≡_ {A = ℕ} 0 1 = cc in absurd (omega arith)
       by (unpaired n cs ms reads v none) q = let e : Unmatched (length (marked ms cs)) ≡ r = cc in rw (← e) (omega arith)
       by (unreadable t reads) q = let e : t ≡ r = cc in rw (← e) (numbers s t reads .0)

@@ -18,7 +18,7 @@ use Rattle.lists.proofs.PaddedLaws.{padded-set, getD-padded, getD-padded-past, 
 use Rattle.lists.proofs.TabulatedLaws.{length-tabulated, getD-tabulated, tabulated-same, tabulated-map}
 use Rattle.formula.specs.declared.Formula.{Formula}
 use Rattle.formula.specs.Format.{Literal, Sized}
-use Rattle.formula.specs.Masked.{no-clause, named, variables, with-literals, clause-of, formula-of, FormulaFits}
+use Rattle.formula.specs.Masked.{no-clause, clause-variables, variables, with-literals, clause-of, formula-of, FormulaFits}
 use Rattle.formula.proofs.ClauseLaws.{variables-named}
 use Rattle.matching.specs.Matched.{Words}
 use Rattle.matching.specs.Result.{Clauses}
@@ -56,7 +56,7 @@ sets f = sets-of (f .clauses) (f .count)
 
 module _ (f : Formula) (fits : FormulaFits f) where
   pub sets-length : length (sets f) ≡ f .count
-  sets-length = length-tabulated (λ i. named (getD (f .clauses) i no-clause)) (f .count)
+  sets-length = length-tabulated (λ i. clause-variables (getD (f .clauses) i no-clause)) (f .count)
 
   sets-word : (i : ℕ) → i < f .count → getD (sets f) i 0 < 2 ^ 64
   sets-word i l =
@@ -64,7 +64,7 @@ module _ (f : Formula) (fits : FormulaFits f) where
       let w = fits .clauses i l in
       let n : f .variables ≤ 64 = omega (arith, fits .most) in
       let p : 2 ^ f .variables ≤ 2 ^ 64 = pow-mono n in
-      rw (getD-tabulated (λ j. named (getD (f .clauses) j no-clause)) (f .count) i 0 l)
+      rw (getD-tabulated (λ j. clause-variables (getD (f .clauses) j no-clause)) (f .count) i 0 l)
       (or-lt 64 (c .positive) (c .negative) (omega (arith, w .below true)) (omega (arith, w .below false)))
 
   pub sets-words : Words (sets f)
@@ -91,10 +91,10 @@ module _ (f : Formula) (fits : FormulaFits f) where
 pub formula-sets : {n : ℕ} {cs : List (List Literal)} → Sized n cs → sets (formula-of n cs) ≡ map variables cs
 unfolding with-literals
 formula-sets {n} {cs} z =
-    tabulated-same (λ i. named (getD ((formula-of n cs) .clauses) i no-clause)) (λ i. variables (getD cs i [])) (length cs) same ∙ tabulated-map variables cs []
+    tabulated-same (λ i. clause-variables (getD ((formula-of n cs) .clauses) i no-clause)) (λ i. variables (getD cs i [])) (length cs) same ∙ tabulated-map variables cs []
   where
-    same : (i : ℕ) → i < length cs → named (getD ((formula-of n cs) .clauses) i no-clause) ≡ variables (getD cs i [])
+    same : (i : ℕ) → i < length cs → clause-variables (getD ((formula-of n cs) .clauses) i no-clause) ≡ variables (getD cs i [])
     same i l =
         let m : i < length (map clause-of cs) = rw (length-map cs clause-of) l in
-        ap named (getD-padded max-clauses no-clause (map clause-of cs) i no-clause m ∙ List·getD-map clause-of cs i [])
+        ap clause-variables (getD-padded max-clauses no-clause (map clause-of cs) i no-clause m ∙ List·getD-map clause-of cs i [])
         ∙ sym (variables-named (getD cs i []))

@@ -16,12 +16,12 @@ use Rattle.formula.specs.Format.{Literal}
 use Rattle.matched.specs.declared.Accepted.{Accepted}
 use Rattle.matched.specs.Acceptance.{Acceptance, accepted, declined, acceptance}
 use Rattle.matched.specs.InnerAccept.{row-of, Represents}
-use Rattle.matched.specs.Judge.{Answer, Judged, accepted-values, refused-values, judgement-of, judge}
+use Rattle.matched.specs.Judge.{JudgementValues, Judged, accepted-values, refused-values, judgement-of, judge}
 use Rattle.matched.specs.Pairing.{Pairs, Pairable, Violator, marked}
 use Rattle.matched.proofs.AcceptanceLaws.{accepted-is, accepted-pairable, pairable-accepted, unpaired-declined, declined-number}
 
 -- the parts of what judge is
-pub told : {j : Judged} {a : Answer} {row left : List ℕ} → j ≡ record { answer = a; buffer = row } → left ≡ row → (a ≡ j .answer) × (left ≡ j .buffer)
+pub told : {j : Judged} {a : JudgementValues} {row left : List ℕ} → j ≡ record { answer = a; buffer = row } → left ≡ row → (a ≡ j .answer) × (left ≡ j .buffer)
 told e w = (ap (λ (j : Judged). j .answer) (sym e), w ∙ ap (λ (j : Judged). j .buffer) (sym e))
 
 pub judge-short : (s b : List ℕ) → length b < max-clauses → judge s b ≡ record { answer = refused-values (ShortBuffer 0); buffer = b }

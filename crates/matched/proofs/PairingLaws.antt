@@ -11,7 +11,7 @@ use Rattle.formula.specs.Format.{Literal, ClauseOver, Sized}
 use Rattle.formula.specs.Masked.{variables}
 use Rattle.formula.proofs.ClauseLaws.{variables-bit, variables-lt}
 use Rattle.matching.specs.Matched.{Matches, Words}
-use Rattle.matching.proofs.OutcomeLaws.{words-chosen}
+use Rattle.matching.proofs.OutcomeLaws.{words-selected}
 use Rattle.matching.proofs.Theorems.{pigeonhole, sub-list-matched}
 use Rattle.matched.specs.Pairing.{Pairs, Violator, marked}
 
@@ -52,4 +52,4 @@ pairs-matches cs vs w =
 pub no-pairs : (n : ℕ) (cs : List (List Literal)) (ms : List ℕ) → Sized n cs → Violator cs ms → (vs : List ℕ) → Pairs cs vs → ⊥
 no-pairs n cs ms z v vs w =
     let m = sub-list-matched ms (map variables cs) (vs, pairs-matches cs vs w) in
-    omega (arith, v .fewer, pigeonhole (marked ms cs) (words-chosen ms (map variables cs) (masks-words z)) m)
+    omega (arith, v .fewer, pigeonhole (marked ms cs) (words-selected ms (map variables cs) (masks-words z)) m)

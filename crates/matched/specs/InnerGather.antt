@@ -4,8 +4,8 @@ use mathlib.Core.List.{List}
 use lib.ListN.{getD}
 use Rattle.lists.specs.Tabulated.{tabulated}
 use Rattle.formula.specs.declared.Clause.{Clause}
-use Rattle.formula.specs.Masked.{no-clause, named}
+use Rattle.formula.specs.Masked.{no-clause, clause-variables}
 
 -- the variables that each of the first n clauses of an array names
 abbrev pub sets-of : List Clause → ℕ → List ℕ
-sets-of clauses n = tabulated (λ i. named (getD clauses i no-clause)) n
+sets-of clauses n = tabulated (λ i. clause-variables (getD clauses i no-clause)) n

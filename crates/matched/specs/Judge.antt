@@ -8,32 +8,32 @@ use Rattle.limits.specs.Limits.{max-clauses}
 use Rattle.lists.specs.Over.{over}
 use Rattle.formula.specs.declared.Refusal.{Refusal}
 use Rattle.formula.specs.declared.Refusal.the-variants.{ShortBuffer}
-use Rattle.formula.specs.Refusals.{listing}
+use Rattle.formula.specs.Refusals.{table-row}
 use Rattle.matched.specs.declared.Judgement.{Judgement}
 use Rattle.matched.specs.declared.Judgement.the-variants.{Accepted, Refused}
 use Rattle.matched.specs.Acceptance.{Acceptance, accepted, declined, acceptance}
 
 -- 01's values of an answer: the refusal's number and place, n and m; zeros where it has none
-pub record Answer : Type 0 where
+pub record JudgementValues : Type 0 where
   pub number : ℕ
   pub place : ℕ
   pub variables : ℕ
   pub clauses : ℕ
 
-abbrev pub accepted-values : ℕ → ℕ → Answer
+abbrev pub accepted-values : ℕ → ℕ → JudgementValues
 accepted-values n m = record { number = 0; place = 0; variables = n; clauses = m }
 
-abbrev pub refused-values : Refusal → Answer
-refused-values r = record { number = listing r .number; place = listing r .place; variables = 0; clauses = 0 }
+abbrev pub refused-values : Refusal → JudgementValues
+refused-values r = record { number = table-row r .number; place = table-row r .place; variables = 0; clauses = 0 }
 
 -- the values of each case
-abbrev pub judgement-values : Judgement → Answer
+abbrev pub judgement-values : Judgement → JudgementValues
 judgement-values (Accepted n m) = accepted-values n m
 judgement-values (Refused r) = refused-values r
 
 -- the answer, and the lent buffer (01: slate) as it is left
 pub record Judged : Type 0 where
-  pub answer : Answer
+  pub answer : JudgementValues
   pub buffer : List ℕ
 
 -- The row is written over the first bytes of the buffer; 'The slate's other bytes never change.'

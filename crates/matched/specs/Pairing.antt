@@ -9,7 +9,7 @@ use Rattle.formula.specs.Decode.{readable, decode}
 use Rattle.formula.specs.Format.{Literal, names}
 use Rattle.formula.specs.Masked.{variables}
 use Rattle.masks.specs.Mask.{size}
-use Rattle.matching.specs.Matched.{union, chosen}
+use Rattle.matching.specs.Matched.{union, selected}
 
 -- vs has a variable for each clause in order: one that the clause names, none twice
 pub record Pairs (cs : List (List Literal)) (vs : List ℕ) : Type 0 where
@@ -27,7 +27,7 @@ pub record Pairable (s : List ℕ) : Type 0 where
 
 -- the clauses that are marked by 1, of all those of cs
 abbrev pub marked : List ℕ → List (List Literal) → List ℕ
-marked marks cs = chosen marks (map variables cs)
+marked marks cs = selected marks (map variables cs)
 
 -- marks of 1 and 0, one for each clause: the marked clauses name one variable fewer, among them, than they are
 pub record Violator (cs : List (List Literal)) (marks : List ℕ) : Type 0 where

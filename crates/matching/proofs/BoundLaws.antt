@@ -9,7 +9,7 @@ use lib.ListN.{length, take}
 use lib.Seq.{getD-take, length-take-le}
 use lib.Dec.{eqb}
 use borrow.Author.Tests.{eqb-true, eqb-false}
-use Rattle.lists.proofs.TestLaws.{look}
+use Rattle.lists.proofs.TestLaws.{bool-cases}
 use Rattle.matching.specs.Matched.{Matches, Words}
 use Rattle.matching.specs.Search.{owner, Search, begin, expand, search-from, search-bound, rematch-from, rematch, next-search}
 use Rattle.matching.specs.Inner.{Partial}
@@ -44,7 +44,7 @@ search-larger (suc k) (suc n) sets own s l d =
     (λ (f : eqb (s .free) 64 ≡ false).
     let ne = eqb-false (s .free) 64 f in
     stopped-stays (suc n) sets own s (inl ne) ∙ sym (stopped-stays (suc k) sets own s (inl ne)))
-    (look (eqb (s .free) 64))
+    (bool-cases (eqb (s .free) 64))
 
 -- a matching of the first clauses, with their number and without
 partial-of : (sets m : List ℕ) → length m ≤ length sets → Matches (take (length m) sets) m → Partial sets m

@@ -9,7 +9,7 @@ use lib.ListN.{length, set, length-set}
 use lib.Seq.{getD-set-other}
 use lib.Dec.{eqb}
 use borrow.Author.Tests.{eqb-true, eqb-false, eq-eqb, ne-eqb, lt-ltb, le-ltb}
-use Rattle.lists.proofs.TestLaws.{look}
+use Rattle.lists.proofs.TestLaws.{bool-cases}
 use Rattle.matching.specs.Search.{rematch-from}
 use Rattle.matching.specs.Inner.{at, distance}
 use Rattle.matching.proofs.Counting.{lt-or-le}
@@ -38,7 +38,7 @@ distance-cases k links m v h =
     (λ (f : eqb (at links v) (length m) ≡ false).
     let ne = eqb-false (at links v) (length m) f in
     let d = distance-off k links m v (omega (arith, ne)) in absurd (omega arith))
-    (look (eqb (at links v) (length m))))
+    (bool-cases (eqb (at links v) (length m))))
     (lt-or-le (at links v) (length m))
 
 -- the distance does not depend on the bound
@@ -89,7 +89,7 @@ distance-set links m c v d lc same (suc j) x a b =
     distance-on j links (set m c v) x (omega arith)
     ∙ ap suc (ap (distance j links (set m c v)) q ∙ distance-set links m c v d lc same j (at m (at links x)) (omega arith) (omega arith))
     ∙ sym p)
-    (look (eqb (at links x) c)))
+    (bool-cases (eqb (at links x) c)))
     (distance-cases j links m x a)
 
 -- one link less

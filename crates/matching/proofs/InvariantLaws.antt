@@ -9,13 +9,13 @@ use lib.ListN.{length, set, length-set, length-append, length-replicate, List·g
 use lib.Seq.{getD-set-same, getD-set-other, getD-append-seam}
 use lib.Dec.{eqb}
 use borrow.Author.Tests.{eqb-true, eqb-false, eq-eqb, ne-eqb}
-use Rattle.lists.proofs.TestLaws.{look, clash}
+use Rattle.lists.proofs.TestLaws.{bool-cases, bool-clash}
 use Rattle.masks.specs.Mask.{bit, with, size}
 use Rattle.masks.proofs.BitLaws.{bit-none, bit-with-same, bit-with-other, with-lt}
 use Rattle.masks.proofs.MembersLaws.{members-le}
 use Rattle.masks.proofs.SizeLaws.{with-count, size-none}
 use Rattle.matching.specs.Search.{Search, no-links, begin, take-front, search-bound}
-use Rattle.matching.specs.Inner.{at, Free, Distinct}
+use Rattle.matching.specs.Inner.{at, Free, EachOnce}
 use Rattle.matching.proofs.Counting.{below-cases, zero-or-pos, pigeon, count-all}
 use Rattle.matching.proofs.Augmenting.{Path}
 
@@ -24,12 +24,12 @@ use Rattle.matching.proofs.Augmenting.{Path}
 -- what is seen stays seen
 pub seen-stays : (seen v y : ℕ) → bit seen y ≡ true → bit (with seen v) y ≡ true
 seen-stays seen v y u =
-    ⊎-elim (λ (q : eqb y v ≡ true). rw (eqb-true y v q) (bit-with-same seen v)) (λ f. bit-with-other seen v y (eqb-false y v f) ∙ u) (look (eqb y v))
+    ⊎-elim (λ (q : eqb y v ≡ true). rw (eqb-true y v q) (bit-with-same seen v)) (λ f. bit-with-other seen v y (eqb-false y v f) ∙ u) (bool-cases (eqb y v))
 
 -- what is seen once v is: v, or what was seen before
 seen-cases : (seen v y : ℕ) → bit (with seen v) y ≡ true → (y ≡ v) ⊎ ((y ≡ v → ⊥) × (bit seen y ≡ true))
 seen-cases seen v y u =
-    ⊎-elim (λ q. inl (eqb-true y v q)) (λ f. inr (eqb-false y v f, sym (bit-with-other seen v y (eqb-false y v f)) ∙ u)) (look (eqb y v))
+    ⊎-elim (λ q. inl (eqb-true y v q)) (λ f. inr (eqb-false y v f, sym (bit-with-other seen v y (eqb-false y v f)) ∙ u)) (bool-cases (eqb y v))
 
 -- a table with another entry for x
 unfoldable updated : (ℕ → ℕ) → ℕ → ℕ → ℕ → ℕ
@@ -77,8 +77,8 @@ invariant-begin sets m = record {
   root = refl;
   some = omega arith;
   closed = λ k x l _. absurd (omega arith);
-  place = λ x t. clash t (bit-none x);
-  link = λ x t. clash t (bit-none x);
+  place = λ x t. bool-clash t (bit-none x);
+  link = λ x t. bool-clash t (bit-none x);
   each = λ k p l. absurd (omega arith);
   sized = rw (size-none 64);
   word = omega arith;
@@ -106,7 +106,7 @@ module _ (sets m : List ℕ) (h : ℕ) (s : Search) (I : Invariant sets m h s) w
           omega (arith, count-all t, count-all (length m))
 
   -- no clause stands twice in the queue
-  pub queue-distinct : Distinct (s .queue)
+  pub queue-distinct : EachOnce (s .queue)
   queue-distinct i j l k e =
       ⊎-elim
       (λ (p : i ≡ 0). ⊎-elim
@@ -227,7 +227,7 @@ module _ (sets m : List ℕ) (h : ℕ) (s : Search) (I : Invariant sets m h s) w
           (λ (e : k ≡ length (s .queue)). rw (e, queue-last, has, place-new) (matched, bit-with-same (s .seen) v, refl))
           (λ (less : k < length (s .queue)).
           let w = I .each k p less in
-          let ne : at m (at (s .queue) k) ≡ v → ⊥ = λ e. clash (w .1) (rw e new) in
+          let ne : at m (at (s .queue) k) ≡ v → ⊥ = λ e. bool-clash (w .1) (rw e new) in
           rw (queue-old k less) (w .0, seen-stays (s .seen) v (at m (at (s .queue) k)) (w .1), place-old (at m (at (s .queue) k)) ne ∙ w .2))
           (below-cases (rw queue-longer at l))
 

@@ -9,7 +9,7 @@ use lib.ListN.{length, set, take, length-set, length-append}
 use lib.Seq.{getD-take, length-take-le}
 use lib.Dec.{eqb}
 use borrow.Author.Tests.{eqb-true, eqb-false}
-use Rattle.lists.proofs.TestLaws.{look}
+use Rattle.lists.proofs.TestLaws.{bool-cases}
 use Rattle.masks.specs.Mask.{bit, members}
 use Rattle.matching.specs.Search.{owner, Search, begin, see, scan, take-front, front, expand, search-from, rematch-from, search-bound, next-search, failure, match-rest, outcome}
 use Rattle.matching.specs.Inner.{at}
@@ -41,9 +41,9 @@ scan-low n own o c (v ∷ vs) s L =
     ⊎-elim
     (λ (b : bit (s .seen) v ≡ true). subst (λ (r : Search). Low n r) (sym (scan-old own c v vs s e b)) (scan-low n own o c vs s L))
     (λ (b : bit (s .seen) v ≡ false). subst (λ (r : Search). Low n r) (sym (scan-new own c v vs s e b)) (scan-low n own o c vs (see own c v s) (see-low n own c v s (o v) L)))
-    (look (bit (s .seen) v)))
+    (bool-cases (bit (s .seen) v)))
     (λ (f : eqb (s .free) 64 ≡ false). subst (λ (r : Search). Low n r) (sym (scan-stop own c (v ∷ vs) s (eqb-false (s .free) 64 f))) L)
-    (look (eqb (s .free) 64))
+    (bool-cases (eqb (s .free) 64))
 
 expand-low : (n : ℕ) (sets : List ℕ) (own : ℕ → ℕ) → ((v : ℕ) → own v ≤ n) → (s : Search) → Low n s → Low n (expand sets own s)
 unfolding expand take-front
@@ -72,7 +72,7 @@ search-take n sets own o (suc k) s L =
     (λ (f : eqb (s .free) 64 ≡ false).
     let ne = eqb-false (s .free) 64 f in
     search-found (suc k) (take n sets) own s ne ∙ sym (search-found (suc k) sets own s ne))
-    (look (eqb (s .free) 64))
+    (bool-cases (eqb (s .free) 64))
 
 next-take : (n : ℕ) (sets m : List ℕ) → length m < n → next-search (take n sets) m ≡ next-search sets m
 unfolding begin
@@ -88,7 +88,7 @@ rematch-short (suc k) links m v =
     (λ (t : eqb (at links v) (length m) ≡ true). rw t (let e = length-append m (v ∷ []) in omega arith))
     (λ (f : eqb (at links v) (length m) ≡ false).
     rw f (let e = length-set m (at links v) v in let r = rematch-short k links (set m (at links v) v) (at m (at links v)) in omega arith))
-    (look (eqb (at links v) (length m)))
+    (bool-cases (eqb (at links v) (length m)))
 
 match-take : (n : ℕ) (sets : List ℕ) (k : ℕ) (m : List ℕ) (e : ℕ) → length m + k ≤ n → match-rest k (take n sets) m e ≡ match-rest k sets m e
 match-take n sets zero m e l = match-none (take n sets) m e ∙ sym (match-none sets m e)
@@ -107,7 +107,7 @@ match-take n sets (suc k) m e l =
     ∙ ap (λ (r : Search). match-rest k (take n sets) (rematch-from search-bound (r .links) m (r .free)) (e + r .taken)) q
     ∙ match-take n sets k (rematch-from search-bound (s .links) m (s .free)) (e + s .taken) (let r = rematch-short search-bound (s .links) m (s .free) in omega arith)
     ∙ sym (match-on k sets m e ne))
-    (look (eqb (s .free) 64))
+    (bool-cases (eqb (s .free) 64))
 
 pub outcome-take : (n : ℕ) (sets : List ℕ) → n ≤ length sets → outcome (take n sets) ≡ match-rest n sets [] 0
 unfolding outcome

@@ -8,7 +8,7 @@ use native.Mathlib.Omega.{arith}
 use lib.ListN.{length, set}
 use lib.Dec.{eqb}
 use borrow.Author.Tests.{eqb-true, eqb-false, eq-eqb, ne-eqb, lt-ltb, le-ltb}
-use Rattle.lists.proofs.TestLaws.{look}
+use Rattle.lists.proofs.TestLaws.{bool-cases}
 use Rattle.masks.specs.Mask.{bit, with, members}
 use Rattle.matching.specs.Search.{Search, see, scan, take-front, front, expand, search-from}
 use Rattle.matching.specs.Inner.{at}
@@ -78,9 +78,9 @@ scan-taken own c (v ∷ vs) s =
     ⊎-elim
     (λ (b : bit (s .seen) v ≡ true). rw (scan-old own c v vs s e b) (scan-taken own c vs s))
     (λ (b : bit (s .seen) v ≡ false). rw (scan-new own c v vs s e b) (scan-taken own c vs (see own c v s) ∙ see-taken own c v s))
-    (look (bit (s .seen) v)))
+    (bool-cases (bit (s .seen) v)))
     (λ (f : eqb (s .free) 64 ≡ false). rw (scan-stop own c (v ∷ vs) s (eqb-false (s .free) 64 f)))
-    (look (eqb (s .free) 64))
+    (bool-cases (eqb (s .free) 64))
 
 pub expand-taken : (sets : List ℕ) (own : ℕ → ℕ) (s : Search) → expand sets own s .taken ≡ suc (s .taken)
 unfolding expand take-front

@@ -11,7 +11,7 @@ use lib.Seq.{getD-take, take-suc, take-length, length-take-le, set-getD, set-com
 use lib.Dec.{eqb}
 use borrow.Author.Tests.{eqb-true, eqb-false, eq-eqb, ne-eqb}
 use Rattle.limits.specs.Limits.{max-clauses}
-use Rattle.lists.proofs.TestLaws.{look}
+use Rattle.lists.proofs.TestLaws.{bool-cases}
 use Rattle.lists.specs.Padded.{padded}
 use Rattle.lists.proofs.PaddedLaws.{padded-none, take-padded}
 use Rattle.lists.proofs.StoreLaws.{padded-store, held-length}
@@ -19,7 +19,7 @@ use Rattle.masks.proofs.BitLaws.{bit-below}
 use Rattle.matching.specs.Matched.{Words}
 use Rattle.matching.specs.Search.{owner, Search, begin, front, search-from, rematch-from, search-bound, next-search, success, failure, match-rest, outcome, marks}
 use Rattle.lists.proofs.TabulatedLaws.{tabulated-of}
-use Rattle.matching.specs.Inner.{at, owners-of, Tables, search-of, Sound, Owned, Augments, augmented, Augmented}
+use Rattle.matching.specs.Inner.{at, owners-of, Tables, search-of, SearchSound, Owned, Augments, augmented, Augmented}
 use Rattle.matching.specs.Result.{Clauses, packed}
 use Rattle.matching.specs.declared.Front.{Front}
 use Rattle.matching.proofs.Counting.{zero-or-pos}
@@ -95,7 +95,7 @@ module _ (sets : List ℕ) (n : ℕ) (table owners : List ℕ) (T : Tables sets 
         }
 
     -- after a search that failed
-    pub augmented-none : front .free ≡ 64 → Sound front queue → Augmented sets (take n table) front queue table owners
+    pub augmented-none : front .free ≡ 64 → SearchSound front queue → Augmented sets (take n table) front queue table owners
     unfolding augmented
     augmented-none z S =
         let s = next-search sets (take n table) in
@@ -124,7 +124,7 @@ marks-more n (d ∷ l) c =
     ∙ ⊎-elim
     (λ (t : eqb c d ≡ true). rw (eqb-true c d t))
     (λ (f : eqb c d ≡ false). set-comm (marks n l) c d 1 1 (eqb-false c d f))
-    (look (eqb c d))
+    (bool-cases (eqb c d))
 
 -- one clause more of the queue is marked
 pub marks-next : (n : ℕ) (queue : List ℕ) (i : ℕ) → i < length queue → set (marks n (take i queue)) (at queue i) 1 ≡ marks n (take (i + 1) queue)

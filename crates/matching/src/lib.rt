@@ -8,7 +8,7 @@ ghost use lib.ListN.{length, take};
 ghost use Rattle.limits.specs.Limits.{max-clauses};
 ghost use Rattle.masks.specs.Mask.{bit, members};
 ghost use Rattle.matching.specs.Search.{see, scan, expand, search-from, begin, rematch, search-bound, no-links, outcome, marks};
-ghost use Rattle.matching.specs.Inner.{at, search-of, Sound, Holds, Owned, Apart, Augments, Tables, Stored, Augmented};
+ghost use Rattle.matching.specs.Inner.{at, search-of, SearchSound, Holds, Owned, Apart, Augments, Tables, Stored, Augmented};
 ghost use Rattle.matching.specs.Result.{Clauses, packed};
 ghost use Rattle.matching.specs.Matched.{Words};
 
@@ -39,7 +39,7 @@ fn see(
     queue: &mut [u8; MAX_CLAUSES],
     links: &mut [u8; 64],
 ) -> Front
-    requires { ⌜ Sound front (now queue) × Owned (now owners) × (v < 64) × (bit (front .seen) v ≡ false) ⌝ }
+    requires { ⌜ SearchSound front (now queue) × Owned (now owners) × (v < 64) × (bit (front .seen) v ≡ false) ⌝ }
     ensures { λ r. ⌜ Holds (see (at (now (owners .entry))) clause v (search-of front (now (queue .entry)) (now (links .entry)))) r (now (queue .exit)) (now (links .exit)) ⌝ }
 {
     links[v] = clause;
@@ -72,7 +72,7 @@ fn scan(
     queue: &mut [u8; MAX_CLAUSES],
     links: &mut [u8; 64],
 ) -> Front
-    requires { ⌜ Sound front (now queue) × Owned (now owners) × (front .free ≡ 64) × Apart unseen (front .seen) ⌝ }
+    requires { ⌜ SearchSound front (now queue) × Owned (now owners) × (front .free ≡ 64) × Apart unseen (front .seen) ⌝ }
     ensures { λ r. ⌜ Holds (scan (at (now (owners .entry))) clause (members unseen 64) (search-of front (now (queue .entry)) (now (links .entry)))) r (now (queue .exit)) (now (links .exit)) ⌝ }
 {
     let mut state = front;
@@ -103,7 +103,7 @@ fn expand(
     queue: &mut [u8; MAX_CLAUSES],
     links: &mut [u8; 64],
 ) -> Front
-    requires { ⌜ Sound front (now queue) × Owned (now owners) × (front .free ≡ 64) × (front .head < front .tail) ⌝ }
+    requires { ⌜ SearchSound front (now queue) × Owned (now owners) × (front .free ≡ 64) × (front .head < front .tail) ⌝ }
     ensures { λ r. ⌜ Holds (expand (now (sets .entry)) (at (now (owners .entry))) (search-of front (now (queue .entry)) (now (links .entry)))) r (now (queue .exit)) (now (links .exit)) ⌝ }
 {
     let head = front.head;

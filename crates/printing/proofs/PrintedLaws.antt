@@ -16,12 +16,12 @@ use Rattle.formula.specs.declared.Refusal.the-variants.{Unmatched}
 use Rattle.formula.specs.Decode.{readable, refused, decode}
 use Rattle.formula.specs.Format.{Literal, ClauseOver, Sized}
 use Rattle.formula.specs.Masked.{variables}
-use Rattle.formula.specs.Refusals.{listing}
+use Rattle.formula.specs.Refusals.{table-row}
 use Rattle.formula.specs.Table.{Beginning, written, Given, no-kind, kind-unknown, kind-misplaced, no-body, count-bad, variable-unknown, variable-repeated, clause-extra, byte-extra}
 use Rattle.formula.proofs.ClauseLaws.{variables-lt}
 use Rattle.formula.proofs.Demands.{accepted-only, refused-only, numbers}
 use Rattle.matching.specs.Matched.{union}
-use Rattle.matching.proofs.MatchedLaws.{chosen-few}
+use Rattle.matching.proofs.MatchedLaws.{selected-few}
 use Rattle.matching.proofs.Theorems.{pigeonhole}
 use Rattle.matched.specs.Acceptance.{Acceptance, accepted, declined, acceptance}
 use Rattle.matched.specs.Pairing.{Pairs, marked}
@@ -30,10 +30,10 @@ use Rattle.matched.proofs.PairingLaws.{masks-words, pairs-matches}
 use Rattle.walk.specs.Task.{Task, whole, to-assign, Posed}
 use Rattle.walk.specs.Checkpoints.{Checkpoint}
 use Rattle.walk.specs.PlainMachine.{Answer, found, spent, ended, plain-call, plain-calls, state-after}
-use Rattle.walk.specs.WalkCall.{says-model, says-ended, kind-of, plain-result, task-call, walk-call}
+use Rattle.walk.specs.WalkCall.{says-model, says-ended, answer-kind, plain-result, task-call, walk-call}
 use Rattle.walk.specs.Gaps.{ample-budget, step-bound, gap-after, gaps-from, gaps, PacedLater, Paced}
 use Rattle.walk.proofs.Demands.{whole-size, demand-3}
-use Rattle.walk.proofs.FormulaLaws.{call-plain, last-plain}
+use Rattle.walk.proofs.TaskLaws.{call-plain, last-plain}
 use Rattle.walk.proofs.RefusalLaws.{accepted-posed, call-accepted}
 use Rattle.printing.specs.Printing.{max-input, max-model-line, max-print}
 use Rattle.printing.specs.Printed.{header, model-line, more-line, refused-line, refusal-line, call-lines, max-models, walk-lines, acceptance-lines, printed}
@@ -56,7 +56,7 @@ module _ (T : Task) (m B : ℕ) (few : T .variables ≤ max-variables) (fewer : 
       go (c .answer) (c .steps) (c .expansions) (c .behind) _ p (later-short j (c .behind))
     where
       go : (a : Answer) (s e b : ℕ) (bytes : List ℕ)
-          → PacedLater m B x (gap-after (kind-of a) (0 + s) (0 + e) bytes (λ c′ e′. gaps-from c′ e′ (map (plain-result T) (plain-calls T b (replicate j ample-budget)))))
+          → PacedLater m B x (gap-after (answer-kind a) (0 + s) (0 + e) bytes (λ c′ e′. gaps-from c′ e′ (map (plain-result T) (plain-calls T b (replicate j ample-budget)))))
           → ((y : List ℕ) → from j b y → length (walk-lines T j b) ≤ max-model-line * j + length more-line)
           → length (call-lines (T .variables) a s e (walk-lines T j b)) ≤ max-model-line * suc j + length more-line
       go (found a) s e b bytes p ih =
@@ -75,7 +75,7 @@ module _ (T : Task) (m B : ℕ) (few : T .variables ≤ max-variables) (fewer : 
       go (c .answer) (c .steps) (c .expansions) (c .behind) _ p
     where
       go : (a : Answer) (s e b : ℕ) (bytes : List ℕ)
-          → Paced m B (gap-after (kind-of a) (0 + s) (0 + e) bytes (λ c′ e′. gaps-from c′ e′ (map (plain-result T) (plain-calls T b (replicate j ample-budget)))))
+          → Paced m B (gap-after (answer-kind a) (0 + s) (0 + e) bytes (λ c′ e′. gaps-from c′ e′ (map (plain-result T) (plain-calls T b (replicate j ample-budget)))))
           → length (call-lines (T .variables) a s e (walk-lines T j b)) ≤ max-model-line * suc j + length more-line
       go (found a) s e b bytes p =
           let i = later-short j b bytes (p .2) in
@@ -121,7 +121,7 @@ walk-short s n cs row w j =
     first-short (whole n cs) (to-assign (whole n cs)) (step-bound (whole n cs)) (z .most) (omega (arith, z .most)) (omega arith) j 0 (rw (d .plain) at (d .paced))
 
 -- a refusal's place is within the input
-place-le : {len at : ℕ} {b : Beginning} {s : List ℕ} {r : Refusal} → Given len at b s r → len ≡ at + length s → listing r .place ≤ len
+place-le : {len at : ℕ} {b : Beginning} {s : List ℕ} {r : Refusal} → Given len at b s r → len ≡ at + length s → table-row r .place ≤ len
 place-le no-kind h = omega arith
 place-le (kind-unknown k o) h = omega arith
 place-le (kind-misplaced k l m o) h = omega arith
@@ -132,11 +132,11 @@ place-le (variable-repeated n sign v l m o) h = omega arith
 place-le (clause-extra cs l) h = omega arith
 place-le (byte-extra x s) h = omega arith
 
-refused-short : (s : List ℕ) (r : Refusal) → decode s ≡ refused r → length s ≤ max-input → length (refused-line (listing r .number) (listing r .place)) ≤ 17
+refused-short : (s : List ℕ) (r : Refusal) → decode s ≡ refused r → length s ≤ max-input → length (refused-line (table-row r .number) (table-row r .place)) ≤ 17
 refused-short s r e h =
     let w = refused-only s r e in
     let p = place-le (w .given) (ap length (w .bytes) ∙ length-append (written (w .before)) (w .rest)) in
-    refused-line-length (listing r .number) (listing r .place) (omega (arith, numbers s r e .1)) (omega arith)
+    refused-line-length (table-row r .number) (table-row r .place) (omega (arith, numbers s r e .1)) (omega arith)
 
 -- the most bytes that are printed, 60,026
 pub printed-length : (s : List ℕ) → length s ≤ max-input → length (printed s) ≤ max-print
@@ -159,7 +159,7 @@ printed-length s h = go (acceptance s) refl
         by (unpaired n cs ms reads v none) q =
             let e : Unmatched (length (marked ms cs)) ≡ r = cc in
             let f = accepted-only s n cs reads .sized .few in
-            let k = chosen-few ms (map variables cs) in
+            let k = selected-few ms (map variables cs) in
             let l = refused-line-length 10 (length (marked ms cs)) (omega arith) (omega (arith, length-map cs variables)) in
             rw (← e) (omega arith)
         by (unreadable t reads) q = let e : t ≡ r = cc in let l = refused-short s t reads h in rw (← e) (omega arith)
@@ -170,7 +170,7 @@ printed-length s h = go (acceptance s) refl
 
 -- ---- no call of the print says spent
 
-not-spent : (a : Answer) → (kind-of a ≡ says-model) ⊎ (kind-of a ≡ says-ended) → a ≡ spent → ⊥
+not-spent : (a : Answer) → (answer-kind a ≡ says-model) ⊎ (answer-kind a ≡ says-ended) → a ≡ spent → ⊥
 not-spent a (inl h) e = let z : _≡_ {A = ℕ} 0 1 = cc in omega arith
 not-spent a (inr h) e = let z : _≡_ {A = ℕ} 0 1 = cc in omega arith
 

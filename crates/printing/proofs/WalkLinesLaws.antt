@@ -16,7 +16,7 @@ use Rattle.walk.specs.WalkCall.{answered, plain-result, task-call, walk-call, w
 use Rattle.walk.proofs.RestLaws.{Live}
 use Rattle.walk.proofs.CallLaws.{resumes, results}
 use Rattle.walk.proofs.TreeLaws.{live}
-use Rattle.walk.proofs.FormulaLaws.{calls-plain, calls-results}
+use Rattle.walk.proofs.TaskLaws.{calls-plain, calls-results}
 use Rattle.walk.proofs.RefusalLaws.{accepted-posed, call-accepted}
 use Rattle.printing.specs.Printed.{call-lines, walk-lines}
 use Rattle.printing.specs.InnerLines.{lines-from, kind-lines, result-lines}

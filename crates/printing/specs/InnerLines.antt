@@ -4,7 +4,7 @@ use mathlib.Core.List.{List, [], _∷_, _++_}
 use Rattle.walk.specs.Gaps.{ample-budget}
 use Rattle.walk.specs.InnerStack.{empty, Tree}
 use Rattle.walk.specs.InnerMachine.{Position, down, resume}
-use Rattle.walk.specs.WalkCall.{Kind, says-model, says-spent, says-ended, says-refused, Result}
+use Rattle.walk.specs.WalkCall.{AnswerKind, says-model, says-spent, says-ended, says-refused, Result}
 use Rattle.formula.specs.declared.Formula.{Formula}
 use Rattle.formula.specs.Masked.{FormulaFits}
 use Rattle.matched.specs.InnerAccept.{Takes}
@@ -34,7 +34,7 @@ pub record Printable (f : Formula) (b : List ℕ) : Type 0 where
   pub room : Room 0 (printed input) b
 
 -- the line of a result, and then the rest
-abbrev pub kind-lines : ℕ → Kind → Result → List ℕ → List ℕ
+abbrev pub kind-lines : ℕ → AnswerKind → Result → List ℕ → List ℕ
 kind-lines n says-model r rest = model-line n (r .model) (r .steps) (r .expansions) ++ rest
 kind-lines n says-spent r rest = []
 kind-lines n says-ended r rest = end-line (r .steps) (r .expansions)

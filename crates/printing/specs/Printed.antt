@@ -3,7 +3,7 @@ use Prim.Native.Nat.{ℕ, zero, suc}
 use mathlib.Core.List.{List, [], _∷_, _++_}
 use lib.ListN.{length}
 use Rattle.formula.specs.declared.Refusal.{Refusal}
-use Rattle.formula.specs.Refusals.{listing}
+use Rattle.formula.specs.Refusals.{table-row}
 use Rattle.writing.specs.Text.{decimal, digits, line-of}
 use Rattle.walk.specs.Gaps.{ample-budget}
 use Rattle.matched.specs.Acceptance.{Acceptance, accepted, declined, acceptance}
@@ -47,7 +47,7 @@ abbrev pub refused-line : ℕ → ℕ → List ℕ
 refused-line number place = line-of (refused-word ∷ decimal number ∷ decimal place ∷ [])
 
 abbrev pub refusal-line : Refusal → List ℕ
-refusal-line r = refused-line (listing r .number) (listing r .place)
+refusal-line r = refused-line (table-row r .number) (table-row r .place)
 
 -- What a call prints, and then the rest. A call that says spent would print nothing: on an ample budget none does.
 abbrev pub call-lines : ℕ → Answer → ℕ → ℕ → List ℕ → List ℕ

@@ -7,7 +7,7 @@ use native.Mathlib.Nat.{mul-le-mul-right}
 use native.Mathlib.Omega.{arith}
 use lib.ListN.{length}
 use borrow.Author.Tests.{not-true, not-false}
-use Rattle.lists.proofs.TestLaws.{clash}
+use Rattle.lists.proofs.TestLaws.{bool-clash}
 use Rattle.lists.proofs.SublistLaws.{sub-within, sub-length}
 use Rattle.masks.specs.Mask.{size}
 use Rattle.matching.specs.Matched.{Matched}
@@ -113,8 +113,8 @@ chosen-open n free (c ∷ cs) fits low S b o = go (stripped n (c ∷ cs) .left) 
 pub chosen-closed : (n : ℕ) (free : ℕ → Bool) (ds : List (List Literal))
     → (b : Bool) → opened (by-remaining n free ds) b ≡ false → (a : ℕ → Bool) → Satisfies a ds → a (by-remaining n free ds .variable) ≡ b → ⊥
 unfolding last-listed
-chosen-closed n free [] false o a sat e = clash refl o
-chosen-closed n free [] true o a sat e = clash refl o
+chosen-closed n free [] false o a sat e = bool-clash refl o
+chosen-closed n free [] true o a sat e = bool-clash refl o
 chosen-closed n free (c ∷ cs) b o a sat e = go (stripped n (c ∷ cs) .left) b o e
   where
     go : (left : List (List Literal)) (b : Bool) → opened (by-left n (c ∷ cs) (stripped n (c ∷ cs) .noted) left) b ≡ false
@@ -122,8 +122,8 @@ chosen-closed n free (c ∷ cs) b o a sat e = go (stripped n (c ∷ cs) .left) b
     go [] b o e =
         let v = last (listed n (c ∷ cs) (stripped n (c ∷ cs) .noted)) in
         emptied-unsatisfied v b (c ∷ cs) (not-false _ (sym (listed-open (c ∷ cs) v b) ∙ o)) a sat e
-    go (k ∷ left) false o e = clash (first-open (k ∷ left) (candidates n (k ∷ left)) 0 .0) o
-    go (k ∷ left) true o e = clash (first-open (k ∷ left) (candidates n (k ∷ left)) 0 .1) o
+    go (k ∷ left) false o e = bool-clash (first-open (k ∷ left) (candidates n (k ∷ left)) 0 .0) o
+    go (k ∷ left) true o e = bool-clash (first-open (k ∷ left) (candidates n (k ∷ left)) 0 .1) o
 
 -- a trial of two matchings for each variable of the mask at most
 pub chosen-cost : (n m scope : ℕ) (free : ℕ → Bool) (ds : List (List Literal)) → n ≤ 64 → Below n ds → Covers scope ds → length ds ≤ m

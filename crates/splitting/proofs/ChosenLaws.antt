@@ -9,7 +9,7 @@ use Rattle.formula.specs.declared.Formula.{Formula}
 use Rattle.splitting.specs.declared.Assignment.{Assignment}
 use Rattle.splitting.specs.declared.Reduced.{Reduced}
 use Rattle.splitting.specs.declared.Survey.{Survey}
-use Rattle.splitting.specs.InnerChoose.{node, survey-of, reduced, passing, greatest, listed-last, chosen}
+use Rattle.splitting.specs.InnerChoose.{node, survey-of, reduced, passing, greatest, listed-last, mask-choice}
 use Rattle.splitting.specs.Choosing.{last}
 
 -- ---- the choice
@@ -18,17 +18,17 @@ module _ (f : Formula) (scope : ℕ) (a : Assignment) (names : Survey) (n : name
   module _ (t : names .any ≡ true) (r : Reduced) (e : r ≡ reduced f a) where
     -- stripping leaves clauses
     pub chosen-passing : r .survey .any ≡ true
-        → passing f (r .assignment) (members (bitOr (r .survey .positive) (r .survey .negative)) 64) 0 ≡ chosen f scope a
-    unfolding chosen
-    chosen-passing s = rw (chosen, ← n, t, ← e, s)
+        → passing f (r .assignment) (members (bitOr (r .survey .positive) (r .survey .negative)) 64) 0 ≡ mask-choice f scope a
+    unfolding mask-choice
+    chosen-passing s = rw (mask-choice, ← n, t, ← e, s)
 
     module _ (s : r .survey .any ≡ false) (others : ℕ) (o : others ≡ minus (bitOr (names .positive) (names .negative)) (r .noted)) where
       -- it leaves none, and every variable that was named is noted
-      pub chosen-noted : others ≡ 0 → listed-last f a (r .last) ≡ chosen f scope a
-      unfolding chosen
-      chosen-noted z = rw (chosen, ← n, t, ← e, s, ← o, z)
+      pub chosen-noted : others ≡ 0 → listed-last f a (r .last) ≡ mask-choice f scope a
+      unfolding mask-choice
+      chosen-noted z = rw (mask-choice, ← n, t, ← e, s, ← o, z)
 
       -- or another one was named
-      pub chosen-other : (others ≡ 0 → ⊥) → listed-last f a (greatest others) ≡ chosen f scope a
-      unfolding chosen
-      chosen-other z = rw (chosen, ← n, t, ← e, s, ← o, ne-eqb others 0 z)
+      pub chosen-other : (others ≡ 0 → ⊥) → listed-last f a (greatest others) ≡ mask-choice f scope a
+      unfolding mask-choice
+      chosen-other z = rw (mask-choice, ← n, t, ← e, s, ← o, ne-eqb others 0 z)

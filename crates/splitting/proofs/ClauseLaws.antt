@@ -6,7 +6,7 @@ use mathlib.Core.List.{List, [], _∷_, _++_, map, List·Memᴰ, List·Memᴰ·h
 use mathlib.Core.Logic.{⊎-elim}
 use lib.Dec.{eqb}
 use borrow.Author.Tests.{eqb-true, eq-eqb, ne-eqb}
-use Rattle.lists.proofs.TestLaws.{and-left, and-right, and-both, or-cases, look, clash, or-left, or-right}
+use Rattle.lists.proofs.TestLaws.{and-left, and-right, and-both, or-cases, bool-cases, bool-clash, or-left, or-right}
 use Rattle.lists.proofs.SublistLaws.{Within}
 use Rattle.formula.specs.Format.{Literal, names, names-as}
 use Rattle.formula.proofs.ClauseLaws.{named-as}
@@ -34,7 +34,7 @@ literal-names (k ∷ c) l m =
 -- and a named variable has a literal
 pub names-literal : (c : List Literal) (v : ℕ) (s : Bool) → names-as c v s ≡ true → (l : Literal) × List·Memᴰ l c × (l .variable ≡ v) × (l .positive ≡ s)
 unfolding names-as
-names-literal [] v s t = clash t refl
+names-literal [] v s t = bool-clash t refl
 names-literal (k ∷ c) v s t =
     ⊎-elim
     (λ h. (
@@ -48,14 +48,14 @@ names-literal (k ∷ c) v s t =
   where
     same : (a b : Bool) → Bool·beq a b ≡ true → a ≡ b
     same true true e = refl
-    same true false e = clash e refl
-    same false true e = clash e refl
+    same true false e = bool-clash e refl
+    same false true e = bool-clash e refl
     same false false e = refl
 
 -- what is named is named one way
 pub names-some : (c : List Literal) (v : ℕ) → names c v ≡ true → (s : Bool) × (names-as c v s ≡ true)
 unfolding names
-names-some [] v t = clash t refl
+names-some [] v t = bool-clash t refl
 names-some (l ∷ c) v t =
     ⊎-elim
     (λ h. (l .positive, subst (λ w. names-as (l ∷ c) w (l .positive) ≡ true) (eqb-true (l .variable) v h) (literal-names (l ∷ c) l (List·Memᴰ·head refl))))
@@ -70,7 +70,7 @@ names-some (l ∷ c) v t =
 
 -- not named is not named one way
 pub names-none : (c : List Literal) (v : ℕ) → names c v ≡ false → (s : Bool) → names-as c v s ≡ false
-names-none c v f s = ⊎-elim (λ t. clash (named-as c v s t) f) (λ e. e) (look (names-as c v s))
+names-none c v f s = ⊎-elim (λ t. bool-clash (named-as c v s t) f) (λ e. e) (bool-cases (names-as c v s))
 
 -- ── A clause less a variable ─────────────────────────────────────────────────────────────────────────────────────────
 
@@ -79,7 +79,7 @@ unfolding less names-as
 less-self x [] s = refl
 less-self x (l ∷ c) s =
     let r = less-self x c s in
-    ⊎-elim (λ (t : eqb (l .variable) x ≡ true). rw t r) (λ (f : eqb (l .variable) x ≡ false). rw (f, f) r) (look (eqb (l .variable) x))
+    ⊎-elim (λ (t : eqb (l .variable) x ≡ true). rw t r) (λ (f : eqb (l .variable) x ≡ false). rw (f, f) r) (bool-cases (eqb (l .variable) x))
 
 -- other variables stay as they are
 pub less-other : (x : ℕ) (c : List Literal) (y : ℕ) (s : Bool) → (y ≡ x → ⊥) → names-as (less x c) y s ≡ names-as c y s
@@ -90,12 +90,12 @@ less-other x (l ∷ c) y s ne =
     ⊎-elim
     (λ (t : eqb (l .variable) x ≡ true). let e = ne-eqb (l .variable) y (λ q. ne (sym q ∙ eqb-true (l .variable) x t)) in rw (t, e) r)
     (λ (f : eqb (l .variable) x ≡ false). rw (f, r))
-    (look (eqb (l .variable) x))
+    (bool-cases (eqb (l .variable) x))
 
 -- what the clause still names it named, and it is not x
 pub less-of : (x : ℕ) (c : List Literal) (y : ℕ) (s : Bool) → names-as (less x c) y s ≡ true → (names-as c y s ≡ true) × (y ≡ x → ⊥)
 less-of x c y s t =
-    let ne : y ≡ x → ⊥ = λ e. clash t (subst (λ z. names-as (less x c) z s ≡ false) (sym e) (less-self x c s)) in
+    let ne : y ≡ x → ⊥ = λ e. bool-clash t (subst (λ z. names-as (less x c) z s ≡ false) (sym e) (less-self x c s)) in
     (sym (less-other x c y s ne) ∙ t, ne)
 
 -- ── A list of clauses ────────────────────────────────────────────────────────────────────────────────────────────────
@@ -103,7 +103,7 @@ less-of x c y s t =
 -- what occurs is named by some clause
 pub occurs-some : (cs : List (List Literal)) (v : ℕ) (s : Bool) → occurs cs v s ≡ true → (c : List Literal) × List·Memᴰ c cs × (names-as c v s ≡ true)
 unfolding occurs
-occurs-some [] v s t = clash t refl
+occurs-some [] v s t = bool-clash t refl
 occurs-some (c ∷ cs) v s t =
     ⊎-elim
     (λ h. (c, List·Memᴰ·head refl, h))
@@ -168,8 +168,8 @@ not-pure cs v f = same (occurs cs v true) (occurs cs v false) f
   where
     same : (a b : Bool) → xor a b ≡ false → a ≡ b
     same true true e = refl
-    same true false e = clash refl e
-    same false true e = clash refl e
+    same true false e = bool-clash refl e
+    same false true e = bool-clash refl e
     same false false e = refl
 
 -- and such a one is not pure
@@ -196,10 +196,10 @@ unfolding pure xor
 pure-ways cs v t = ways (occurs cs v true) (occurs cs v false) refl refl t
   where
     ways : (a b : Bool) → occurs cs v true ≡ a → occurs cs v false ≡ b → xor a b ≡ true → (s : Bool) × (occurs cs v s ≡ true) × (occurs cs v (not s) ≡ false)
-    ways true true p q e = clash e refl
+    ways true true p q e = bool-clash e refl
     ways true false p q e = (true, p, q)
     ways false true p q e = (false, q, p)
-    ways false false p q e = clash e refl
+    ways false false p q e = bool-clash e refl
 
 -- a pure variable is named
 pub pure-named : (cs : List (List Literal)) (v : ℕ) → pure cs v ≡ true → named cs v ≡ true
@@ -210,4 +210,4 @@ pub outside : (ds cs : List (List Literal)) (x : ℕ) → ((s : Bool) → occurs
     → (s : Bool) → occurs ds x s ≡ false
 outside ds cs x sub f t s =
     let w = pure-ways cs x t in
-    ⊎-elim (λ h. clash (sub (not (w .0)) (other-way ds x f s (not (w .0)) h)) (w .2)) (λ e. e) (look (occurs ds x s))
+    ⊎-elim (λ h. bool-clash (sub (not (w .0)) (other-way ds x f s (not (w .0)) h)) (w .2)) (λ e. e) (bool-cases (occurs ds x s))

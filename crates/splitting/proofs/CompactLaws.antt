@@ -16,21 +16,21 @@ use Rattle.lists.specs.Tabulated.{tabulated}
 use Rattle.lists.proofs.EveryLaws.{every-of, every-getD}
 use Rattle.lists.proofs.SublistLaws.{element-place}
 use Rattle.lists.proofs.TabulatedLaws.{length-tabulated}
-use Rattle.lists.proofs.TestLaws.{and-left, and-right, or-cases, or-none, look, clash}
+use Rattle.lists.proofs.TestLaws.{and-left, and-right, or-cases, or-none, bool-cases, bool-clash}
 use Rattle.masks.specs.Mask.{bit, with, minus, lowest, members}
 use Rattle.masks.proofs.BitLaws.{bit-or, bit-xor, bit-minus, bit-none}
 use Rattle.masks.proofs.MembersLaws.{members-are}
 use Rattle.matching.specs.Search.{outcome, succeeds, expansions}
 use Rattle.formula.specs.declared.Clause.{Clause}
 use Rattle.formula.specs.declared.Formula.{Formula}
-use Rattle.formula.specs.Masked.{no-clause, side, named}
+use Rattle.formula.specs.Masked.{no-clause, side, clause-variables}
 use Rattle.splitting.specs.declared.Assignment.{Assignment}
 use Rattle.splitting.specs.declared.Choice.{Choice}
 use Rattle.splitting.specs.declared.Reduced.{Reduced}
 use Rattle.splitting.specs.declared.Survey.{Survey}
 use Rattle.splitting.specs.declared.Trial.{Trial}
 use Rattle.splitting.specs.Choosing.{both-open}
-use Rattle.splitting.specs.InnerChoose.{assigned, set-to, satisfied-under, left-under, open-clauses, node, unnamed, unassigned, formula-at, clauses-in, clause-in, formula-in, Small, surveys, survey-from, survey-of, pure-of, reduce-from, reduced, tried, passing, greatest, listed-last, chosen}
+use Rattle.splitting.specs.InnerChoose.{assigned, set-to, satisfied-under, left-under, open-clauses, node, unnamed, unassigned, formula-at, clauses-in, clause-in, formula-in, Small, surveys, survey-from, survey-of, pure-of, reduce-from, reduced, tried, passing, greatest, listed-last, mask-choice}
 use Rattle.splitting.proofs.NodeMatchingLaws.{small-at}
 use Rattle.splitting.proofs.ReduceLaws.{pure-lowest, next-of, reduce-done, reduce-turn}
 use Rattle.splitting.proofs.LastMemberLaws.{greatest-member}
@@ -114,8 +114,8 @@ module _ (f : Formula) (a : Assignment) (v : ℕ) where
       (ap (λ (cs : List Clause). bit (survey-side (survey-of cs) sign) v) (sym (open-first (f .clauses) a (f .count))) ∙ e)
     where
       none : (s : Bool) → bit (survey-side (record { positive = 0; negative = 0; any = false }) s) v ≡ true → Free a v
-      none true k = clash k (bit-none v)
-      none false k = clash k (bit-none v)
+      none true k = bool-clash k (bit-none v)
+      none false k = bool-clash k (bit-none v)
 
   named-free : bit (bitOr (survey-of (node f a) .positive) (survey-of (node f a) .negative)) v ≡ true → Free a v
   named-free e =
@@ -131,7 +131,7 @@ module _ (f : Formula) (a : Assignment) (v : ℕ) where
       go : (x y : Bool) → bit (survey-of (node f a) .positive) v ≡ x → bit (survey-of (node f a) .negative) v ≡ y → xor x y ≡ true → Free a v
       go true y p q h = side-free true p
       go false true p q h = side-free false q
-      go false false p q h = clash h refl
+      go false false p q h = bool-clash h refl
 
 -- the lowest pure variable is not assigned
 pure-free : (f : Formula) → Small f → (a : Assignment) → (pure-of f a ≡ 0 → ⊥) → Free a (lowest (pure-of f a))
@@ -155,26 +155,26 @@ survey-none v sign s (c ∷ cs) e =
     let u = or-none (bit (survey-side s sign) v) (bit (side c sign) v) (sym (surveys-side s c sign v) ∙ w .0) in
     (u .0, (u .1, w .1))
 
--- where a variable is named in one way only, the survey has not the other way
+-- where a variable is clause-variables in one way only, the survey has not the other way
 pure-way : (s : Survey) (v : ℕ) → bit (bitXor (s .positive) (s .negative)) v ≡ true → bit (survey-side s (not (bit (s .positive) v))) v ≡ false
 unfolding xor
 pure-way s v e = go (bit (s .positive) v) (bit (s .negative) v) refl refl (sym (bit-xor (s .positive) (s .negative) v) ∙ e)
   where
     go : (x y : Bool) → bit (s .positive) v ≡ x → bit (s .negative) v ≡ y → xor x y ≡ true → bit (survey-side s (not x)) v ≡ false
-    go true true p q h = clash h refl
+    go true true p q h = bool-clash h refl
     go true false p q h = q
     go false y p q h = p
 
 -- where no clause names v the other way, giving it its way drops the clauses that name it
 module _ (v : ℕ) (way : Bool) where
-  named-way : (c : Clause) (w : Bool) → bit (side c (not w)) v ≡ false → bit (named c) v ≡ bit (side c w) v
+  named-way : (c : Clause) (w : Bool) → bit (side c (not w)) v ≡ false → bit (clause-variables c) v ≡ bit (side c w) v
   named-way c true e = bit-or (c .positive) (c .negative) v ∙ rw e (or-false (bit (c .positive) v))
   named-way c false e = bit-or (c .positive) (c .negative) v ∙ rw e
 
-  satisfied-way : (c : Clause) → bit (side c (not way)) v ≡ false → satisfied-under (set-to unassigned v way) c ≡ bit (named c) v
+  satisfied-way : (c : Clause) → bit (side c (not way)) v ≡ false → satisfied-under (set-to unassigned v way) c ≡ bit (clause-variables c) v
   satisfied-way c e = satisfied-more unassigned c v way ∙ rw (meets-none (c .positive), meets-none (c .negative)) (sym (named-way c way e))
 
-  left-way : (c : Clause) → bit (named c) v ≡ false → left-under (set-to unassigned v way) c ≡ c
+  left-way : (c : Clause) → bit (clause-variables c) v ≡ false → left-under (set-to unassigned v way) c ≡ c
   left-way c e =
       clause-same (left-under (set-to unassigned v way) c) c
       (λ sign i. left-side (set-to unassigned v way) c sign i ∙ rw (assigned-more unassigned v way i, bit-none i) (other sign i))
@@ -188,17 +188,17 @@ module _ (v : ℕ) (way : Bool) where
           ⊎-elim
           (λ (t : eqb i v ≡ true). rw (eqb-true i v t, none sign))
           (λ (f : eqb i v ≡ false). rw f (and-true (bit (side c sign) i)))
-          (look (eqb i v))
+          (bool-cases (eqb i v))
 
   dropped : (cs : List Clause) (n : ℕ) → ((i : ℕ) → i < n → bit (side (getD cs i no-clause) (not way)) v ≡ false) → unnamed cs v n ≡ open-clauses cs (set-to unassigned v way) n
   unfolding unnamed open-clauses
   dropped cs zero h = refl
-  dropped cs (suc n) h = ap₂ (λ (x y : List Clause). x ++ y) (dropped cs n (λ i l. h i (omega arith))) (go (bit (named c) v) refl)
+  dropped cs (suc n) h = ap₂ (λ (x y : List Clause). x ++ y) (dropped cs n (λ i l. h i (omega arith))) (go (bit (clause-variables c) v) refl)
     where
       c : Clause
       c = getD cs n no-clause
 
-      go : (t : Bool) → bit (named c) v ≡ t → cond (bit (named c) v) [] (c ∷ []) ≡ cond (satisfied-under (set-to unassigned v way) c) [] (left-under (set-to unassigned v way) c ∷ [])
+      go : (t : Bool) → bit (clause-variables c) v ≡ t → cond (bit (clause-variables c) v) [] (c ∷ []) ≡ cond (satisfied-under (set-to unassigned v way) c) [] (left-under (set-to unassigned v way) c ∷ [])
       go true e = rw (satisfied-way c (h n (omega arith)), e)
       go false e = rw (satisfied-way c (h n (omega arith)), e, left-way c e)
 
@@ -275,11 +275,11 @@ module _ (f : Formula) (small : Small f) where
   -- where stripping takes the last clause, a variable was noted
   noted-free : (k : ℕ) (a : Assignment) → survey-of (node f a) .any ≡ true → reduce-from k f a 0 0 .survey .any ≡ false → Free a (reduce-from k f a 0 0 .last)
   unfolding reduce-from
-  noted-free zero a t e = clash t e
+  noted-free zero a t e = bool-clash t e
   noted-free (suc k) a t e = go (ℕ-discrete (pure-of f a) 0)
     where
       go : Dec (pure-of f a ≡ 0) → Free a (reduce-from (suc k) f a 0 0 .last)
-      go (yes z) = clash t (rw (reduce-done f a 0 0 (suc k) z) at e)
+      go (yes z) = bool-clash t (rw (reduce-done f a 0 0 (suc k) z) at e)
       go (no z) =
           let x = lowest (pure-of f a) in
           let way = bit (survey-of (node f a) .positive) x in
@@ -291,12 +291,12 @@ module _ (f : Formula) (small : Small f) where
 -- a trial by the clauses with the variable false, and those with it true
 by-clauses : List Clause → List Clause → Trial
 by-clauses p q =
-    elim (succeeds (outcome (map named p))) [
+    elim (succeeds (outcome (map clause-variables p))) [
       | true ↦ record {
-        passes = succeeds (outcome (map named q));
-        cost = expansions (outcome (map named p)) + expansions (outcome (map named q));
+        passes = succeeds (outcome (map clause-variables q));
+        cost = expansions (outcome (map clause-variables p)) + expansions (outcome (map clause-variables q));
       }
-      | false ↦ record { passes = false; cost = expansions (outcome (map named p)) }
+      | false ↦ record { passes = false; cost = expansions (outcome (map clause-variables p)) }
     ]
 
 -- the choice after the trial t of v, by what follows it
@@ -327,7 +327,7 @@ module _ (f : Formula) (small : Small f) (scope : ℕ) (a : Assignment) (names :
 
   -- stripping leaves clauses
   pub choice-passing : r .survey .any ≡ true
-      → passing (formula-at (formula-at f a) (r .assignment)) unassigned (members (bitOr (r .survey .positive) (r .survey .negative)) 64) 0 ≡ chosen f scope a
+      → passing (formula-at (formula-at f a) (r .assignment)) unassigned (members (bitOr (r .survey .positive) (r .survey .negative)) 64) 0 ≡ mask-choice f scope a
   choice-passing s =
       let w = reduced f a in
       let m = bitOr (w .survey .positive) (w .survey .negative) in
@@ -342,16 +342,16 @@ module _ (f : Formula) (small : Small f) (scope : ℕ) (a : Assignment) (names :
       ∙ chosen-passing f scope a names n t w refl (rw (same .survey) at s))
 
   module _ (s : r .survey .any ≡ false) (others : ℕ) (o : others ≡ minus (bitOr (names .positive) (names .negative)) (r .noted)) where
-    -- it leaves none, and every variable that was named is noted
-    pub choice-noted : others ≡ 0 → listed-last (formula-at f a) unassigned (r .last) ≡ chosen f scope a
+    -- it leaves none, and every variable that was clause-variables is noted
+    pub choice-noted : others ≡ 0 → listed-last (formula-at f a) unassigned (r .last) ≡ mask-choice f scope a
     choice-noted z =
         listed-same (formula-at f a) f unassigned a (node-at f a) (r .last) (free-none (r .last))
         (rw (same .last) (noted-free f small (f .variables) a (rw n at t) (rw (same .survey) at s)))
         ∙ ap (listed-last f a) (same .last)
         ∙ chosen-noted f scope a names n t (reduced f a) refl (rw (same .survey) at s) others (rw (same .noted) at o) z
 
-    -- or another one was named
-    pub choice-other : others < 2 ^ 64 → (others ≡ 0 → ⊥) → listed-last (formula-at f a) unassigned (greatest others) ≡ chosen f scope a
+    -- or another one was clause-variables
+    pub choice-other : others < 2 ^ 64 → (others ≡ 0 → ⊥) → listed-last (formula-at f a) unassigned (greatest others) ≡ mask-choice f scope a
     choice-other l z =
         let m = greatest others in
         let is : bit (minus (bitOr (names .positive) (names .negative)) (r .noted)) m ≡ true = ap (λ (x : ℕ). bit x m) (sym o) ∙ greatest-member others l z in

@@ -6,7 +6,7 @@ use mathlib.Core.Logic.{⊎-elim}
 use native.Mathlib.Omega.{arith}
 use lib.Dec.{eqb, ltb}
 use borrow.Author.Tests.{eqb-true, eqb-false, eq-eqb, ltb-true, ltb-false, lt-ltb, not-true}
-use Rattle.lists.proofs.TestLaws.{and-left, and-right, and-both, look, clash}
+use Rattle.lists.proofs.TestLaws.{and-left, and-right, and-both, bool-cases, bool-clash}
 use Rattle.matching.proofs.Counting.{count, count-except, except, except-i}
 use Rattle.splitting.specs.Nodes.{lowest-with}
 use Rattle.splitting.proofs.SearchLaws.{lowest-some, lowest-none, lowest-found}
@@ -36,7 +36,7 @@ missed-no : (n : ℕ) (S : ℕ → Bool) (q : ℕ → ℕ) (j : ℕ) → missed 
 unfolding missed hits
 missed-no n S q j t i l s e =
     let w = lowest-found (hits S q j) n i l (and-both (S i) (eqb (q i) j) s (eq-eqb (q i) j e)) in
-    clash (lt-ltb (lowest-with (hits S q j) n) n (w .0)) (not-true _ (and-right (S j) (not (ltb (lowest-with (hits S q j) n) n)) t))
+    bool-clash (lt-ltb (lowest-with (hits S q j) n) n (w .0)) (not-true _ (and-right (S j) (not (ltb (lowest-with (hits S q j) n) n)) t))
 
 not-missed : (n : ℕ) (S : ℕ → Bool) (q : ℕ → ℕ) (j : ℕ) → missed n S q j ≡ false → S j ≡ true → (i : ℕ) × (S i ≡ true) × (q i ≡ j)
 unfolding missed hits
@@ -46,8 +46,8 @@ not-missed n S q j f s =
     (λ (t : ltb i n ≡ true).
     let h = lowest-some (hits S q j) n (ltb-true i n t) in
     (i, and-left (S i) (eqb (q i) j) h, eqb-true (q i) j (and-right (S i) (eqb (q i) j) h)))
-    (λ (e : ltb i n ≡ false). clash (and-both (S j) (not (ltb i n)) s (rw e)) f)
-    (look (ltb i n))
+    (λ (e : ltb i n ≡ false). bool-clash (and-both (S j) (not (ltb i n)) s (rw e)) f)
+    (bool-cases (ltb i n))
 
 module _ (q : ℕ → ℕ) (n : ℕ) where
   core-from : (k : ℕ) (S : ℕ → Bool) → ((i : ℕ) → S i ≡ true → i < n) → ((i : ℕ) → S i ≡ true → S (q i) ≡ true) → (z : ℕ) → S z ≡ true → count S n ≤ k → Core q n
@@ -72,7 +72,7 @@ module _ (q : ℕ → ℕ) (n : ℕ) where
         some = z;
         some-in = t;
       })
-      (look (ltb j n))
+      (bool-cases (ltb j n))
 
   pub core : ((i : ℕ) → i < n → q i < n) → 0 < n → Core q n
   core fwd h =
@@ -87,8 +87,8 @@ pub turn : (q : ℕ → ℕ) (n : ℕ) (K : Core q n) (j : ℕ) → (i : ℕ) ×
 turn q n K j =
     ⊎-elim
     (λ t. ⊎-elim
-    (λ e. (K .some, (λ _. (K .some-in, sym (eqb-true j _ e), λ _. refl), λ f. clash t f)))
-    (λ ne. let w = K .back j t in (w .0, (λ _. (w .1, w .2, λ e. absurd (eqb-false j (q (K .some)) ne e)), λ f. clash t f)))
-    (look (eqb j (q (K .some)))))
-    (λ f. (j, (λ t. clash t f, λ _. refl)))
-    (look (K .In j))
+    (λ e. (K .some, (λ _. (K .some-in, sym (eqb-true j _ e), λ _. refl), λ f. bool-clash t f)))
+    (λ ne. let w = K .back j t in (w .0, (λ _. (w .1, w .2, λ e. absurd (eqb-false j (q (K .some)) ne e)), λ f. bool-clash t f)))
+    (bool-cases (eqb j (q (K .some)))))
+    (λ f. (j, (λ t. bool-clash t f, λ _. refl)))
+    (bool-cases (K .In j))

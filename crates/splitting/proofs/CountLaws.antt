@@ -6,7 +6,7 @@ use native.Mathlib.Omega.{arith}
 use lib.Dec.{eqb}
 use lib.Pow.{pow-pos}
 use borrow.Author.Tests.{lt-ltb}
-use Rattle.lists.proofs.TestLaws.{and-left, clash}
+use Rattle.lists.proofs.TestLaws.{and-left, bool-clash}
 use Rattle.masks.specs.Mask.{bit, full, size}
 use Rattle.masks.proofs.BitLaws.{bit-full, bit-below}
 use Rattle.matching.proofs.MatchedLaws.{count-members}
@@ -28,7 +28,7 @@ count-le f n = omega (arith, count-sub f (λ _. true) n (λ i _. refl), count-al
 -- without a it counts less
 pub count-drop : (f g : ℕ → Bool) (n a : ℕ) → ((i : ℕ) → f i ≡ true → g i ≡ true) → a < n → g a ≡ true → f a ≡ false → count f n < count g n
 count-drop f g n a sub l t off =
-    omega (arith, count-except g a n l t, count-sub f (except g a) n (λ i h. except-i g a i (sub i h) (λ e. clash h (rw e off))))
+    omega (arith, count-except g a n l t, count-sub f (except g a) n (λ i h. except-i g a i (sub i h) (λ e. bool-clash h (rw e off))))
 
 -- what counts less than another set misses one of it
 pub count-lacks : (f g : ℕ → Bool) (n : ℕ) → count f n < count g n → (i : ℕ) × (i < n) × (g i ≡ true) × (f i ≡ false)

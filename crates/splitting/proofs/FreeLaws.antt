@@ -11,7 +11,7 @@ use Rattle.formula.specs.InnerCheck.{all-first}
 use Rattle.formula.specs.Masked.{no-clause}
 use Rattle.splitting.specs.declared.Assignment.{Assignment}
 use Rattle.splitting.specs.declared.Survey.{Survey}
-use Rattle.splitting.specs.InnerChoose.{set-to, satisfied-under, left-under, open-clauses, node, survey-from, survey-of, all-satisfied, free-choice, chosen}
+use Rattle.splitting.specs.InnerChoose.{set-to, satisfied-under, left-under, open-clauses, node, survey-from, survey-of, all-satisfied, free-choice, mask-choice}
 use Rattle.splitting.proofs.OpenClauseLaws.{survey-snoc}
 use Rattle.splitting.proofs.MaskNodeLaws.{satisfied-more}
 
@@ -49,9 +49,9 @@ module _ (f : Formula) (a : Assignment) (e : all-satisfied f a ≡ true) where
   satisfied-stays v b = first-stays (f .clauses) a v b (f .count) e
 
   -- the choice there
-  pub chosen-satisfied : (scope : ℕ) → chosen f scope a ≡ free-choice scope a
-  unfolding chosen survey-from
-  chosen-satisfied scope = rw (chosen, none-open (f .clauses) a (f .count) e)
+  pub chosen-satisfied : (scope : ℕ) → mask-choice f scope a ≡ free-choice scope a
+  unfolding mask-choice survey-from
+  chosen-satisfied scope = rw (mask-choice, none-open (f .clauses) a (f .count) e)
 
 -- where some clause is left
 pub some-open : (f : Formula) (a : Assignment) → all-satisfied f a ≡ false → survey-of (node f a) .any ≡ true

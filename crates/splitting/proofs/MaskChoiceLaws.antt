@@ -7,7 +7,7 @@ use native.Mathlib.Omega.{arith}
 use lib.Bits.{bitOr, bitXor}
 use lib.Dec.{eqb}
 use borrow.Author.Tests.{eqb-true, eqb-false}
-use Rattle.lists.proofs.TestLaws.{and-left, eqb-comm, clash}
+use Rattle.lists.proofs.TestLaws.{and-left, eqb-comm, bool-clash}
 use Rattle.masks.specs.Mask.{bit, with, minus, lowest, members}
 use Rattle.masks.proofs.MembersLaws.{some-member, member-some, members-none}
 use Rattle.masks.proofs.BitLaws.{bit-with, bit-minus, bit-none}
@@ -15,7 +15,7 @@ use Rattle.matching.specs.Search.{Outcome, outcome, succeeds, expansions}
 use Rattle.formula.specs.declared.Clause.{Clause}
 use Rattle.formula.specs.declared.Formula.{Formula}
 use Rattle.formula.specs.Format.{Literal, names}
-use Rattle.formula.specs.Masked.{named, clause-of, formula-of}
+use Rattle.formula.specs.Masked.{clause-variables, clause-of, formula-of}
 use Rattle.formula.proofs.FormatLaws.{clause-more}
 use Rattle.splitting.specs.declared.Assignment.{Assignment}
 use Rattle.splitting.specs.declared.Choice.{Choice}
@@ -26,8 +26,8 @@ use Rattle.splitting.specs.Nodes as nodes
 use Rattle.splitting.specs.Nodes.{assign, remaining, occurs, lowest-with, upward}
 use Rattle.splitting.specs.Stripping.{pure, not-naming, Stripped, note, strip, stripped}
 use Rattle.splitting.specs.Choosing as choosing
-use Rattle.splitting.specs.Choosing.{matched, trial, both-open, first-passing, candidates, among, listed, last, last-listed, by-left, by-remaining, unassigned-of, choice}
-use Rattle.splitting.specs.InnerChoose.{assigned, set-to, node, survey-from, survey-of, matched-node, reduced-at, pure-of, reduce-from, reduced, tried, passing, greatest, listed-last, others-of, chosen, assignment-of}
+use Rattle.splitting.specs.Choosing.{matching-of, trial, both-open, first-passing, candidates, among, listed, last, last-listed, by-left, by-remaining, unassigned-of, choice}
+use Rattle.splitting.specs.InnerChoose.{assigned, set-to, node, survey-from, survey-of, matched-node, reduced-at, pure-of, reduce-from, reduced, tried, passing, greatest, listed-last, others-of, mask-choice, assignment-of}
 use Rattle.splitting.specs.Terms.{Below, Trail}
 use Rattle.splitting.proofs.ClauseLaws.{pure-named}
 use Rattle.splitting.proofs.NodeLaws.{remaining-snoc, named-remaining, below-remaining}
@@ -63,7 +63,7 @@ tried-is : (f : Formula) (a : Assignment) (v : ℕ)
 unfolding tried by-test-masks
 tried-is f a v = refl
 
-trial-is : (cs : List (List Literal)) (v : ℕ) → trial cs v ≡ by-test-lists (succeeds (matched (assign v false cs))) (matched (assign v false cs)) (matched (assign v true cs))
+trial-is : (cs : List (List Literal)) (v : ℕ) → trial cs v ≡ by-test-lists (succeeds (matching-of (assign v false cs))) (matching-of (assign v false cs)) (matching-of (assign v true cs))
 unfolding trial by-test-lists
 trial-is cs v = refl
 
@@ -95,7 +95,7 @@ last-mask n m g fits same low l x e = go (eqb m 0) refl
     up = members-upward n m g fits same low
 
     more : (m ≡ 0 → ⊥) → (r : List ℕ) → upward g n ≡ r → last r ≡ last (l ++ r)
-    more ne [] q = let w = some-member m ne in clash (upward-in g n (w .0) (low (w .0) (sym (same (w .0)) ∙ w .1)) (sym (same (w .0)) ∙ w .1)) (rw q (among-nil (w .0)))
+    more ne [] q = let w = some-member m ne in bool-clash (upward-in g n (w .0) (low (w .0) (sym (same (w .0)) ∙ w .1)) (sym (same (w .0)) ∙ w .1)) (rw q (among-nil (w .0)))
     more ne (y ∷ r) q = sym (last-append l y r)
 
     go : (b : Bool) → eqb m 0 ≡ b → cond b x (greatest m) ≡ last (l ++ upward g n)
@@ -129,15 +129,15 @@ module _ (n : ℕ) (cs : List (List Literal)) (fits : n ≤ 64) (low : Below n c
 
   -- ---- trials
 
-  matched-more : (t : List Literal) (v : ℕ) (b : Bool) → Trail n t → v < n → names t v ≡ false → matched-node f (set-to (assignment-of t) v b) ≡ matched (assign v b (remaining t cs))
-  unfolding matched
-  matched-more t v b w l e = ap (λ (d : List Clause). outcome (map named d)) (node-more t v b w l e) ∙ ap outcome (sets-variables (assign v b (remaining t cs)))
+  matched-more : (t : List Literal) (v : ℕ) (b : Bool) → Trail n t → v < n → names t v ≡ false → matched-node f (set-to (assignment-of t) v b) ≡ matching-of (assign v b (remaining t cs))
+  unfolding matching-of
+  matched-more t v b w l e = ap (λ (d : List Clause). outcome (map clause-variables d)) (node-more t v b w l e) ∙ ap outcome (sets-variables (assign v b (remaining t cs)))
 
   tried-same : (t : List Literal) (v : ℕ) → Trail n t → v < n → names t v ≡ false
       → (tried f (assignment-of t) v .passes ≡ trial (remaining t cs) v .passes) × (tried f (assignment-of t) v .cost ≡ trial (remaining t cs) v .cost)
   tried-same t v w l e =
       rw (tried-is f (assignment-of t) v, matched-more t v false w l e, matched-more t v true w l e, trial-is (remaining t cs) v)
-      (same-test (succeeds (matched (assign v false (remaining t cs)))) (matched (assign v false (remaining t cs))) (matched (assign v true (remaining t cs))))
+      (same-test (succeeds (matching-of (assign v false (remaining t cs)))) (matching-of (assign v false (remaining t cs))) (matching-of (assign v true (remaining t cs))))
 
   -- the variables that are tried are below n and not assigned
   passing-first : (t : List Literal) → Trail n t → (vs : List ℕ) (e : ℕ) → ((v : ℕ) → among vs v ≡ true → (v < n) × (names t v ≡ false))
@@ -330,8 +330,8 @@ module _ (n : ℕ) (cs : List (List Literal)) (fits : n ≤ 64) (low : Below n c
 
   -- The choice over masks is the choice over written clauses, wherever a variable is left to assign.
   pub chosen-choice : (t : List Literal) (scope : ℕ) → Trail n t → ((v : ℕ) → bit scope v ≡ true → v < n) → (v : ℕ) → unassigned-of scope t v ≡ true
-      → chosen f scope (assignment-of t) ≡ choice n scope cs t
-  unfolding chosen choice survey-from
+      → mask-choice f scope (assignment-of t) ≡ choice n scope cs t
+  unfolding mask-choice choice survey-from
   chosen-choice t scope w inside v u = go (remaining t cs) refl
     where
       h : Reduces t n 0 0 (reduced f (assignment-of t))
@@ -344,7 +344,7 @@ module _ (n : ℕ) (cs : List (List Literal)) (fits : n ≤ 64) (low : Below n c
       left-any ds e = ap (λ (s : Survey). s .any) (h .surveyed) ∙ ap (λ (d : List (List Literal)). survey-of (map clause-of d) .any) e
 
       remains : (d : List Literal) (ds left : List (List Literal)) → remaining t cs ≡ d ∷ ds → stripped n (remaining t cs) .left ≡ left
-          → chosen f scope (assignment-of t) ≡ by-left n (remaining t cs) (stripped n (remaining t cs) .noted) left
+          → mask-choice f scope (assignment-of t) ≡ by-left n (remaining t cs) (stripped n (remaining t cs) .noted) left
       remains d ds [] e q =
           let x = last (listed n (remaining t cs) (stripped n (remaining t cs) .noted)) in
           let is : nodes.named (remaining t cs) x ≡ true = last-listed-named n (remaining t cs) (below-node t) (rw e (omega arith)) q in
@@ -354,7 +354,7 @@ module _ (n : ℕ) (cs : List (List Literal)) (fits : n ≤ 64) (low : Below n c
           rw (any-of (d ∷ ds) e, any-some d ds, left-any (c ∷ left) q, any-some c left)
           (when-left t w (reduced f (assignment-of t)) h ∙ ap (λ (l : List (List Literal)). first-passing l (candidates n l) 0) q)
 
-      go : (ds : List (List Literal)) → remaining t cs ≡ ds → chosen f scope (assignment-of t) ≡ by-remaining n (unassigned-of scope t) ds
+      go : (ds : List (List Literal)) → remaining t cs ≡ ds → mask-choice f scope (assignment-of t) ≡ by-remaining n (unassigned-of scope t) ds
       go [] e = rw (any-of [] e) (ap (λ (x : ℕ). both-open x 0) (when-free t scope inside v u))
       go (d ∷ ds) e =
           remains d ds (stripped n (remaining t cs) .left) e refl

@@ -6,12 +6,12 @@ use mathlib.Core.List.{List, [], _∷_, map}
 use mathlib.Core.Logic.{⊎-elim}
 use lib.Bits.{bitOr, bitXor}
 use lib.Dec.{eqb}
-use Rattle.lists.proofs.TestLaws.{or-none, both-signs, look, clash}
+use Rattle.lists.proofs.TestLaws.{or-none, both-signs, bool-cases, bool-clash}
 use Rattle.masks.specs.Mask.{bit}
 use Rattle.masks.proofs.BitLaws.{bit-or, bit-xor, bit-none}
 use Rattle.formula.specs.declared.Clause.{Clause}
 use Rattle.formula.specs.Format.{Literal, names, names-as}
-use Rattle.formula.specs.Masked.{named, variables, clause-of}
+use Rattle.formula.specs.Masked.{clause-variables, variables, clause-of}
 use Rattle.formula.proofs.ClauseLaws.{clause-side, clause-empty, variables-named, named-as}
 use Rattle.splitting.specs.declared.Survey.{Survey}
 use Rattle.splitting.specs.Nodes as nodes
@@ -38,7 +38,7 @@ pub occurs-bit : (ds : List (List Literal)) (sign : Bool) (v : ℕ) → bit (sur
 occurs-bit ds true v = survey-occurs (record { positive = 0; negative = 0; any = false }) ds true v ∙ rw (bit-none v)
 occurs-bit ds false v = survey-occurs (record { positive = 0; negative = 0; any = false }) ds false v ∙ rw (bit-none v)
 
--- the variables named either way, and in one way only
+-- the variables clause-variables either way, and in one way only
 pub named-bit : (ds : List (List Literal)) (v : ℕ) → bit (bitOr (survey-of (map clause-of ds) .positive) (survey-of (map clause-of ds) .negative)) v ≡ nodes.named ds v
 unfolding nodes.named
 named-bit ds v = bit-or (survey-of (map clause-of ds) .positive) (survey-of (map clause-of ds) .negative) v ∙ rw (occurs-bit ds true v, occurs-bit ds false v)
@@ -59,7 +59,7 @@ any-some d ds = survey-goes (surveys (record { positive = 0; negative = 0; any =
 
 -- ---- matchings and empty clauses
 
-pub sets-variables : (ds : List (List Literal)) → map named (map clause-of ds) ≡ map variables ds
+pub sets-variables : (ds : List (List Literal)) → map clause-variables (map clause-of ds) ≡ map variables ds
 sets-variables [] = refl
 sets-variables (d ∷ ds) = rw (sets-variables ds, variables-named d)
 
@@ -84,19 +84,19 @@ assign-drops v sign (d ∷ ds) e =
     let w = or-none (names-as d v (not sign)) (occurs ds v (not sign)) e in go (names-as d v sign) refl (w .0) (assign-drops v sign ds (w .1))
   where
     unnamed : names-as d v sign ≡ false → names-as d v (not sign) ≡ false → names d v ≡ false
-    unnamed f g = ⊎-elim (λ h. let w = names-some d v h in clash (w .1) (both-signs (λ s. names-as d v s ≡ false) sign f g (w .0))) (λ h. h) (look (names d v))
+    unnamed f g = ⊎-elim (λ h. let w = names-some d v h in bool-clash (w .1) (both-signs (λ s. names-as d v s ≡ false) sign f g (w .0))) (λ h. h) (bool-cases (names d v))
 
     go : (b : Bool) → names-as d v sign ≡ b → names-as d v (not sign) ≡ false → assign v sign ds ≡ not-naming v ds
         → cond b (assign v sign ds) (less v d ∷ assign v sign ds) ≡ cond (names d v) (not-naming v ds) (d ∷ not-naming v ds)
     go true f g ih = rw (named-as d v sign f) ih
     go false f g ih = rw (unnamed f g, less-none v d (unnamed f g), ih)
 
--- a variable named in one way only is not named the other way
+-- a variable clause-variables in one way only is not clause-variables the other way
 pub pure-way : (ds : List (List Literal)) (v : ℕ) → pure ds v ≡ true → occurs ds v (not (occurs ds v true)) ≡ false
 unfolding pure xor
 pure-way ds v e = go (occurs ds v true) (occurs ds v false) refl refl e
   where
     go : (x y : Bool) → occurs ds v true ≡ x → occurs ds v false ≡ y → xor x y ≡ true → occurs ds v (not x) ≡ false
-    go true true p q h = clash h refl
+    go true true p q h = bool-clash h refl
     go true false p q h = q
     go false y p q h = p

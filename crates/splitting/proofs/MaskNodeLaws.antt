@@ -11,7 +11,7 @@ use lib.ListN.{length, getD, length-map}
 use borrow.Author.Tests.{eqb-true, eqb-false, eq-eqb, ne-eqb}
 use Rattle.lists.specs.Padded.{padded}
 use Rattle.lists.proofs.PaddedLaws.{getD-padded}
-use Rattle.lists.proofs.TestLaws.{or-swap, eqb-comm, look, clash}
+use Rattle.lists.proofs.TestLaws.{or-swap, eqb-comm, bool-cases, bool-clash}
 use Rattle.masks.specs.Mask.{bit, with, without, meets}
 use Rattle.masks.proofs.BitLaws.{bit-and, bit-or, bit-with, bit-minus, bit-without, bit-none}
 use Rattle.masks.proofs.MeetLaws.{meets-with}
@@ -62,7 +62,7 @@ less-names v c sign i =
     (λ (t : eqb i v ≡ true).
     ap (λ (j : ℕ). names-as (less v c) j sign) (eqb-true i v t) ∙ less-self v c sign ∙ sym (rw t (and-false (names-as c i sign))))
     (λ (f : eqb i v ≡ false). less-other v c i sign (eqb-false i v f) ∙ sym (rw f (and-true (names-as c i sign))))
-    (look (eqb i v))
+    (bool-cases (eqb i v))
 
 less-side : (v : ℕ) (c : Clause) (sign : Bool) (i : ℕ) → bit (side (less-mask v c) sign) i ≡ bit (side c sign) i && not (eqb i v)
 unfolding less-mask
@@ -180,7 +180,7 @@ open-trail (l ∷ t) a ds cs d new e =
 
     later : (i : ℕ) → names t i ≡ true → bit (assigned (set-to a (l .variable) (l .positive))) i ≡ false
     later i h =
-        let apart : i ≡ l .variable → ⊥ = λ q. clash h (ap (names t) q ∙ distinct-rest l t d .0) in
+        let apart : i ≡ l .variable → ⊥ = λ q. bool-clash h (ap (names t) q ∙ distinct-rest l t d .0) in
         assigned-more a (l .variable) (l .positive) i ∙ rw (new i (rw h (or-true (eqb (l .variable) i))), ne-eqb i (l .variable) apart)
 
 -- over the array of a formula

@@ -7,7 +7,7 @@ use mathlib.Core.Logic.{⊎-elim}
 use native.Mathlib.Nat.{eq-or-lt-of-le}
 use native.Mathlib.Omega.{arith}
 use lib.Pow.{pow-mono}
-use Rattle.lists.proofs.TestLaws.{clash}
+use Rattle.lists.proofs.TestLaws.{bool-clash}
 use Rattle.masks.specs.Mask.{bit, lowest, members, only-if}
 use Rattle.masks.proofs.BitLaws.{bit-none}
 use Rattle.masks.proofs.MembersLaws.{lowest-is, mask-lt, members-wide}
@@ -58,7 +58,7 @@ module _ (n m : ℕ) (f : ℕ → Bool) (fits : n ≤ 64) (same : (v : ℕ) → 
   lowest-empty e =
       ⊎-elim
       (λ (l : lowest-with f n < n).
-      clash (same (lowest-with f n) ∙ lowest-some f n l) (ap (λ (k : ℕ). bit k (lowest-with f n)) e ∙ bit-none (lowest-with f n)))
+      bool-clash (same (lowest-with f n) ∙ lowest-some f n l) (ap (λ (k : ℕ). bit k (lowest-with f n)) e ∙ bit-none (lowest-with f n)))
       (λ l. l)
       (lt-or-le (lowest-with f n) n)
 
@@ -75,11 +75,11 @@ module _ (n m : ℕ) (f : ℕ → Bool) (fits : n ≤ 64) (same : (v : ℕ) → 
       let w = lowest-found f n (lowest m) (low (lowest m) t) t in (
         w .0,
         ⊎-elim
-            (λ (h : lowest m < lowest-with f n). clash t (first-least f 0 n (lowest m) zero-le h))
+            (λ (h : lowest m < lowest-with f n). bool-clash t (first-least f 0 n (lowest m) zero-le h))
             (λ (h : lowest-with f n ≤ lowest m).
             ⊎-elim
             (λ (e : lowest-with f n ≡ lowest m). sym e)
-            (λ (g : lowest-with f n < lowest m). clash (same (lowest-with f n) ∙ w .1) (l .first (lowest-with f n) g))
+            (λ (g : lowest-with f n < lowest m). bool-clash (same (lowest-with f n) ∙ w .1) (l .first (lowest-with f n) g))
             (eq-or-lt-of-le h))
             (lt-or-le (lowest m) (lowest-with f n)),
       )

@@ -9,11 +9,11 @@ use lib.ListN.{length, getD, length-map, List·getD-map}
 use lib.Dec.{ltb}
 use borrow.Author.Tests.{ltb-true, lt-ltb}
 use Rattle.lists.specs.Tabulated.{tabulated}
-use Rattle.lists.proofs.TestLaws.{both-signs, look, clash}
+use Rattle.lists.proofs.TestLaws.{both-signs, bool-cases, bool-clash}
 use Rattle.lists.proofs.SublistLaws.{getD-element, element-place, sub-map}
 use Rattle.lists.proofs.TabulatedLaws.{length-tabulated, getD-tabulated}
 use Rattle.masks.specs.Mask.{bit}
-use Rattle.matching.specs.Matched.{Matches, Matched, chosen}
+use Rattle.matching.specs.Matched.{Matches, Matched, selected}
 use Rattle.matching.proofs.Theorems.{sub-list-matched}
 use Rattle.formula.specs.Format.{Literal, names, names-as, distinct}
 use Rattle.formula.specs.Masked.{variables}
@@ -25,8 +25,8 @@ use Rattle.splitting.proofs.CoreLaws.{Core, core, turn}
 
 -- ── Sub-lists ────────────────────────────────────────────────────────────────────────────────────────────────────────
 
-marks-of : {xs sets : List ℕ} → Sublistᴰ xs sets → (marks : List ℕ) × (chosen marks sets ≡ xs)
-unfolding chosen
+marks-of : {xs sets : List ℕ} → Sublistᴰ xs sets → (marks : List ℕ) × (selected marks sets ≡ xs)
+unfolding selected
 marks-of Sublistᴰ·slnil = ([], refl)
 marks-of (Sublistᴰ·cons s) = let w = marks-of s in (0 ∷ w .0, w .1)
 marks-of (Sublistᴰ·cons-cons {a = x} {b = y} {l₁ = xs} e s) =
@@ -100,7 +100,7 @@ part-bit x s c v t same = go (names-as c x s) refl
     go true e = variables-bit c v ∙ t
     go false e =
         let w = names-some c v t in
-        variables-bit (less x c) v ∙ named-as (less x c) v (w .0) (less-other x c v (w .0) (λ q. clash (same q) e) ∙ w .1)
+        variables-bit (less x c) v ∙ named-as (less x c) v (w .0) (less-other x c v (w .0) (λ q. bool-clash (same q) e) ∙ w .1)
 
 assigned-matched : (cs : List (List Literal)) (vs : List ℕ) (i x : ℕ) (s : Bool) → Matches (map variables cs) vs
     → i < length cs → getD vs i 0 ≡ x → names-as (at cs i) x s ≡ true → Matched (map variables (assign x s cs))
@@ -141,8 +141,8 @@ turning cs m np nm = (λ i. (pick i) .0, λ i. (pick i) .1)
     pick i =
         ⊎-elim
         (λ t. let w = found i (ltb-true i (length cs) t) in (w .0, λ _. w .1))
-        (λ e. (i, λ l. clash (lt-ltb i (length cs) l) e))
-        (look (ltb i (length cs)))
+        (λ e. (i, λ l. bool-clash (lt-ltb i (length cs) l) e))
+        (bool-cases (ltb i (length cs)))
 
 -- the matching turned along the core
 module _ (cs : List (List Literal)) (m : ℕ → ℕ) (nm : (i : ℕ) → i < length cs → names (at cs i) (m i) ≡ true)
@@ -160,20 +160,20 @@ module _ (cs : List (List Literal)) (m : ℕ → ℕ) (nm : (i : ℕ) → i < le
   back-out j = (turn q (length cs) K j) .1 .1
 
   back-low : (j : ℕ) → j < length cs → back j < length cs
-  back-low j l = ⊎-elim (λ t. K .low (back j) (back-in j t .0)) (λ f. rw (back-out j f) l) (look (K .In j))
+  back-low j l = ⊎-elim (λ t. K .low (back j) (back-in j t .0)) (λ f. rw (back-out j f) l) (bool-cases (K .In j))
 
   back-apart : (i j : ℕ) → back i ≡ back j → i ≡ j
   back-apart i j e =
       ⊎-elim
       (λ t. ⊎-elim
       (λ u. sym (back-in i t .1) ∙ ap q e ∙ back-in j u .1)
-      (λ g. clash (back-in i t .0) (rw (e, back-out j g) g))
-      (look (K .In j)))
+      (λ g. bool-clash (back-in i t .0) (rw (e, back-out j g) g))
+      (bool-cases (K .In j)))
       (λ f. ⊎-elim
-      (λ u. clash (back-in j u .0) (rw (← e, back-out i f) f))
+      (λ u. bool-clash (back-in j u .0) (rw (← e, back-out i f) f))
       (λ g. sym (back-out i f) ∙ e ∙ back-out j g)
-      (look (K .In j)))
-      (look (K .In i))
+      (bool-cases (K .In j)))
+      (bool-cases (K .In i))
 
   turned : Matches (map variables cs) (tabulated (λ j. m (back j)) (length cs))
   turned =
@@ -184,7 +184,7 @@ module _ (cs : List (List Literal)) (m : ℕ → ℕ) (nm : (i : ℕ) → i < le
       let w = turns (back j) (K .low (back j) (back-in j t .0)) in
       subst (λ k. names (at cs k) (m (back j)) ≡ true) (back-in j t .1) (named-as (at cs (q (back j))) (m (back j)) (not (w .1)) (w .3)))
       (λ f. rw (back-out j f) (nm j l))
-      (look (K .In j)))
+      (bool-cases (K .In j)))
       (λ i j l k e. back-apart i j (apart (back i) (back j) (back-low i l) (back-low j k) e))
 
 -- Matched clauses, not none of them, and no variable pure: some variable can get both values.

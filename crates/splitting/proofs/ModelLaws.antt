@@ -8,7 +8,7 @@ use native.Mathlib.Omega.{arith}
 use lib.ListN.{length, getD, length-map}
 use lib.Dec.{eqb}
 use borrow.Author.Tests.{eq-eqb, ne-eqb}
-use Rattle.lists.proofs.TestLaws.{both-signs, look, clash, or-left, or-right}
+use Rattle.lists.proofs.TestLaws.{both-signs, bool-cases, bool-clash, or-left, or-right}
 use Rattle.lists.proofs.SublistLaws.{element-place}
 use Rattle.masks.specs.Mask.{bit, with}
 use Rattle.masks.proofs.BitLaws.{bit-none, bit-with-same, bit-with-other}
@@ -36,7 +36,7 @@ pub satisfies-assign : (a : ℕ → Bool) (v : ℕ) (b : Bool) (cs : List (List 
 satisfies-assign a v b cs sat e d m =
     let c = assign-of v b cs d m in
     let w = sat (c .0) (c .1) in
-    let ne : w .0 ≡ v → ⊥ = λ q. clash (subst (λ s. names-as (c .0) v s ≡ true) e (subst (λ x. names-as (c .0) x (a x) ≡ true) q (w .1))) (c .3) in
+    let ne : w .0 ≡ v → ⊥ = λ q. bool-clash (subst (λ s. names-as (c .0) v s ≡ true) e (subst (λ x. names-as (c .0) x (a x) ≡ true) q (w .1))) (c .3) in
     (w .0, subst (λ (k : List Literal). names-as k (w .0) (a (w .0)) ≡ true) (sym (c .2)) (less-other v (c .0) (w .0) (a (w .0)) ne ∙ w .1))
 
 -- and the other way round
@@ -47,7 +47,7 @@ assign-satisfies a v b cs sat e c m =
     (λ (f : names-as c v b ≡ false).
     let w = sat (less v c) (assign-in v b cs c m f) in
     (w .0, less-of v c (w .0) (a (w .0)) (w .1) .0))
-    (look (names-as c v b))
+    (bool-cases (names-as c v b))
 
 -- and what a trail leaves of them, if it agrees with the trail
 pub satisfies-remaining : (a : ℕ → Bool) (t : List Literal) (cs : List (List Literal)) → Satisfies a cs → Agrees a t → Satisfies a (remaining t cs)
@@ -83,10 +83,10 @@ unfolding under names
 under-other [] a v f = refl
 under-other (l ∷ t) a v f =
     ⊎-elim
-    (λ (h : eqb (l .variable) v ≡ true). clash (or-left (eqb (l .variable) v) (names t v) h) f)
+    (λ (h : eqb (l .variable) v ≡ true). bool-clash (or-left (eqb (l .variable) v) (names t v) h) f)
     (λ (h : eqb (l .variable) v ≡ false).
-    rw h (under-other t a v (⊎-elim (λ k. clash (or-right (eqb (l .variable) v) (names t v) k) f) (λ k. k) (look (names t v)))))
-    (look (eqb (l .variable) v))
+    rw h (under-other t a v (⊎-elim (λ k. bool-clash (or-right (eqb (l .variable) v) (names t v) k) f) (λ k. k) (bool-cases (names t v)))))
+    (bool-cases (eqb (l .variable) v))
 
 -- it agrees with the trail
 pub under-agrees : (t : List Literal) (a : ℕ → Bool) → distinct t ≡ true → Agrees (under t a) t
@@ -98,7 +98,7 @@ under-agrees (k ∷ t) a d l m =
     (λ more.
     let r = distinct-rest k t d in
     let ne : k .variable ≡ l .variable → ⊥ =
-    λ q. clash (named-as t (l .variable) (l .positive) (literal-names t l more)) (subst (λ v. names t v ≡ false) q (r .0)) in
+    λ q. bool-clash (named-as t (l .variable) (l .positive) (literal-names t l more)) (subst (λ v. names t v ≡ false) q (r .0)) in
     rw (ne-eqb (k .variable) (l .variable) ne) (under-agrees t a (r .1) l more))
     (List·Memᴰ·cases-cons m)
 
@@ -130,12 +130,12 @@ pure-satisfies cs x s a off sat c m =
     ⊎-elim
     (λ (h : names-as c x s ≡ true). (x, rw (given-same x s a) h))
     (λ (f : names-as c x s ≡ false).
-    let g : names-as c x (not s) ≡ false = ⊎-elim (λ t. clash (occurs-in cs c x (not s) m t) off) (λ e. e) (look (names-as c x (not s))) in
+    let g : names-as c x (not s) ≡ false = ⊎-elim (λ t. bool-clash (occurs-in cs c x (not s) m t) off) (λ e. e) (bool-cases (names-as c x (not s))) in
     let none = both-signs (λ u. names-as c x u ≡ false) s f g in
-    let w = sat c (not-naming-in x cs c m (⊎-elim (λ t. let k = names-some c x t in clash (k .1) (none (k .0))) (λ e. e) (look (names c x)))) in
-    let ne : w .0 ≡ x → ⊥ = λ q. clash (subst (λ v. names-as c v (a v) ≡ true) q (w .1)) (none (a x)) in
+    let w = sat c (not-naming-in x cs c m (⊎-elim (λ t. let k = names-some c x t in bool-clash (k .1) (none (k .0))) (λ e. e) (bool-cases (names c x)))) in
+    let ne : w .0 ≡ x → ⊥ = λ q. bool-clash (subst (λ v. names-as c v (a v) ≡ true) q (w .1)) (none (a x)) in
     (w .0, rw (given-other x s a (w .0) ne) (w .1)))
-    (look (names-as c x s))
+    (bool-cases (names-as c x s))
 
 -- what satisfies the clauses that are left gives what satisfies all
 pub left-satisfies : (n : ℕ) (a : ℕ → Bool) (cs : List (List Literal)) → Satisfies a (stripped n cs .left) → (b : ℕ → Bool) × Satisfies b cs
@@ -172,7 +172,7 @@ matched-satisfies cs (vs, M) = (λ x. names-as (getD cs (owner vs x - 1) []) x t
         own : (c : List Literal) (v : ℕ) (s : Bool) → names-as c v s ≡ true → names-as c v (names-as c v true) ≡ true
         own c v true t = rw t t
         own c v false t =
-            ⊎-elim (λ (h : names-as c v true ≡ true). rw h h) (λ (f : names-as c v true ≡ false). rw f t) (look (names-as c v true))
+            ⊎-elim (λ (h : names-as c v true ≡ true). rw h h) (λ (f : names-as c v true ≡ false). rw f t) (bool-cases (names-as c v true))
 
 -- ── Models ───────────────────────────────────────────────────────────────────────────────────────────────────────────
 

@@ -7,7 +7,7 @@ use mathlib.Core.Logic.{_⊎_, inl, inr, ⊎-elim}
 use native.Mathlib.Omega.{arith}
 use lib.ListN.{length}
 use borrow.Author.Tests.{ne-eqb}
-use Rattle.lists.proofs.TestLaws.{clash}
+use Rattle.lists.proofs.TestLaws.{bool-clash}
 use Rattle.lists.specs.Every.{Every}
 use Rattle.lists.proofs.EveryLaws.{every-element}
 use Rattle.formula.specs.Format.{Literal, names, names-as, ClauseOver}
@@ -27,7 +27,7 @@ assign-in v b (d ∷ cs) c m f = go (names-as d v b) refl (List·Memᴰ·cases-c
   where
     go : (a : Bool) → names-as d v b ≡ a → (c ≡ d) ⊎ List·Memᴰ c cs → (List·Memᴰ c cs → List·Memᴰ (less v c) (assign v b cs))
         → List·Memᴰ (less v c) (cond a (assign v b cs) (less v d ∷ assign v b cs))
-    go true e (inl q) rec = clash e (rw q at f)
+    go true e (inl q) rec = bool-clash e (rw q at f)
     go true e (inr k) rec = rec k
     go false e (inl q) rec = List·Memᴰ·head (ap (less v) q)
     go false e (inr k) rec = List·Memᴰ·tail (rec k)
@@ -76,7 +76,7 @@ assign-sub v b (Sublistᴰ·cons-cons {a = d} {b = c} {l₁ = ds} {l₂ = cs} e 
   where
     go : (a : Bool) → names-as c v b ≡ a → Sublistᴰ (map (less v) ds) (assign v b cs)
         → Sublistᴰ (less v d ∷ map (less v) ds) (cond a (assign v b cs) (less v c ∷ assign v b cs))
-    go true t s = clash t (rw e at (off d (List·Memᴰ·head refl)))
+    go true t s = bool-clash t (rw e at (off d (List·Memᴰ·head refl)))
     go false f s = Sublistᴰ·cons-cons (ap (less v) e) s
 
 -- a clause that is left comes from one
@@ -120,7 +120,7 @@ length-assign v b (c ∷ cs) = go (names-as c v b) (length-assign v b cs)
 -- where a clause is emptied, the list has the empty one
 pub emptied-some : (cs : List (List Literal)) → emptied cs ≡ true → List·Memᴰ {A = List Literal} [] cs
 unfolding emptied
-emptied-some [] t = clash t refl
+emptied-some [] t = bool-clash t refl
 emptied-some ([] ∷ cs) t = List·Memᴰ·head refl
 emptied-some ((l ∷ c) ∷ cs) t = List·Memᴰ·tail (emptied-some cs t)
 
@@ -128,7 +128,7 @@ emptied-some ((l ∷ c) ∷ cs) t = List·Memᴰ·tail (emptied-some cs t)
 pub emptied-none : (cs : List (List Literal)) → emptied cs ≡ false → (c : List Literal) → List·Memᴰ c cs → (v : ℕ) × (names c v ≡ true)
 unfolding emptied
 emptied-none [] f c m = absurd (List·Memᴰ·not-nil m)
-emptied-none ([] ∷ cs) f c m = clash refl f
+emptied-none ([] ∷ cs) f c m = bool-clash refl f
 emptied-none ((l ∷ d) ∷ cs) f c m =
     ⊎-elim (λ (e : c ≡ l ∷ d). (l .variable, rw e (first l d))) (λ more. emptied-none cs f c more) (List·Memᴰ·cases-cons m)
   where

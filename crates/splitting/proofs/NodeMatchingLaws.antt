@@ -21,7 +21,7 @@ use Rattle.matching.proofs.ResultLaws.{packed-expansions}
 use Rattle.matching.proofs.Theorems.{outcome-cost}
 use Rattle.formula.specs.declared.Clause.{Clause}
 use Rattle.formula.specs.declared.Formula.{Formula}
-use Rattle.formula.specs.Masked.{no-clause, named, side, FormulaFits}
+use Rattle.formula.specs.Masked.{no-clause, clause-variables, side, FormulaFits}
 use Rattle.splitting.specs.declared.Assignment.{Assignment}
 use Rattle.splitting.specs.InnerChoose.{assigned, satisfied-under, left-under, open-clauses, node, formula-at, Small, matched-node, matching-at}
 
@@ -44,7 +44,7 @@ small-of f fits = record {
       omega (arith, fits .clauses i l .below sign);
 }
 
-words-named : (l : List Clause) → Every WordClause l → Every Word (map named l)
+words-named : (l : List Clause) → Every WordClause l → Every Word (map clause-variables l)
 words-named [] h = tt
 words-named (c ∷ l) h = (or-lt 64 (c .positive) (c .negative) (h .0 .0) (h .0 .1), words-named l (h .1))
 
@@ -88,32 +88,32 @@ module _ (f : Formula) (fits : Small f) (a : Assignment) where
       by-side c true w = w .0
       by-side c false w = w .1
 
-  node-words : Every Word (map named (node f a))
+  node-words : Every Word (map clause-variables (node f a))
   node-words = words-named (node f a) (open-words (f .count) (omega arith))
 
-  node-few : length (map named (node f a)) ≤ 96
-  node-few = let e = length-map (node f a) named in omega (arith, open-length (f .count), fits .few)
+  node-few : length (map clause-variables (node f a)) ≤ 96
+  node-few = let e = length-map (node f a) clause-variables in omega (arith, open-length (f .count), fits .few)
 
   -- over zeros, what the clauses name is what the matching asks
-  pub node-clauses : (b : List ℕ) → b ≡ replicate 96 0 → Clauses (over (map named (node f a)) b) (length (node f a))
+  pub node-clauses : (b : List ℕ) → b ≡ replicate 96 0 → Clauses (over (map clause-variables (node f a)) b) (length (node f a))
   node-clauses b e =
-      let l = map named (node f a) in
+      let l = map clause-variables (node f a) in
       let n : length b ≡ 96 = ap length e ∙ length-replicate {A = ℕ} 96 0 in
       let w : Every Word b = rw e (every-replicate Word 96 0 (omega arith)) in
       record {
-        few = omega (arith, length-map (node f a) named, node-few);
-        present = omega (arith, length-map (node f a) named, node-few, over-length l b (omega (arith, node-few)));
+        few = omega (arith, length-map (node f a) clause-variables, node-few);
+        present = omega (arith, length-map (node f a) clause-variables, node-few, over-length l b (omega (arith, node-few)));
         words = λ i m. every-getD Word (over l b) i 0 m (every-append Word l (drop (length l) b) node-words (every-drop Word (length l) b w));
       }
 
   -- and its first clauses are those of the node
-  pub node-taken : (b : List ℕ) → take (length (node f a)) (over (map named (node f a)) b) ≡ map named (node f a)
-  node-taken b = take-at (map named (node f a)) _ (length (node f a)) (length-map (node f a) named)
+  pub node-taken : (b : List ℕ) → take (length (node f a)) (over (map clause-variables (node f a)) b) ≡ map clause-variables (node f a)
+  node-taken b = take-at (map clause-variables (node f a)) _ (length (node f a)) (length-map (node f a) clause-variables)
 
   -- the matching of a node costs at most 96 * 97 / 2 expansions
   pub node-cost : expansions (matched-node f a) ≤ 4656
   node-cost =
-      let l = map named (node f a) in
+      let l = map clause-variables (node f a) in
       let k = length l in
       let s : k + 1 ≤ 97 = omega (arith, node-few) in
       let p : k * (k + 1) ≤ 96 * 97 = mul-le-mul node-few s in

@@ -20,7 +20,7 @@ use Rattle.masks.specs.Mask.{bit}
 use Rattle.masks.proofs.BitLaws.{bit-or}
 use Rattle.masks.proofs.MembersLaws.{some-member, member-some}
 use Rattle.formula.specs.declared.Clause.{Clause}
-use Rattle.formula.specs.Masked.{no-clause, named}
+use Rattle.formula.specs.Masked.{no-clause, clause-variables}
 use Rattle.splitting.specs.declared.Assignment.{Assignment}
 use Rattle.splitting.specs.declared.Survey.{Survey}
 use Rattle.splitting.specs.InnerChoose.{satisfied-under, left-under, open-clauses, unnamed, clause-in, clauses-in, formula-in, surveys, survey-from, survey-of, some-empty}
@@ -86,35 +86,35 @@ module _ (cs : List Clause) (a : Assignment) (i : ℕ) (c : Clause) (at : getD c
 
   -- what the node's clauses name, over a buffer
   pub gather-more : (n : ℕ) (b s : List ℕ) → satisfied-under a c ≡ false → n ≡ length (open-clauses cs a i) → n < length b
-      → s ≡ over (map named (open-clauses cs a i)) b
-      → (n + 1 ≡ length (open-clauses cs a (i + 1))) × (set s n (named (left-under a c)) ≡ over (map named (open-clauses cs a (i + 1))) b)
+      → s ≡ over (map clause-variables (open-clauses cs a i)) b
+      → (n + 1 ≡ length (open-clauses cs a (i + 1))) × (set s n (clause-variables (left-under a c)) ≡ over (map clause-variables (open-clauses cs a (i + 1))) b)
   gather-more n b s e q l h =
       let o = open-clauses cs a i in
       let x = left-under a c in
-      let m : n ≡ length (map named o) = q ∙ sym (length-map o named) in
-      let k : length (map named o) < length b = omega arith in (
+      let m : n ≡ length (map clause-variables o) = q ∙ sym (length-map o clause-variables) in
+      let k : length (map clause-variables o) < length b = omega arith in (
         rw (open-more e) (simp length-append (omega arith)),
-        rw (open-more e, map-append, h, m) (over-set (map named o) b (named x) k),
+        rw (open-more e, map-append, h, m) (over-set (map clause-variables o) b (clause-variables x) k),
       )
 
 module _ (cs : List Clause) (v i : ℕ) (c : Clause) (at : getD cs i no-clause ≡ c) where
   -- one that names v
-  pub unnamed-gone : bit (named c) v ≡ true → unnamed cs v (i + 1) ≡ unnamed cs v i
+  pub unnamed-gone : bit (clause-variables c) v ≡ true → unnamed cs v (i + 1) ≡ unnamed cs v i
   unfolding unnamed
   unnamed-gone t = rw (add-one, unnamed, at, t) (append-nil (unnamed cs v i))
 
   -- one that does not
-  unnamed-next : bit (named c) v ≡ false → unnamed cs v (i + 1) ≡ unnamed cs v i ++ (c ∷ [])
+  unnamed-next : bit (clause-variables c) v ≡ false → unnamed cs v (i + 1) ≡ unnamed cs v i ++ (c ∷ [])
   unfolding unnamed
   unnamed-next e = rw (add-one, unnamed, at, e)
 
   -- it is written to the arrays
-  pub unnamed-more : (p q : List ℕ) (n : ℕ) → bit (named c) v ≡ false → n < length p → n < length q → clauses-in p q n ≡ unnamed cs v i
+  pub unnamed-more : (p q : List ℕ) (n : ℕ) → bit (clause-variables c) v ≡ false → n < length p → n < length q → clauses-in p q n ≡ unnamed cs v i
       → clauses-in (set p n (c .positive)) (set q n (c .negative)) (n + 1) ≡ unnamed cs v (i + 1)
   unnamed-more p q n e k l h = clause-written p q n (c .positive) (c .negative) k l ∙ ap (λ (x : List Clause). x ++ (c ∷ [])) h ∙ sym (unnamed-next e)
 
 -- as long as no clause names v, all are kept
-pub unnamed-whole : (p q : List ℕ) (k v i : ℕ) → i < k → bit (named (clause-in p q i)) v ≡ false → unnamed (clauses-in p q k) v i ≡ clauses-in p q i
+pub unnamed-whole : (p q : List ℕ) (k v i : ℕ) → i < k → bit (clause-variables (clause-in p q i)) v ≡ false → unnamed (clauses-in p q k) v i ≡ clauses-in p q i
     → unnamed (clauses-in p q k) v (i + 1) ≡ clauses-in p q (i + 1)
 unnamed-whole p q k v i l e h =
     unnamed-next (clauses-in p q k) v i (clause-in p q i) (clause-read p q k i l) e ∙ ap (λ (x : List Clause). x ++ (clause-in p q i ∷ [])) h
@@ -138,10 +138,10 @@ survey-any p q (suc k) =
     ∙ sym (ap not (ne-eqb (suc k) 0 (λ e. omega arith)))
 
 -- a clause that names nothing, among one clause more
-empty-snoc : (l : List Clause) (c : Clause) → some-empty (l ++ (c ∷ [])) ≡ some-empty l || eqb (named c) 0
+empty-snoc : (l : List Clause) (c : Clause) → some-empty (l ++ (c ∷ [])) ≡ some-empty l || eqb (clause-variables c) 0
 unfolding some-empty
-empty-snoc [] c = or-false (eqb (named c) 0)
-empty-snoc (x ∷ l) c = ap (λ (b : Bool). eqb (named x) 0 || b) (empty-snoc l c) ∙ sym (or-assoc (eqb (named x) 0) (some-empty l) (eqb (named c) 0))
+empty-snoc [] c = or-false (eqb (clause-variables c) 0)
+empty-snoc (x ∷ l) c = ap (λ (b : Bool). eqb (clause-variables x) 0 || b) (empty-snoc l c) ∙ sym (or-assoc (eqb (clause-variables x) 0) (some-empty l) (eqb (clause-variables c) 0))
 
 -- a test that one clause more does not undo
 module _ (test : List Clause → Bool) (keeps : (l : List Clause) (c : Clause) → test l ≡ true → test (l ++ (c ∷ [])) ≡ true) (cs : List Clause) (a : Assignment) where
@@ -163,11 +163,11 @@ module _ (test : List Clause → Bool) (keeps : (l : List Clause) (c : Clause) �
 module _ (cs : List Clause) (a : Assignment) where
   module _ (i : ℕ) (c : Clause) (at : getD cs i no-clause ≡ c) (e : satisfied-under a c ≡ false) where
     -- one of which nothing is left is empty
-    pub empty-found : (n : ℕ) → i < n → named (left-under a c) ≡ 0 → some-empty (open-clauses cs a n) ≡ true
+    pub empty-found : (n : ℕ) → i < n → clause-variables (left-under a c) ≡ 0 → some-empty (open-clauses cs a n) ≡ true
     empty-found n l z =
         holds-from some-empty (λ l d t. rw (empty-snoc l d, t)) cs a i n l
-        (rw (open-more cs a i c at e, empty-snoc, eq-eqb (named (left-under a c)) 0 z) (or-true (some-empty (open-clauses cs a i))))
+        (rw (open-more cs a i c at e, empty-snoc, eq-eqb (clause-variables (left-under a c)) 0 z) (or-true (some-empty (open-clauses cs a i))))
 
     -- one of which something is left is not
-    pub empty-passed : some-empty (open-clauses cs a i) ≡ false → (named (left-under a c) ≡ 0 → ⊥) → some-empty (open-clauses cs a (i + 1)) ≡ false
-    empty-passed p z = rw (open-more cs a i c at e, empty-snoc, p) (ne-eqb (named (left-under a c)) 0 z)
+    pub empty-passed : some-empty (open-clauses cs a i) ≡ false → (clause-variables (left-under a c) ≡ 0 → ⊥) → some-empty (open-clauses cs a (i + 1)) ≡ false
+    empty-passed p z = rw (open-more cs a i c at e, empty-snoc, p) (ne-eqb (clause-variables (left-under a c)) 0 z)

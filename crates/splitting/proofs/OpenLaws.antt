@@ -7,7 +7,7 @@ use mathlib.Core.Logic.{_⊎_, inl, inr, ⊎-elim}
 use lib.Dec.{eqb, ltb}
 use borrow.Author.Tests.{eqb-true, ltb-true, ltb-false, not-true}
 use Rattle.lists.proofs.EveryLaws.{every-element}
-use Rattle.lists.proofs.TestLaws.{and-both, and-left, and-right, or-cases, look, clash}
+use Rattle.lists.proofs.TestLaws.{and-both, and-left, and-right, or-cases, bool-cases, bool-clash}
 use Rattle.masks.specs.Mask.{bit}
 use Rattle.formula.specs.Format.{Literal, names}
 use Rattle.formula.specs.Models.{Model}
@@ -29,7 +29,7 @@ sound-agrees n scope cs t low covers T S = (
     model = mask-model n all cs low
         (under-satisfies inside t cs (T .once) (satisfies-same (w .0) inside (remaining t cs) (λ v h. rw (covers v h) (sym (and-true (w .0 v)))) (w .1)));
     agrees = λ k m. mask-below n all (k .variable) (every-element (λ (k : Literal). k .variable < n) t k (T .below) m) ∙ under-agrees t inside (T .once) k m;
-    within = λ v h. ⊎-elim (λ l. at v (sym (mask-below n all v (ltb-true v n l)) ∙ h)) (λ l. clash h (mask-above n all v (ltb-false v n l))) (look (ltb v n));
+    within = λ v h. ⊎-elim (λ l. at v (sym (mask-below n all v (ltb-true v n l)) ∙ h)) (λ l. bool-clash h (mask-above n all v (ltb-false v n l))) (bool-cases (ltb v n));
   },
 )
   where
@@ -44,7 +44,7 @@ sound-agrees n scope cs t low covers T S = (
 
     at : (v : ℕ) → all v ≡ true → (bit scope v ≡ true) ⊎ (names t v ≡ true)
     at v h =
-        ⊎-elim (λ e. inr e) (λ e. inl (and-right (w .0 v) (bit scope v) (sym (under-other t inside v e) ∙ h))) (look (names t v))
+        ⊎-elim (λ e. inr e) (λ e. inl (and-right (w .0 v) (bit scope v) (sym (under-other t inside v e) ∙ h))) (bool-cases (names t v))
 
 -- a model that agrees with the trail has only open values
 pub model-open : (n scope : ℕ) (cs : List (List Literal)) (t : List Literal) (b : Bool) (a : ℕ) → Model n cs a → Agrees (bit a) t
@@ -54,7 +54,7 @@ model-open n scope cs t b a M g e =
     ⊎-elim
     (λ o. o)
     (λ c. absurd (chosen-closed n (unassigned-of scope t) (remaining t cs) b c (bit a) (satisfies-remaining (bit a) t cs (model-satisfies n cs a M) g) e))
-    (look (opened (choice n scope cs t) b))
+    (bool-cases (opened (choice n scope cs t) b))
 
 -- some value is open at a sound node
 pub some-open : (n scope : ℕ) (cs : List (List Literal)) (t : List Literal) → Sound n (remaining t cs) → (b : Bool) × (opened (choice n scope cs t) b ≡ true)
@@ -62,7 +62,7 @@ unfolding choice
 some-open n scope cs t S =
     let w = sound-satisfies n (remaining t cs) S in
     let b = w .0 (choice n scope cs t .variable) in
-    (b, ⊎-elim (λ o. o) (λ c. absurd (chosen-closed n (unassigned-of scope t) (remaining t cs) b c (w .0) (w .1) refl)) (look (opened (choice n scope cs t) b)))
+    (b, ⊎-elim (λ o. o) (λ c. absurd (chosen-closed n (unassigned-of scope t) (remaining t cs) b c (w .0) (w .1) refl)) (bool-cases (opened (choice n scope cs t) b)))
 
 module _ (n scope : ℕ) (cs : List (List Literal)) (t : List Literal) (fits : n ≤ 64) (low : Below n cs) (covers : Covers scope (remaining t cs)) (T : Trail n t)
     (S : Sound n (remaining t cs)) where
@@ -104,7 +104,7 @@ module _ (n scope : ℕ) (cs : List (List Literal)) (t : List Literal) (fits : n
       l = record { variable = new; positive = b }
 
       own : (v : ℕ) → names (l ∷ []) v ≡ true → bit scope v ≡ true
-      own v h = ⊎-elim (λ q. rw (← eqb-true new v q) (w .1)) (λ q. clash q refl) (or-cases (eqb new v) false h)
+      own v h = ⊎-elim (λ q. rw (← eqb-true new v q) (w .1)) (λ q. bool-clash q refl) (or-cases (eqb new v) false h)
 
       inside : (v : ℕ) → names (t ++ (l ∷ [])) v ≡ true → (bit scope v ≡ true) ⊎ (names t v ≡ true)
       inside v h = ⊎-elim (λ x. inr x) (λ x. inl (own v x)) (or-cases (names t v) (names (l ∷ []) v) (sym (names-append t (l ∷ []) v) ∙ h))

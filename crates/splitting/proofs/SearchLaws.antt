@@ -9,7 +9,7 @@ use native.Mathlib.Omega.{arith}
 use lib.ListN.{length}
 use lib.Dec.{eqb, ltb}
 use borrow.Author.Tests.{eqb-true, eq-eqb, ltb-true, ltb-false}
-use Rattle.lists.proofs.TestLaws.{or-cases, look, clash, or-left, or-right}
+use Rattle.lists.proofs.TestLaws.{or-cases, bool-cases, bool-clash, or-left, or-right}
 use Rattle.matching.proofs.Counting.{count}
 use Rattle.splitting.specs.Nodes.{first-from, lowest-with, upward-from, upward}
 use Rattle.splitting.specs.Choosing.{among, last}
@@ -49,8 +49,8 @@ pub lowest-found : (f : ℕ → Bool) (n i : ℕ) → i < n → f i ≡ true →
 lowest-found f n i l t =
     ⊎-elim
     (λ h. let k = ltb-true (lowest-with f n) n h in (k, lowest-some f n k))
-    (λ h. clash t (lowest-none f n (ltb-false (lowest-with f n) n h) i l))
-    (look (ltb (lowest-with f n) n))
+    (λ h. bool-clash t (lowest-none f n (ltb-false (lowest-with f n) n h) i l))
+    (bool-cases (ltb (lowest-with f n) n))
 
 -- ── Lists of variables ───────────────────────────────────────────────────────────────────────────────────────────────
 
@@ -72,7 +72,7 @@ among-cases x y l t = ⊎-elim (λ e. inl (sym (eqb-true y x e))) (λ r. inr r) 
 -- nothing is on the empty list
 pub among-none : {C : Type 0} (x : ℕ) → among [] x ≡ true → C
 unfolding among
-among-none x t = clash t refl
+among-none x t = bool-clash t refl
 
 -- what is on two lists is on one of them
 pub among-append : (l r : List ℕ) (x : ℕ) → among (l ++ r) x ≡ true → (among l x ≡ true) ⊎ (among r x ≡ true)
@@ -127,7 +127,7 @@ upward-from-in f v (suc k) x p q t =
     (λ (e : v ≡ x). let h : f v ≡ true = rw e t in rw h (rw e (among-here x (upward-from f (suc x) k))))
     (λ (l : v < x).
     let u = upward-from-in f (suc v) k x l (omega arith) t in
-    ⊎-elim (λ (h : f v ≡ true). rw h (among-more x v (upward-from f (suc v) k) u)) (λ (h : f v ≡ false). rw h u) (look (f v)))
+    ⊎-elim (λ (h : f v ≡ true). rw h (among-more x v (upward-from f (suc v) k) u)) (λ (h : f v ≡ false). rw h u) (bool-cases (f v)))
     (eq-or-lt-of-le p)
 
 upward-from-length : (f : ℕ → Bool) (v k : ℕ) → length (upward-from f v k) + count f v ≡ count f (v + k)
@@ -136,7 +136,7 @@ upward-from-length f v zero = let e : v + 0 ≡ v = omega arith in rw e (omega a
 upward-from-length f v (suc k) =
     let i = upward-from-length f (suc v) k in
     let e : suc v + k ≡ v + suc k = omega arith in
-    ⊎-elim (λ (h : f v ≡ true). rw (h, ← e) (omega (arith, (rw h at i)))) (λ (h : f v ≡ false). rw (h, ← e) (omega (arith, (rw h at i)))) (look (f v))
+    ⊎-elim (λ (h : f v ≡ true). rw (h, ← e) (omega (arith, (rw h at i)))) (λ (h : f v ≡ false). rw (h, ← e) (omega (arith, (rw h at i)))) (bool-cases (f v))
 
 -- the list has the variables below n that the test holds of, and no others
 pub upward-of : (f : ℕ → Bool) (n x : ℕ) → among (upward f n) x ≡ true → (x < n) × (f x ≡ true)

@@ -8,7 +8,7 @@ use native.Mathlib.Omega.{arith}
 use lib.Dec.{eqb}
 use borrow.Author.Tests.{eqb-true, eqb-false, not-true}
 use Rattle.lists.proofs.SublistLaws.{Within, sub-within, no-elements}
-use Rattle.lists.proofs.TestLaws.{and-left, and-right, and-both, look, clash, or-left, or-right}
+use Rattle.lists.proofs.TestLaws.{and-left, and-right, and-both, bool-cases, bool-clash, or-left, or-right}
 use Rattle.masks.specs.Mask.{full}
 use Rattle.matching.specs.Matched.{Matched}
 use Rattle.formula.specs.Format.{Literal, names, names-as, distinct}
@@ -73,7 +73,7 @@ left-origin n x b cs low at = rw (O .left) (assign-sub x b (left-keeps n ds cs (
         let d : occurs ds v true ≡ occurs ds v false = same true ∙ not-pure (stripped n (assign x b cs) .left) v r ∙ sym (same false) in
         let q : occurs kept v true || occurs ds v true ≡ occurs kept v false || occurs ds v false = rw (p, d) in
         pure-not (kept ++ ds) v (occurs-append kept ds v true ∙ q ∙ sym (occurs-append kept ds v false)))
-        (look (eqb v x))
+        (bool-cases (eqb v x))
 
     within : Within (kept ++ ds) cs
     within c m = ⊎-elim (sub-within (left-sub n cs) c) (sub-within (O .sub) c) (List·Memᴰ·append-cases kept m)
@@ -81,9 +81,9 @@ left-origin n x b cs low at = rw (O .left) (assign-sub x b (left-keeps n ds cs (
     clear : (y : ℕ) → among (stripped n cs .noted) y ≡ true → (s : Bool) → occurs ds y s ≡ false
     clear y t s =
         ⊎-elim
-        (λ h. clash (occurs-append kept ds y s ∙ or-right (occurs kept y s) (occurs ds y s) h) (none-noted n (kept ++ ds) none cs within y t s))
+        (λ h. bool-clash (occurs-append kept ds y s ∙ or-right (occurs kept y s) (occurs ds y s) h) (none-noted n (kept ++ ds) none cs within y t s))
         (λ f. f)
-        (look (occurs ds y s))
+        (bool-cases (occurs ds y s))
 
 -- so x keeps the invariant
 pub left-sound : (n x : ℕ) (b : Bool) (cs : List (List Literal)) → Below n cs → named (stripped n cs .left) x ≡ true
@@ -103,7 +103,7 @@ on-list (x ∷ l) c =
     (λ w. inl (w .0, among-more (w .0) x l (w .1), w .2))
     (λ none. inr (λ y t. ⊎-elim (λ (e : y ≡ x). rw e f) (λ m. none y m) (among-cases y x l t)))
     (on-list l c))
-    (look (names c x))
+    (bool-cases (names c x))
 
 -- where nothing is left, every clause names a noted variable
 pub noted-some : (n : ℕ) (cs : List (List Literal)) → stripped n cs .left ≡ [] → (c : List Literal) → List·Memᴰ c cs
@@ -142,7 +142,7 @@ last-of n cs low = go (upward (λ v. named cs v && not (among (stripped n cs .no
           ⊎-elim
           (λ t. t)
           (λ f. among-none y (subst (λ l. among l y ≡ true) e (others-in n cs low y h f)))
-          (look (among (stripped n cs .noted) y)),
+          (bool-cases (among (stripped n cs .noted) y)),
     )
     go (z ∷ r) e =
         let t : among (upward (λ v. named cs v && not (among (stripped n cs .noted) v)) n) (last (z ∷ r)) ≡ true = rw e (last-among z r) in
@@ -167,7 +167,7 @@ last-named n cs low y h = go (noted ++ others) refl
         ⊎-elim
         (λ t. among-none y (subst (λ l. among l y ≡ true) e (among-left noted others y t)))
         (λ f. among-none y (subst (λ l. among l y ≡ true) e (among-right noted others y (others-in n cs low y h f))))
-        (look (among noted y))
+        (bool-cases (among noted y))
     go (z ∷ r) e = each (last (noted ++ others)) (subst (λ l. among l (last l) ≡ true) (sym e) (last-among z r))
 
 -- LEMMA 4.5: a value of x that empties no clause leaves nothing again.
@@ -182,18 +182,18 @@ last-none n x b cs low bare lo full =
     ⊎-elim
     (λ (t : eqb (y .0) x ≡ true).
     ⊎-elim
-    (λ (f : among (stripped n cs .noted) x ≡ false). clash (subst (λ v. among (stripped n cs .noted) v ≡ true) (eqb-true (y .0) x t) (y .1)) f)
+    (λ (f : among (stripped n cs .noted) x ≡ false). bool-clash (subst (λ v. among (stripped n cs .noted) v ≡ true) (eqb-true (y .0) x t) (y .1)) f)
     (λ l.
     let z = emptied-none (assign x b cs) full d (sub-within (left-sub n (assign x b cs)) d m) in
     let u = names-some d (z .0) (z .1) in
     let k = less-of x c (z .0) (u .0) (subst (λ (e : List Literal). names-as e (z .0) (u .0) ≡ true) (sym (w .2)) (u .1)) in
-    clash (occurs-in ds c (z .0) (u .0) (w .1) (k .0))
+    bool-clash (occurs-in ds c (z .0) (u .0) (w .1) (k .0))
     (off (z .0) (l .1 (z .0) (named-by cs c (z .0) here (named-as c (z .0) (u .0) (k .0)))) (k .1) (u .0)))
     lo)
     (λ (f : eqb (y .0) x ≡ false).
     let u = names-some c (y .0) (y .2) in
-    clash (occurs-in ds c (y .0) (u .0) (w .1) (u .1)) (off (y .0) (y .1) (eqb-false (y .0) x f) (u .0)))
-    (look (eqb (y .0) x)))
+    bool-clash (occurs-in ds c (y .0) (u .0) (w .1) (u .1)) (off (y .0) (y .1) (eqb-false (y .0) x f) (u .0)))
+    (bool-cases (eqb (y .0) x)))
   where
     O : Origin x b (stripped n (assign x b cs) .left) cs
     O = assign-origin x b cs (left-sub n (assign x b cs))
@@ -210,10 +210,10 @@ last-none n x b cs low bare lo full =
 -- A value that empties a clause cannot be had.
 pub emptied-unsatisfied : (x : ℕ) (b : Bool) (cs : List (List Literal)) → emptied (assign x b cs) ≡ true → (a : ℕ → Bool) → Satisfies a cs → a x ≡ b → ⊥
 unfolding names-as
-emptied-unsatisfied x b cs t a sat e = let w = satisfies-assign a x b cs sat e [] (emptied-some (assign x b cs) t) in clash (w .1) refl
+emptied-unsatisfied x b cs t a sat e = let w = satisfies-assign a x b cs sat e [] (emptied-some (assign x b cs) t) in bool-clash (w .1) refl
 
 -- so one value at least empties none
 pub one-open : (n x : ℕ) (cs : List (List Literal)) → Sound n cs → (b : Bool) × (emptied (assign x b cs) ≡ false)
 one-open n x cs S =
     let w = sound-satisfies n cs S in
-    (w .0 x, ⊎-elim (λ t. absurd (emptied-unsatisfied x (w .0 x) cs t (w .0) (w .1) refl)) (λ f. f) (look (emptied (assign x (w .0 x) cs))))
+    (w .0 x, ⊎-elim (λ t. absurd (emptied-unsatisfied x (w .0 x) cs t (w .0) (w .1) refl)) (λ f. f) (bool-cases (emptied (assign x (w .0 x) cs))))

@@ -7,7 +7,7 @@ use mathlib.Core.Logic.{_⊎_, inl, inr, ⊎-elim}
 use native.Mathlib.Omega.{arith}
 use lib.Dec.{eqb, ltb}
 use borrow.Author.Tests.{eqb-true, eqb-false, ltb-true, ltb-false}
-use Rattle.lists.proofs.TestLaws.{look, clash, or-left, or-right}
+use Rattle.lists.proofs.TestLaws.{bool-cases, bool-clash, or-left, or-right}
 use Rattle.lists.proofs.SublistLaws.{Within, sub-within}
 use Rattle.matching.proofs.Counting.{count, count-except}
 use Rattle.formula.specs.Format.{Literal, names, names-as}
@@ -50,10 +50,10 @@ not-naming-greatest x (Sublistᴰ·cons {a = c} {l₁ = ds} {l₂ = cs} s) off =
     go true s = s
     go false s = Sublistᴰ·cons s
 not-naming-greatest x (Sublistᴰ·cons-cons {a = d} {b = c} {l₁ = ds} {l₂ = cs} e s) off =
-    go (names c x) refl (not-naming-greatest x s (λ u. ⊎-elim (λ t. clash (or-right (names-as d x u) (occurs ds x u) t) (off u)) (λ f. f) (look (occurs ds x u))))
+    go (names c x) refl (not-naming-greatest x s (λ u. ⊎-elim (λ t. bool-clash (or-right (names-as d x u) (occurs ds x u) t) (off u)) (λ f. f) (bool-cases (occurs ds x u))))
   where
     go : (b : Bool) → names c x ≡ b → Sublistᴰ ds (not-naming x cs) → Sublistᴰ (d ∷ ds) (cond b (not-naming x cs) (c ∷ not-naming x cs))
-    go true t s = let w = names-some c x t in clash (or-left (names-as d x (w .0)) (occurs ds x (w .0)) (rw e (w .1))) (off (w .0))
+    go true t s = let w = names-some c x t in bool-clash (or-left (names-as d x (w .0)) (occurs ds x (w .0)) (rw e (w .1))) (off (w .0))
     go false f s = Sublistᴰ·cons-cons e s
 
 -- a clause that does not name x is among them
@@ -64,7 +64,7 @@ not-naming-in x (d ∷ cs) c m f = go (names d x) refl (List·Memᴰ·cases-cons
   where
     go : (b : Bool) → names d x ≡ b → (c ≡ d) ⊎ List·Memᴰ c cs → (List·Memᴰ c cs → List·Memᴰ c (not-naming x cs))
         → List·Memᴰ c (cond b (not-naming x cs) (d ∷ not-naming x cs))
-    go true e (inl q) rec = clash e (rw q at f)
+    go true e (inl q) rec = bool-clash e (rw q at f)
     go true e (inr k) rec = rec k
     go false e (inl q) rec = List·Memᴰ·head q
     go false e (inr k) rec = List·Memᴰ·tail (rec k)
@@ -72,7 +72,7 @@ not-naming-in x (d ∷ cs) c m f = go (names d x) refl (List·Memᴰ·cases-cons
 -- no clause names what does not occur
 unnamed : (ds : List (List Literal)) (x : ℕ) (c : List Literal) → List·Memᴰ c ds → ((s : Bool) → occurs ds x s ≡ false) → names c x ≡ false
 unnamed ds x c d off =
-    ⊎-elim (λ h. let w = names-some c x h in clash (occurs-in ds c x (w .0) d (w .1)) (off (w .0))) (λ f. f) (look (names c x))
+    ⊎-elim (λ h. let w = names-some c x h in bool-clash (occurs-in ds c x (w .0) d (w .1)) (off (w .0))) (λ f. f) (bool-cases (names c x))
 
 -- fewer variables are named
 pub falls : (n x : ℕ) (cs : List (List Literal)) → x < n → pure cs x ≡ true → count (named (not-naming x cs)) n < count (named cs) n
@@ -81,7 +81,7 @@ falls n x cs l t =
     (λ v. named-within (not-naming x cs) cs v (sub-within (not-naming-sub x cs)))
     l
     (pure-named cs x t)
-    (⊎-elim (λ h. let w = named-some (not-naming x cs) x h in clash (w .1) (not-naming-off x cs (w .0))) (λ f. f) (look (named (not-naming x cs) x)))
+    (⊎-elim (λ h. let w = named-some (not-naming x cs) x h in bool-clash (w .1) (not-naming-off x cs (w .0))) (λ f. f) (bool-cases (named (not-naming x cs) x)))
 
 -- ── Induction along the stripping ────────────────────────────────────────────────────────────────────────────────────
 
@@ -95,7 +95,7 @@ module _ (n : ℕ) (P : List (List Literal) → List ℕ → List (List Literal)
   strip-from : (k : ℕ) (cs : List (List Literal)) → count (named cs) n ≤ k → P cs (strip k n cs .noted) (strip k n cs .left)
   unfolding strip
   strip-from zero cs le =
-      base cs (λ v l. ⊎-elim (λ t. absurd (omega (arith, count-except (named cs) v n l (pure-named cs v t)))) (λ f. f) (look (pure cs v)))
+      base cs (λ v l. ⊎-elim (λ t. absurd (omega (arith, count-except (named cs) v n l (pure-named cs v t)))) (λ f. f) (bool-cases (pure cs v)))
   strip-from (suc k) cs le = at (λ ds l. strip-from k ds l) (ltb (lowest-with (pure cs) n) n) refl
     where
       at : ((ds : List (List Literal)) → count (named ds) n ≤ k → P ds (strip k n ds .noted) (strip k n ds .left)) → (b : Bool) → ltb (lowest-with (pure cs) n) n ≡ b
@@ -121,7 +121,7 @@ left-sub n =
 pub left-none-pure : (n : ℕ) (cs : List (List Literal)) → Below n cs → NonePure (stripped n cs .left)
 left-none-pure n =
     strip-ind n (λ cs l left. Below n cs → NonePure left)
-    (λ cs none low v. ⊎-elim (λ t. clash t (none v (low v (pure-named cs v t)))) (λ f. f) (look (pure cs v)))
+    (λ cs none low v. ⊎-elim (λ t. bool-clash t (none v (low v (pure-named cs v t)))) (λ f. f) (bool-cases (pure cs v)))
     (λ cs left l x _ _ rec low. rec (λ v t. low v (named-within (not-naming x cs) cs v (sub-within (not-naming-sub x cs)) t)))
 
 -- clauses of the list none of whose variables is pure among themselves name no noted variable
@@ -178,13 +178,13 @@ unnoted-left n cs c =
 -- where x stands in the rest of a list, if it is the last or stands nowhere
 tail-case : (x y : ℕ) (l : List ℕ) → (among (y ∷ l) x ≡ false) ⊎ (last (y ∷ l) ≡ x) → (among l x ≡ false) ⊎ (last l ≡ x)
 unfolding among last
-tail-case x y l (inl f) = inl (⊎-elim (λ t. clash (among-more x y l t) f) (λ g. g) (look (among l x)))
+tail-case x y l (inl f) = inl (⊎-elim (λ t. bool-clash (among-more x y l t) f) (λ g. g) (bool-cases (among l x)))
 tail-case x y [] (inr e) = inl refl
 tail-case x y (q ∷ r) (inr e) = inr e
 
 head-case : (x : ℕ) (l : List ℕ) → (among (x ∷ l) x ≡ false) ⊎ (last (x ∷ l) ≡ x) → (l ≡ []) ⊎ (among l x ≡ true)
 unfolding last
-head-case x l (inl f) = clash (among-here x l) f
+head-case x l (inl f) = bool-clash (among-here x l) f
 head-case x [] (inr e) = inl refl
 head-case x (q ∷ r) (inr e) = inr (subst (λ z. among (q ∷ r) z ≡ true) e (last-among q r))
 
@@ -210,7 +210,7 @@ none-noted-but n x ds np cs =
           ⊎-elim
           (λ (nil : l ≡ []).
           ⊎-elim (λ (q : y ≡ z). absurd (ne (q ∙ same))) (λ m. among-none y (subst (λ r. among r y ≡ true) nil m)) (among-cases y z l t))
-          (λ (m : among l z ≡ true). let o = named-some (not-naming z cs) z (rec .0 z m) in clash (o .1) (not-naming-off z cs (o .0)))
+          (λ (m : among l z ≡ true). let o = named-some (not-naming z cs) z (rec .0 z m) in bool-clash (o .1) (not-naming-off z cs (o .0)))
           (head-case z l (subst (λ v. (among (z ∷ l) v ≡ false) ⊎ (last (z ∷ l) ≡ v)) (sym same) e)))
           (λ (other : z ≡ x → ⊥).
           let off = away cs z w other p in
@@ -218,7 +218,7 @@ none-noted-but n x ds np cs =
           (λ (q : y ≡ z). rw q (off s))
           (λ m. rec .1 (λ c d. not-naming-in z cs c (w c d) (unnamed ds z c d off)) (tail-case x z l e) y m ne s)
           (among-cases y z l t))
-          (⊎-elim (λ q. inl (eqb-true z x q)) (λ q. inr (eqb-false z x q)) (look (eqb z x))),
+          (⊎-elim (λ q. inl (eqb-true z x q)) (λ q. inr (eqb-false z x q)) (bool-cases (eqb z x))),
     ))
     cs .1
   where

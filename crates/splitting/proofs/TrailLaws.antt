@@ -9,7 +9,7 @@ use lib.ListN.{length}
 use lib.Dec.{eqb}
 use borrow.Author.Tests.{eqb-true, eq-eqb}
 use Rattle.lists.proofs.SublistLaws.{no-elements}
-use Rattle.lists.proofs.TestLaws.{or-cases, look, clash, or-left, or-right}
+use Rattle.lists.proofs.TestLaws.{or-cases, bool-cases, bool-clash, or-left, or-right}
 use Rattle.masks.specs.Mask.{bit, size}
 use Rattle.masks.proofs.BitLaws.{bit-below}
 use Rattle.matching.proofs.Counting.{count, count-except, except, except-i, except-ne}
@@ -38,7 +38,7 @@ trail-count n (l ∷ t) T =
     (λ k. k)
     (or-cases (eqb x i) (names t i) (except-of (names (l ∷ t)) x i h))) in
     let more = count-sub (names t) (except (names (l ∷ t)) x) n (λ i h.
-    except-i (names (l ∷ t)) x i (or-right (eqb x i) (names t i) h) (λ e. clash h (rw e (r .0)))) in
+    except-i (names (l ∷ t)) x i (or-right (eqb x i) (names t i) h) (λ e. bool-clash h (rw e (r .0)))) in
     omega (arith, rest, less, more, count-except (names (l ∷ t)) x n (T .below .0) here)
 
 module _ (n scope : ℕ) (fits : n ≤ 64) (below : scope < 2 ^ n) (t : List Literal) (T : Trail n t) where
@@ -51,7 +51,7 @@ module _ (n scope : ℕ) (fits : n ≤ 64) (below : scope < 2 ^ n) (t : List Lit
 
   -- a trail of the mask's variables, as many as it has, has them all
   pub trail-full : ((v : ℕ) → names t v ≡ true → bit scope v ≡ true) → length t ≡ size scope → Assigns scope t
-  trail-full inside h v b = ⊎-elim (λ e. e) (λ e. absurd (short v b e)) (look (names t v))
+  trail-full inside h v b = ⊎-elim (λ e. e) (λ e. absurd (short v b e)) (bool-cases (names t v))
     where
       short : (v : ℕ) → bit scope v ≡ true → names t v ≡ false → ⊥
       short v b e =
@@ -68,4 +68,4 @@ full-none n scope t cs covers all S =
     no-elements (remaining t cs) (λ c m.
     let x = w .1 c m in
     let nm = named-by (remaining t cs) c (x .0) m (named-as c (x .0) (w .0 (x .0)) (x .1)) in
-    clash (all (x .0) (covers (x .0) nm)) (named-remaining t cs (x .0) nm .1))
+    bool-clash (all (x .0) (covers (x .0) nm)) (named-remaining t cs (x .0) nm .1))

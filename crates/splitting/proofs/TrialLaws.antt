@@ -7,7 +7,7 @@ use mathlib.Core.Logic.{⊎-elim}
 use native.Mathlib.Nat.{suc-mul, mul-le-mul}
 use native.Mathlib.Omega.{arith}
 use lib.ListN.{length, getD, length-map}
-use Rattle.lists.proofs.TestLaws.{clash}
+use Rattle.lists.proofs.TestLaws.{bool-clash}
 use Rattle.lists.proofs.SublistLaws.{getD-element}
 use Rattle.lists.proofs.EveryLaws.{every-of}
 use Rattle.masks.specs.Mask.{bit, size}
@@ -18,7 +18,7 @@ use Rattle.formula.specs.Masked.{variables}
 use Rattle.formula.proofs.ClauseLaws.{variables-lt, named-as}
 use Rattle.splitting.specs.declared.Choice.{Choice}
 use Rattle.splitting.specs.Nodes.{assign, named}
-use Rattle.splitting.specs.Choosing.{matched, Trial, trial, both-open, first-passing, candidates, among}
+use Rattle.splitting.specs.Choosing.{matching-of, Trial, trial, both-open, first-passing, candidates, among}
 use Rattle.splitting.specs.Terms.{Below, Covers}
 use Rattle.splitting.proofs.ClauseLaws.{named-by, literal-names}
 use Rattle.splitting.proofs.SearchLaws.{among-here, among-more, among-cases, among-none, upward-of, upward-in, upward-length}
@@ -41,17 +41,17 @@ words n cs fits low i h =
     omega arith)))
 
 -- a matching is found exactly where there is one
-succeeds-matched : (n : ℕ) (cs : List (List Literal)) → n ≤ 64 → Below n cs → succeeds (matched cs) ≡ true → Matched (map variables cs)
-unfolding matched
+succeeds-matched : (n : ℕ) (cs : List (List Literal)) → n ≤ 64 → Below n cs → succeeds (matching-of cs) ≡ true → Matched (map variables cs)
+unfolding matching-of
 succeeds-matched n cs fits low t = theorems.succeeds-matched (map variables cs) (words n cs fits low) t
 
-matched-succeeds : (n : ℕ) (cs : List (List Literal)) → n ≤ 64 → Below n cs → Matched (map variables cs) → succeeds (matched cs) ≡ true
-unfolding matched
+matched-succeeds : (n : ℕ) (cs : List (List Literal)) → n ≤ 64 → Below n cs → Matched (map variables cs) → succeeds (matching-of cs) ≡ true
+unfolding matching-of
 matched-succeeds n cs fits low M = theorems.matched-succeeds (map variables cs) (words n cs fits low) M
 
 -- twice the expansions are at most m (m + 1)
-matched-cost : (n m : ℕ) (cs : List (List Literal)) → n ≤ 64 → Below n cs → length cs ≤ m → 2 * expansions (matched cs) ≤ m * suc m
-unfolding matched
+matched-cost : (n m : ℕ) (cs : List (List Literal)) → n ≤ 64 → Below n cs → length cs ≤ m → 2 * expansions (matching-of cs) ≤ m * suc m
+unfolding matching-of
 matched-cost n m cs fits low few =
     let h = length-map cs variables in
     let k : length (map variables cs) * (length (map variables cs) + 1) ≤ m * suc m = mul-le-mul (omega arith) (omega arith) in
@@ -65,42 +65,42 @@ abbrev tried : List (List Literal) → ℕ → Bool → Trial
 tried cs v s =
     elim s [
       | true ↦ record {
-        passes = succeeds (matched (assign v true cs));
-        cost = expansions (matched (assign v false cs)) + expansions (matched (assign v true cs));
+        passes = succeeds (matching-of (assign v true cs));
+        cost = expansions (matching-of (assign v false cs)) + expansions (matching-of (assign v true cs));
       }
-      | false ↦ record { passes = false; cost = expansions (matched (assign v false cs)) }
+      | false ↦ record { passes = false; cost = expansions (matching-of (assign v false cs)) }
     ]
 
--- a trial that passes leaves the clauses matched for both values
+-- a trial that passes leaves the clauses matching-of for both values
 pub passes-matched : (n : ℕ) (cs : List (List Literal)) (v : ℕ) → n ≤ 64 → Below n cs → trial cs v .passes ≡ true
     → (b : Bool) → Matched (map variables (assign v b cs))
 unfolding trial
-passes-matched n cs v fits low t = go (succeeds (matched (assign v false cs))) refl t
+passes-matched n cs v fits low t = go (succeeds (matching-of (assign v false cs))) refl t
   where
-    decided : (b : Bool) → succeeds (matched (assign v b cs)) ≡ true → Matched (map variables (assign v b cs))
+    decided : (b : Bool) → succeeds (matching-of (assign v b cs)) ≡ true → Matched (map variables (assign v b cs))
     decided b h = succeeds-matched n (assign v b cs) fits (below-assign n v b cs low) h
 
-    both : succeeds (matched (assign v false cs)) ≡ true → succeeds (matched (assign v true cs)) ≡ true → (b : Bool) → Matched (map variables (assign v b cs))
+    both : succeeds (matching-of (assign v false cs)) ≡ true → succeeds (matching-of (assign v true cs)) ≡ true → (b : Bool) → Matched (map variables (assign v b cs))
     both e f false = decided false e
     both e f true = decided true f
 
-    go : (s : Bool) → succeeds (matched (assign v false cs)) ≡ s → tried cs v s .passes ≡ true → (b : Bool) → Matched (map variables (assign v b cs))
+    go : (s : Bool) → succeeds (matching-of (assign v false cs)) ≡ s → tried cs v s .passes ≡ true → (b : Bool) → Matched (map variables (assign v b cs))
     go true e t = both e t
-    go false e t = clash t refl
+    go false e t = bool-clash t refl
 
 -- and it passes wherever they are
 pub matched-passes : (n : ℕ) (cs : List (List Literal)) (v : ℕ) → n ≤ 64 → Below n cs → ((b : Bool) → Matched (map variables (assign v b cs)))
     → trial cs v .passes ≡ true
 unfolding trial
 matched-passes n cs v fits low M =
-    let decided : (b : Bool) → succeeds (matched (assign v b cs)) ≡ true = λ b. matched-succeeds n (assign v b cs) fits (below-assign n v b cs low) (M b) in
+    let decided : (b : Bool) → succeeds (matching-of (assign v b cs)) ≡ true = λ b. matched-succeeds n (assign v b cs) fits (below-assign n v b cs low) (M b) in
     subst (λ s. tried cs v s .passes ≡ true) (sym (decided false)) (decided true)
 
 trial-cost : (n m : ℕ) (cs : List (List Literal)) (v : ℕ) → n ≤ 64 → Below n cs → length cs ≤ m → trial cs v .cost ≤ m * suc m
 unfolding trial
-trial-cost n m cs v fits low few = go (succeeds (matched (assign v false cs)))
+trial-cost n m cs v fits low few = go (succeeds (matching-of (assign v false cs)))
   where
-    each : (b : Bool) → 2 * expansions (matched (assign v b cs)) ≤ m * suc m
+    each : (b : Bool) → 2 * expansions (matching-of (assign v b cs)) ≤ m * suc m
     each b = matched-cost n m (assign v b cs) fits (below-assign n v b cs low) (let l = length-assign v b cs in omega arith)
 
     go : (s : Bool) → tried cs v s .cost ≤ m * suc m
@@ -148,7 +148,7 @@ first-passes cs (x ∷ vs) e v m t = go (λ k. first-passes cs vs (e + trial cs 
     go rec true h = (among-here x vs, h)
     go rec false h =
         ⊎-elim
-        (λ (q : v ≡ x). clash t (rw q h))
+        (λ (q : v ≡ x). bool-clash t (rw q h))
         (λ k. let w = rec k in (among-more (first-passing cs vs (e + trial cs x .cost) .variable) x vs (w .0), w .1))
         (among-cases v x vs m)
 

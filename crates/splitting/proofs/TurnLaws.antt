@@ -7,7 +7,7 @@ use mathlib.Core.Logic.{⊎-elim}
 use native.Mathlib.Omega.{arith}
 use lib.Dec.{ltb}
 use borrow.Author.Tests.{ltb-true, ltb-false, lt-ltb, le-ltb}
-use Rattle.lists.proofs.TestLaws.{look}
+use Rattle.lists.proofs.TestLaws.{bool-cases}
 use Rattle.matching.proofs.Counting.{count}
 use Rattle.formula.specs.Format.{Literal}
 use Rattle.splitting.specs.Nodes.{named, lowest-with}
@@ -44,7 +44,7 @@ bare j k n cs p =
     ⊎-elim
     (λ t. let f = fewer n cs (ltb-true (lowest-with (pure cs) n) n t) in absurd (omega arith))
     (λ f. let l = ltb-false (lowest-with (pure cs) n) n f in strip-end j n cs l ∙ sym (strip-end k n cs l))
-    (look (ltb (lowest-with (pure cs) n) n))
+    (bool-cases (ltb (lowest-with (pure cs) n) n))
 
 -- as many turns as variables are named are enough
 strip-enough : (j k n : ℕ) (cs : List (List Literal)) → count (named cs) n ≤ j → count (named cs) n ≤ k → strip j n cs ≡ strip k n cs
@@ -59,7 +59,7 @@ strip-enough (suc j) (suc k) n cs p q =
     ∙ ap (note (lowest-with (pure cs) n)) (strip-enough j k n (not-naming (lowest-with (pure cs) n) cs) (omega arith) (omega arith))
     ∙ sym (strip-next k n cs l))
     (λ f. let l = ltb-false (lowest-with (pure cs) n) n f in strip-end (suc j) n cs l ∙ sym (strip-end (suc k) n cs l))
-    (look (ltb (lowest-with (pure cs) n) n))
+    (bool-cases (ltb (lowest-with (pure cs) n) n))
 
 -- while some variable is pure, the lowest is noted and the clauses that name it are dropped
 pub stripped-next : (n : ℕ) (cs : List (List Literal)) → lowest-with (pure cs) n < n

@@ -13,9 +13,9 @@ use Rattle.splitting.specs.Stripping.{stripped}
 
 -- ---- a trial
 
--- the clauses are matched (01: paired) from nothing
-unfoldable pub matched : List (List Literal) → Outcome
-matched cs = outcome (map variables cs)
+-- the clauses are matching-of (01: paired) from nothing
+unfoldable pub matching-of : List (List Literal) → Outcome
+matching-of cs = outcome (map variables cs)
 
 -- both succeed, and the expansions of what was tried
 pub record Trial : Type 0 where
@@ -25,12 +25,12 @@ pub record Trial : Type 0 where
 -- 'A trial pairs the left rules with the switch off, and if that succeeds, with it on.'
 unfoldable pub trial : List (List Literal) → ℕ → Trial
 trial cs v =
-    elim (succeeds (matched (assign v false cs))) [
+    elim (succeeds (matching-of (assign v false cs))) [
       | true ↦ record {
-        passes = succeeds (matched (assign v true cs));
-        cost = expansions (matched (assign v false cs)) + expansions (matched (assign v true cs));
+        passes = succeeds (matching-of (assign v true cs));
+        cost = expansions (matching-of (assign v false cs)) + expansions (matching-of (assign v true cs));
       }
-      | false ↦ record { passes = false; cost = expansions (matched (assign v false cs)) }
+      | false ↦ record { passes = false; cost = expansions (matching-of (assign v false cs)) }
     ]
 
 -- ---- the choice

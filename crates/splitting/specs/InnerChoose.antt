@@ -14,7 +14,7 @@ use Rattle.formula.specs.declared.Clause.{Clause}
 use Rattle.formula.specs.declared.Formula.{Formula}
 use Rattle.formula.specs.Format.{Literal}
 use Rattle.formula.specs.InnerCheck.{all-first}
-use Rattle.formula.specs.Masked.{no-clause, side, named}
+use Rattle.formula.specs.Masked.{no-clause, side, clause-variables}
 use Rattle.splitting.specs.declared.Assignment.{Assignment}
 use Rattle.splitting.specs.declared.Choice.{Choice}
 use Rattle.splitting.specs.declared.Reduced.{Reduced}
@@ -56,7 +56,7 @@ all-satisfied f a = all-first (satisfied-under a) (f .clauses) (f .count)
 -- those of the first n clauses that do not name v
 unfoldable pub unnamed : List Clause → ℕ → ℕ → List Clause
 unnamed cs v zero = []
-unnamed cs v (suc n) = unnamed cs v n ++ cond (bit (named (getD cs n no-clause)) v) [] (getD cs n no-clause ∷ [])
+unnamed cs v (suc n) = unnamed cs v n ++ cond (bit (clause-variables (getD cs n no-clause)) v) [] (getD cs n no-clause ∷ [])
 
 -- nothing is assigned
 abbrev pub unassigned : Assignment
@@ -95,11 +95,11 @@ survey-of cs = survey-from (record { positive = 0; negative = 0; any = false }) 
 -- some clause names nothing
 unfoldable pub some-empty : List Clause → Bool
 some-empty [] = false
-some-empty (c ∷ cs) = eqb (named c) 0 || some-empty cs
+some-empty (c ∷ cs) = eqb (clause-variables c) 0 || some-empty cs
 
 -- the outcome of matching the clauses
 abbrev pub matched-node : Formula → Assignment → Outcome
-matched-node f a = outcome (map named (node f a))
+matched-node f a = outcome (map clause-variables (node f a))
 
 abbrev pub matching-at : Formula → Assignment → Matching
 matching-at f a = packed (length (node f a)) (matched-node f a)
@@ -112,7 +112,7 @@ reduced-at f a noted v = record { assignment = a; noted = noted; last = v; surve
 abbrev pub pure-of : Formula → Assignment → ℕ
 pure-of f a = bitXor (survey-of (node f a) .positive) (survey-of (node f a) .negative)
 
--- at most k times: the lowest variable that is named in one way only gets that value, and is noted; v is the last one noted
+-- at most k times: the lowest variable that is clause-variables in one way only gets that value, and is noted; v is the last one noted
 unfoldable pub reduce-from : ℕ → Formula → Assignment → ℕ → ℕ → Reduced
 reduce-from zero f a noted v = reduced-at f a noted v
 reduce-from (suc k) f a noted v =
@@ -156,7 +156,7 @@ listed-last f a v = record {
   expansions = 0;
 }
 
--- the variables that are named at the node and were not noted
+-- the variables that are clause-variables at the node and were not noted
 abbrev pub others-of : Formula → Assignment → ℕ
 others-of f a = minus (bitOr (survey-of (node f a) .positive) (survey-of (node f a) .negative)) (reduced f a .noted)
 
@@ -164,8 +164,8 @@ others-of f a = minus (bitOr (survey-of (node f a) .positive) (survey-of (node f
 abbrev pub free-choice : ℕ → Assignment → Choice
 free-choice scope a = both-open (lowest (minus scope (assigned a))) 0
 
-unfoldable pub chosen : Formula → ℕ → Assignment → Choice
-chosen f scope a =
+unfoldable pub mask-choice : Formula → ℕ → Assignment → Choice
+mask-choice f scope a =
     cond (survey-of (node f a) .any)
     (cond (reduced f a .survey .any)
     (passing f (reduced f a .assignment) (members (bitOr (reduced f a .survey .positive) (reduced f a .survey .negative)) 64) 0)

@@ -9,9 +9,9 @@ ghost use Prim.Native.Nat.{ℕ, _<_, _≤_};
 ghost use lib.ListN.{length};
 ghost use Rattle.lists.specs.Over.{over};
 ghost use Rattle.masks.specs.Mask.{bit, members};
-ghost use Rattle.formula.specs.Masked.{FormulaFits, named};
+ghost use Rattle.formula.specs.Masked.{FormulaFits, clause-variables};
 ghost use Rattle.splitting.specs.Choosing.{both-open};
-ghost use Rattle.splitting.specs.InnerChoose.{set-to, satisfied-under, left-under, node, unnamed, survey-of, some-empty, matching-at, unassigned, clause-in, clauses-in, formula-in, formula-at, Small, reduce-from, tried, passing, greatest, listed-last, all-satisfied, free-choice, chosen};
+ghost use Rattle.splitting.specs.InnerChoose.{set-to, satisfied-under, left-under, node, unnamed, survey-of, some-empty, matching-at, unassigned, clause-in, clauses-in, formula-in, formula-at, Small, reduce-from, tried, passing, greatest, listed-last, all-satisfied, free-choice, mask-choice};
 use formula::Clause;
 use formula::Formula;
 use matching::Matching;
@@ -187,7 +187,7 @@ fn compact(
 fn first_named(positives: &[u64; 96], negatives: &[u64; 96], count: usize, v: usize) -> usize
     requires { ⌜ (count ≤ 96) × (v < 64) ⌝ }
     ensures { λ r. ⌜ (r ≤ count) × (unnamed (clauses-in (now (positives .entry)) (now (negatives .entry)) count) v r ≡ clauses-in (now (positives .entry)) (now (negatives .entry)) r) ⌝ }
-    ensures { λ r. ⌜ (r < count → bit (named (clause-in (now (positives .entry)) (now (negatives .entry)) r)) v ≡ true) ⌝ }
+    ensures { λ r. ⌜ (r < count → bit (clause-variables (clause-in (now (positives .entry)) (now (negatives .entry)) r)) v ≡ true) ⌝ }
 {
     let mut i: usize = 0;
     while i < count {
@@ -269,7 +269,7 @@ fn gather(
 ) -> usize
     requires { ⌜ (count ≤ 96) × (length (now sets) ≡ 96) ⌝ }
     ensures { λ r. ⌜ r ≡ length (node (formula-in (now (positives .entry)) (now (negatives .entry)) count) a) ⌝ }
-    ensures { λ _. ⌜ now (sets .exit) ≡ over (map named (node (formula-in (now (positives .entry)) (now (negatives .entry)) count) a)) (now (sets .entry)) ⌝ }
+    ensures { λ _. ⌜ now (sets .exit) ≡ over (map clause-variables (node (formula-in (now (positives .entry)) (now (negatives .entry)) count) a)) (now (sets .entry)) ⌝ }
 {
     let mut written: usize = 0;
     let mut i: usize = 0;
@@ -418,7 +418,7 @@ fn last_listed(positives: &[u64; 96], negatives: &[u64; 96], count: usize, v: us
 // The choice where some clause is open, whichever variables a model covers.
 fn choose_open(f: Formula, a: Assignment) -> Choice
     requires { ⌜ Small f × (survey-of (node f a) .any ≡ true) ⌝ }
-    ensures { λ r. ⌜ ((scope : ℕ) → r ≡ chosen f scope a) ⌝ }
+    ensures { λ r. ⌜ ((scope : ℕ) → r ≡ mask-choice f scope a) ⌝ }
 {
     let mut positives = [0u64; 96];
     let mut negatives = [0u64; 96];
@@ -447,7 +447,7 @@ pub fn choose_free(scope: u64, a: Assignment) -> Choice
 // The choice at the node of the assignment; `scope` has the variables that a model covers.
 pub fn choose(f: Formula, scope: u64, a: Assignment) -> Choice
     requires { ⌜ FormulaFits f ⌝ }
-    ensures { λ r. ⌜ r ≡ chosen f scope a ⌝ }
+    ensures { λ r. ⌜ r ≡ mask-choice f scope a ⌝ }
 {
     if all_satisfied(f, a) {
         return choose_free(scope, a);

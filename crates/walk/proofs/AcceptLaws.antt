@@ -12,7 +12,7 @@ use Rattle.walk.specs.InnerStack.{Stack, empty, push, trail-of, Tree}
 use Rattle.walk.specs.InnerMachine.{Position, down, full, back, over, resume}
 use Rattle.walk.specs.InnerTest.{mode-of, stack-of, shown, read, position-of, formed, fits, accepts}
 use Rattle.walk.specs.InnerCall.{resumed-result, call-from}
-use Rattle.walk.proofs.RestLaws.{Stops, Replayed, replayed-depth, Ok, Live}
+use Rattle.walk.proofs.RestLaws.{Stops, Replayed, replayed-depth, Reachable, Live}
 use Rattle.walk.proofs.PositionLaws.{position-back}
 use Rattle.walk.proofs.TestLaws.{fits-stop, stop-fits}
 use Rattle.walk.proofs.ByteLaws.{Below, read-written, written-formed, formed-written, formed-mode}
@@ -28,7 +28,7 @@ mode-le over = omega arith
 
 module _ (K : Tree) where
   -- the trail of a position
-  pub stack-replayed : (p : Position) → Ok K p → Replayed K (stack-of p)
+  pub stack-replayed : (p : Position) → Reachable K p → Replayed K (stack-of p)
   stack-replayed (down t) o = o
   stack-replayed (full t) o = o .0
   stack-replayed (back b t) o = o .0
@@ -39,11 +39,11 @@ module _ (K : Tree) (L : Live K) (small : K .size ≤ max-variables) (low : (t :
   unfolding checkpoint-of
   shown-mode p = refl
 
-  shown-read : (p : Position) → Ok K p → read (shown p) ≡ stack-of p
+  shown-read : (p : Position) → Reachable K p → read (shown p) ≡ stack-of p
   shown-read p o = read-written (mode-of p) (stack-of p) (low (stack-of p) (stack-replayed K p o))
 
   -- where a call can stop, the checkpoint passes the test
-  pub shown-accepted : (p : Position) → Ok K p → Stops K p → accepts K (shown p) ≡ true
+  pub shown-accepted : (p : Position) → Reachable K p → Stops K p → accepts K (shown p) ≡ true
   unfolding accepts
   shown-accepted p o q =
       let r = stack-replayed K p o in
@@ -52,17 +52,17 @@ module _ (K : Tree) (L : Live K) (small : K .size ≤ max-variables) (low : (t :
       (ap₂ (fits K) (shown-mode p) (shown-read p o) ∙ stop-fits K L p o q)
 
   -- and gives the position back
-  pub shown-position : (p : Position) → Ok K p → Stops K p → position-of (K .size) (shown p .mode) (read (shown p)) ≡ p
+  pub shown-position : (p : Position) → Reachable K p → Stops K p → position-of (K .size) (shown p .mode) (read (shown p)) ≡ p
   shown-position p o q = ap₂ (position-of (K .size)) (shown-mode p) (shown-read p o) ∙ position-back K p o q
 
   -- so a call from it goes on from the position
-  pub call-shown : (b : ℕ) (p : Position) → Ok K p → Stops K p → call-from K (shown p) b ≡ resumed-result (resume K b p)
+  pub call-shown : (b : ℕ) (p : Position) → Reachable K p → Stops K p → call-from K (shown p) b ≡ resumed-result (resume K b p)
   call-shown b p o q = ap (λ (x : Position). resumed-result (resume K b x)) (shown-position p o q)
 
   -- a checkpoint that passes is one of a position at which a call can stop
   pub record Stopped (c : Checkpoint) : Type 0 where
     pub position : Position
-    pub fine : Ok K position
+    pub fine : Reachable K position
     pub stops : Stops K position
     pub shows : shown position ≡ c
 

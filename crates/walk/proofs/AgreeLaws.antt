@@ -6,13 +6,13 @@ use mathlib.Core.Path.{_≡_, refl, ap, _∙_, subst}
 use native.Mathlib.Nat.{sub-zero}
 use lib.ListN.{take, drop}
 use Rattle.lists.proofs.DropLaws.{drop-next, take-next, drop-none, take-none}
-use Rattle.walk.specs.Plain.{Entry, assign, undo, model, end}
+use Rattle.walk.specs.Plain.{Entry, assigns, undoes, model, end}
 use Rattle.walk.specs.Checkpoints.{Behind, past, past-all}
 use Rattle.walk.specs.PlainMachine.{Answer, found, spent, ended, Call, at-once, after-step, go-on}
 use Rattle.walk.specs.InnerStack.{empty, trail-of, Tree}
 use Rattle.walk.specs.InnerMachine.{Position, down, over, steps, next, Resumed, halted, stepped, resume}
-use Rattle.walk.proofs.RestLaws.{seen, Stops, walk, node, up, rest, Ok, Live, Goes, Step, step}
-use Rattle.walk.proofs.PositionLaws.{behind-of, past-next, Lands, lands}
+use Rattle.walk.proofs.RestLaws.{seen, Stops, walk, node, after-node, rest, Reachable, Live, Goes, Step, step}
+use Rattle.walk.proofs.PositionLaws.{behind-of, past-next, StopsBehind, stops-behind}
 
 past-append : (p : Behind) (a b : List Entry) → past-all p (a ++ b) ≡ past-all (past-all p a) b
 unfolding past-all
@@ -28,11 +28,11 @@ module _ (K : Tree) where
   pub record At (k : ℕ) (p : Position) : Type 0 where
     pub ahead : drop k (walk K) ≡ rest K p
     pub shown : behind-after k ≡ behind-of p
-    pub fine : Ok K p
+    pub fine : Reachable K p
 
   -- the start
   pub at-start : At 0 (down empty)
-  unfolding walk rest node up behind-after past-all trail-of
+  unfolding walk rest node after-node behind-after past-all trail-of
   at-start = record { ahead = rw sub-zero; shown = refl; fine = tt }
 
   -- one entry more
@@ -79,19 +79,19 @@ module _ (K : Tree) where
   same-once : (a : Answer) (k : ℕ) (p : Position) → At k p → Stops K p → Same (at-once a k) (halted a p)
   same-once a k p i q = record { answer = refl; steps = refl; expansions = refl; at = i; stops = q }
 
-  same-zero : (k : ℕ) (p : Position) (e : Entry) (q : Position) (l : List Entry) → At k p → At (suc k) q → next K p ≡ seen e q → Lands K e q
+  same-zero : (k : ℕ) (p : Position) (e : Entry) (q : Position) (l : List Entry) → At k p → At (suc k) q → next K p ≡ seen e q → StopsBehind K e q
       → Same (go-on (e ∷ l) 0 k) (resume K 0 p)
   unfolding go-on resume
-  same-zero k p (assign x c) q l a n s d = rw s (same-once spent k p a (inr (rw s tt)))
-  same-zero k p undo q l a n s d = rw s (same-once spent k p a (inr (rw s tt)))
+  same-zero k p (assigns x c) q l a n s d = rw s (same-once spent k p a (inr (rw s tt)))
+  same-zero k p undoes q l a n s d = rw s (same-once spent k p a (inr (rw s tt)))
   same-zero k p (model m) q l a n s d = rw s (same-once (found m) (suc k) q n d)
   same-zero k p end q l a n s d = rw s (same-once ended (suc k) q n d)
 
-  same-suc : (b k : ℕ) (p : Position) (e : Entry) (q : Position) (l : List Entry) → At k p → At (suc k) q → next K p ≡ seen e q → Lands K e q
+  same-suc : (b k : ℕ) (p : Position) (e : Entry) (q : Position) (l : List Entry) → At k p → At (suc k) q → next K p ≡ seen e q → StopsBehind K e q
       → Same (go-on l b (suc k)) (resume K b q) → Same (go-on (e ∷ l) (suc b) k) (resume K (suc b) p)
   unfolding go-on resume
-  same-suc b k p (assign x c) q l a n s d i = rw s (same-step c _ _ i)
-  same-suc b k p undo q l a n s d i = rw s (same-step 0 _ _ i)
+  same-suc b k p (assigns x c) q l a n s d i = rw s (same-step c _ _ i)
+  same-suc b k p undoes q l a n s d i = rw s (same-step 0 _ _ i)
   same-suc b k p (model m) q l a n s d i = rw s (same-once (found m) (suc k) q n d)
   same-suc b k p end q l a n s d i = rw s (same-once ended (suc k) q n d)
 
@@ -112,7 +112,7 @@ module _ (K : Tree) where
       go (inl e) = call-over 0 k p a e
       go (inr s) =
           let g = s .2 in
-          rw (a .ahead ∙ g .ahead) (same-zero k p (s .0) (s .1) _ a (at-next a g) (g .shows) (lands K (g .kind)))
+          rw (a .ahead ∙ g .ahead) (same-zero k p (s .0) (s .1) _ a (at-next a g) (g .shows) (stops-behind K (g .kind)))
   call-same L (suc b) k p a = go (step K L p (a .fine)) (λ q i. call-same L b (suc k) q i)
     where
       go : (p ≡ over) ⊎ Step K p → ((q : Position) → At (suc k) q → Same (go-on (drop (suc k) (walk K)) b (suc k)) (resume K b q))
@@ -121,4 +121,4 @@ module _ (K : Tree) where
       go (inr s) ih =
           let g = s .2 in
           let n = at-next a g in
-          rw (a .ahead ∙ g .ahead) (same-suc b k p (s .0) (s .1) _ a n (g .shows) (lands K (g .kind)) (rw (n .ahead) at (ih (s .1) n)))
+          rw (a .ahead ∙ g .ahead) (same-suc b k p (s .0) (s .1) _ a n (g .shows) (stops-behind K (g .kind)) (rw (n .ahead) at (ih (s .1) n)))

@@ -12,17 +12,17 @@ use Rattle.formula.specs.Masked.{variables}
 use Rattle.formula.specs.Decode.{read-record, records, decode}
 use Rattle.splitting.specs.Nodes.{less, assign, remaining, occurs, named, first-from, upward-from}
 use Rattle.splitting.specs.Stripping.{pure, not-naming, strip}
-use Rattle.splitting.specs.Choosing.{matched, trial, first-passing, candidates, among, listed, last, emptied, last-listed, choice}
+use Rattle.splitting.specs.Choosing.{matching-of, trial, first-passing, candidates, among, listed, last, emptied, last-listed, choice}
 use Rattle.matched.specs.Acceptance.{acceptance}
 use Rattle.walk.specs.Task.{whole}
 use Rattle.walk.specs.Plain.{assignment, node-walk, plain-walk}
-use Rattle.walk.specs.WalkCall.{Kind, says-model, says-spent, says-ended, Result, same-bytes, same, locate-from, located, task-call, walk-call, walk-calls}
+use Rattle.walk.specs.WalkCall.{AnswerKind, says-model, says-spent, says-ended, Result, same-bytes, same-checkpoint, locate-from, located, task-call, walk-call, walk-calls}
 use Rattle.walk.specs.Checkpoints.{start, Checkpoint, checkpoint-of, without-last, last-value, past-all, behind, checkpoint-after}
 use Rattle.walk.specs.PlainMachine.{Answer, found, spent, ended, Call, go-on, plain-call, plain-calls}
 
 -- what computes: to unfold this is to unfold all that its line names
 computing : Unit {0}
-unfolding walk-calls walk-call task-call located locate-from same same-bytes acceptance decode records read-record plain-calls plain-call go-on plain-walk node-walk assignment choice remaining assign less names names-as occurs named first-from upward-from pure not-naming strip variables matched trial first-passing candidates among listed last emptied last-listed outcome match-rest search-from expand take-front scan see begin no-links owner rematch-from bit members xor start checkpoint-of padded checkpoint-after behind past-all without-last last-value
+unfolding walk-calls walk-call task-call located locate-from same-checkpoint same-bytes acceptance decode records read-record plain-calls plain-call go-on plain-walk node-walk assignment choice remaining assign less names names-as occurs named first-from upward-from pure not-naming strip variables matching-of trial first-passing candidates among listed last emptied last-listed outcome match-rest search-from expand take-front scan see begin no-links owner rematch-from bit members xor start checkpoint-of padded checkpoint-after behind past-all without-last last-value
 computing = tt
 
 abbrev on : ℕ → Literal
@@ -49,7 +49,7 @@ unfolding checkpoint-of padded
 bytes = refl
 
 -- the kind, the model, the number, the steps and the expansions of a call on bytes
-abbrev values : Result → Kind × ℕ × ℕ × ℕ × ℕ
+abbrev values : Result → AnswerKind × ℕ × ℕ × ℕ × ℕ
 values r = (r .kind, r .model, r .number, r .steps, r .expansions)
 
 -- the first formula from its bytes, each call given the checkpoint that the last one returned
@@ -62,7 +62,7 @@ from-bytes = refl
 abbrev refusal : Result → ℕ × ℕ
 refusal r = (r .number, r .place)
 
--- (¬1): true is closed at the root, so that the end follows the undoing of false in the same call, and mode 2 at length 0 is never had
+-- (¬1): true is closed at the root, so that the end follows the undoing of false in the same-checkpoint call, and mode 2 at length 0 is never had
 pub closed-root : refusal (walk-call (1 ∷ 1 ∷ 3 ∷ 1 ∷ 4 ∷ 5 ∷ []) (checkpoint-of 2 []) 96) ≡ (11, 0)
 unfolding computing
 closed-root = refl

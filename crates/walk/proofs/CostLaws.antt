@@ -7,7 +7,7 @@ use mathlib.Core.Path.{_≡_}
 use native.Mathlib.Omega.{arith}
 use Rattle.formula.specs.Format.{Literal}
 use Rattle.splitting.specs.declared.Choice.{Choice}
-use Rattle.walk.specs.Plain.{Entry, assign, undo, model, end, value-walk, chosen, step-expansions}
+use Rattle.walk.specs.Plain.{Entry, assigns, undoes, model, end, value-walk, choice-literal, step-expansions}
 use Rattle.walk.specs.InnerStack.{Stack, empty, push, Tree}
 use Rattle.walk.proofs.RestLaws.{entries, walk}
 
@@ -22,30 +22,30 @@ step-cheap B c true h = at (c .false_open)
 
 -- no assignment among the entries has more than B expansions
 abbrev Cheap : ℕ → List Entry → Type 0
-Cheap B es = (l : Literal) (e : ℕ) → List·Memᴰ (assign l e) es → e ≤ B
+Cheap B es = (l : Literal) (e : ℕ) → List·Memᴰ (assigns l e) es → e ≤ B
 
-cheap-none : (B : ℕ) (x : Entry) → ((l : Literal) (e : ℕ) → assign l e ≡ x → ⊥) → Cheap B (x ∷ [])
+cheap-none : (B : ℕ) (x : Entry) → ((l : Literal) (e : ℕ) → assigns l e ≡ x → ⊥) → Cheap B (x ∷ [])
 cheap-none B x f l e m = absurd (f l e (List·Memᴰ·eq-of-singleton m))
 
 cheap-append : (B : ℕ) (xs ys : List Entry) → Cheap B xs → Cheap B ys → Cheap B (xs ++ ys)
 cheap-append B xs ys h k l e m =
-    ⊎-elim (λ (i : List·Memᴰ (assign l e) xs). h l e i) (λ (i : List·Memᴰ (assign l e) ys). k l e i) (List·Memᴰ·append-cases xs m)
+    ⊎-elim (λ (i : List·Memᴰ (assigns l e) xs). h l e i) (λ (i : List·Memᴰ (assigns l e) ys). k l e i) (List·Memᴰ·append-cases xs m)
 
-not-undo : (l : Literal) (e : ℕ) → assign l e ≡ undo → ⊥
+not-undo : (l : Literal) (e : ℕ) → assigns l e ≡ undoes → ⊥
 not-undo l e q = let z : _≡_ {A = ℕ} 0 1 = cc in omega arith
 
-not-model : (a : ℕ) (l : Literal) (e : ℕ) → assign l e ≡ model a → ⊥
+not-model : (a : ℕ) (l : Literal) (e : ℕ) → assigns l e ≡ model a → ⊥
 not-model a l e q = let z : _≡_ {A = ℕ} 0 1 = cc in omega arith
 
-not-end : (l : Literal) (e : ℕ) → assign l e ≡ end → ⊥
+not-end : (l : Literal) (e : ℕ) → assigns l e ≡ end → ⊥
 not-end l e q = let z : _≡_ {A = ℕ} 0 1 = cc in omega arith
 
 cheap-value : (B : ℕ) (x : Bool) (k : Literal) (f : ℕ) (es : List Entry) → f ≤ B → Cheap B es → Cheap B (value-walk x k f es)
 cheap-value B true k f es h c l e m = at (List·Memᴰ·cases-cons m)
   where
-    at : (assign l e ≡ assign k f) ⊎ List·Memᴰ (assign l e) (es ++ (undo ∷ [])) → e ≤ B
+    at : (assigns l e ≡ assigns k f) ⊎ List·Memᴰ (assigns l e) (es ++ (undoes ∷ [])) → e ≤ B
     at (inl q) = let z : e ≡ f = cc in omega arith
-    at (inr i) = cheap-append B es (undo ∷ []) c (cheap-none B undo not-undo) l e i
+    at (inr i) = cheap-append B es (undoes ∷ []) c (cheap-none B undoes not-undo) l e i
 cheap-value B false k f es h c l e m = absurd (List·Memᴰ·not-nil m)
 
 module _ (K : Tree) (B : ℕ) (cheap : (t : Stack) → K .choose t .expansions ≤ B) where
@@ -55,8 +55,8 @@ module _ (K : Tree) (B : ℕ) (cheap : (t : Stack) → K .choose t .expansions �
   entries-cheap (suc d) t =
       let c = K .choose t in
       cheap-append B _ _
-      (cheap-value B (c .false_open) (chosen c false) (step-expansions c false) _ (step-cheap B c false (cheap t)) (entries-cheap d (push (c .variable) false t)))
-      (cheap-value B (c .true_open) (chosen c true) (step-expansions c true) _ (step-cheap B c true (cheap t)) (entries-cheap d (push (c .variable) true t)))
+      (cheap-value B (c .false_open) (choice-literal c false) (step-expansions c false) _ (step-cheap B c false (cheap t)) (entries-cheap d (push (c .variable) false t)))
+      (cheap-value B (c .true_open) (choice-literal c true) (step-expansions c true) _ (step-cheap B c true (cheap t)) (entries-cheap d (push (c .variable) true t)))
 
   -- so no assignment of the walk costs more
   pub walk-cheap : Cheap B (walk K)

@@ -22,14 +22,14 @@ use Rattle.matched.specs.Pairing.{Pairs, Pairable}
 use Rattle.matched.proofs.AcceptanceLaws.{pairs-accepted}
 use Rattle.splitting.specs.Terms.{Agrees, opened}
 use Rattle.walk.specs.Task.{Task, whole, to-assign, choice-at, ModelFor, Posed}
-use Rattle.walk.specs.Plain.{assign, plain-walk, listing}
+use Rattle.walk.specs.Plain.{assigns, plain-walk, listing}
 use Rattle.walk.specs.Checkpoints.{Checkpoint, checkpoint-of, start, behind, checkpoint-after}
 use Rattle.walk.specs.PlainMachine.{spent, ended, plain-call, plain-calls, state-after, Has}
 use Rattle.walk.specs.WalkCall.{says-model, says-spent, says-ended, says-refused, answered, refusing, plain-result, at-state, nowhere, located, task-call, walk-call, walk-calls, last-checkpoint}
 use Rattle.walk.specs.Gaps.{brought, SaysEnded, gaps, Paced, step-bound, ample-budget}
 use Rattle.walk.specs.Proper.{Proper}
 use Rattle.walk.proofs.LocateLaws as locating
-use Rattle.walk.proofs.FormulaLaws as laws
+use Rattle.walk.proofs.TaskLaws as laws
 use Rattle.walk.proofs.WholeLaws as wholes
 use Rattle.walk.proofs.RefusalLaws as refusals
 
@@ -54,7 +54,7 @@ pub record Dealt (s : List ℕ) (T : Task) (bs : List ℕ) : Type 0 where
   -- the last,' and 'Between two set-ups at most n × n × m × (m + 1) reaches are made': the exact numbers of steps are in Paced.
   pub paced : Paced (to-assign T) (step-bound T) (gaps (walk-calls s start bs))
   -- 'and settling one switch takes at most n × m × (m + 1) counted pairing steps.'
-  pub cheap : (l : Literal) (e : ℕ) → List·Memᴰ (assign l e) (plain-walk T) → e ≤ step-bound T
+  pub cheap : (l : Literal) (e : ℕ) → List·Memᴰ (assigns l e) (plain-walk T) → e ≤ step-bound T
   -- 'A call allowed 96 moves or more brings a set-up or the end.'
   pub ample : (b : ℕ) → ample-budget ≤ b
       → (walk-call s (last-checkpoint s start bs) b .kind ≡ says-model) ⊎ (walk-call s (last-checkpoint s start bs) b .kind ≡ says-ended)

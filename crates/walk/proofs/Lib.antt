@@ -17,7 +17,7 @@ pub mod AssignmentLaws
 pub mod TreeLaws
 pub mod WholeLaws
 pub mod ProperLaws
-pub mod FormulaLaws
+pub mod TaskLaws
 pub mod RefusalLaws
 pub mod ResumedLaws
 pub mod Demands

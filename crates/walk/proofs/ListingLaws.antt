@@ -11,7 +11,7 @@ use Rattle.lists.proofs.DistinctLaws.{distinct-append}
 use Rattle.masks.specs.Mask.{bit}
 use Rattle.formula.specs.Format.{Literal}
 use Rattle.splitting.specs.Terms.{opened}
-use Rattle.walk.specs.Plain.{Entry, assign, undo, model, end, value-walk, models-of}
+use Rattle.walk.specs.Plain.{Entry, assigns, undoes, model, end, value-walk, models-of}
 use Rattle.walk.specs.InnerStack.{Stack, empty, push, depth, Tree}
 use Rattle.walk.proofs.RestLaws.{entries, walk, Replayed, Live}
 
@@ -35,14 +35,14 @@ when-distinct false l h = tt
 pub models-append : (l r : List Entry) → models-of (l ++ r) ≡ models-of l ++ models-of r
 unfolding models-of
 models-append [] r = refl
-models-append (assign x e ∷ l) r = models-append l r
-models-append (undo ∷ l) r = models-append l r
+models-append (assigns x e ∷ l) r = models-append l r
+models-append (undoes ∷ l) r = models-append l r
 models-append (model a ∷ l) r = ap {B = List ℕ} (λ x. a ∷ x) (models-append l r)
 models-append (end ∷ l) r = models-append l r
 
 models-value : (x : Bool) (l : Literal) (e : ℕ) (es : List Entry) → models-of (value-walk x l e es) ≡ when x (models-of es)
 unfolding models-of
-models-value true l e es = models-append es (undo ∷ []) ∙ append-nil (models-of es)
+models-value true l e es = models-append es (undoes ∷ []) ∙ append-nil (models-of es)
 models-value false l e es = refl
 
 -- the assignment has the values of the trail
@@ -55,7 +55,7 @@ Agrees a (push v b t) = (bit a v ≡ b) × Agrees a t
 pub record Splits (K : Tree) (Model : ℕ → Type 0) : Type 0 where
   pub full-model : (t : Stack) → Replayed K t → depth t ≡ K .size → Model (K .result t) × Agrees (K .result t) t
   pub full-only : (t : Stack) → Replayed K t → depth t ≡ K .size → (a : ℕ) → Model a → Agrees a t → a ≡ K .result t
-  pub shut : (t : Stack) → Replayed K t → depth t < K .size → (b : Bool) → opened (K .choose t) b ≡ false → (a : ℕ) → Model a
+  pub closed-none : (t : Stack) → Replayed K t → depth t < K .size → (b : Bool) → opened (K .choose t) b ≡ false → (a : ℕ) → Model a
       → Agrees a (push (K .choose t .variable) b t) → ⊥
 
 module _ (K : Tree) (Model : ℕ → Type 0) (P : Splits K Model) where
@@ -109,7 +109,7 @@ module _ (K : Tree) (Model : ℕ → Type 0) (P : Splits K Model) where
 
       open-at : (b : Bool) → bit a (K .choose t .variable) ≡ b → (x : Bool) → opened (K .choose t) b ≡ x → opened (K .choose t) b ≡ true
       open-at b e true o = o
-      open-at b e false o = absurd (P .shut t r (omega arith) b o a p (e, g))
+      open-at b e false o = absurd (P .closed-none t r (omega arith) b o a p (e, g))
 
       value : ((b : Bool) → Lists d (push (K .choose t .variable) b t)) → (b : Bool) → bit a (K .choose t .variable) ≡ b
           → List·Memᴰ a (when (K .choose t .false_open) (sub false) ++ when (K .choose t .true_open) (sub true))

@@ -9,12 +9,12 @@ use lib.Dec.{eqb, ltb}
 use lib.ListN.{length, drop, length-drop}
 use borrow.Author.Tests.{eqb-true, eq-eqb, ltb-true, ltb-false}
 use Rattle.lists.proofs.DropLaws.{drop-next}
-use Rattle.lists.proofs.TestLaws.{clash, and-left, and-right, and-both}
+use Rattle.lists.proofs.TestLaws.{bool-clash, and-left, and-right, and-both}
 use Rattle.walk.specs.Task.{Task}
-use Rattle.walk.specs.Plain.{Entry, assign, undo, model, end, plain-walk}
+use Rattle.walk.specs.Plain.{Entry, assigns, undoes, model, end, plain-walk}
 use Rattle.walk.specs.Checkpoints.{Checkpoint, checkpoint-after}
 use Rattle.walk.specs.PlainMachine.{go-on, plain-call, state-after, Has}
-use Rattle.walk.specs.WalkCall.{same-bytes, same, at-state, nowhere, locate-from, located}
+use Rattle.walk.specs.WalkCall.{same-bytes, same-checkpoint, at-state, nowhere, locate-from, located}
 
 -- ---- the test of checkpoints
 
@@ -31,8 +31,8 @@ unfolding same-bytes
 bytes-self [] = refl
 bytes-self (x ∷ xs) = and-both _ _ (eq-eqb x x refl) (bytes-self xs)
 
-same-is : (c d : Checkpoint) → same c d ≡ true → c ≡ d
-unfolding same
+same-is : (c d : Checkpoint) → same-checkpoint c d ≡ true → c ≡ d
+unfolding same-checkpoint
 same-is c d h =
     let r = and-right (eqb (c .mode) (d .mode)) _ h in
     let m : c .mode ≡ d .mode = eqb-true _ _ (and-left (eqb (c .mode) (d .mode)) _ h) in
@@ -40,8 +40,8 @@ same-is c d h =
     let b : c .bytes ≡ d .bytes = bytes-same _ _ (and-right (eqb (c .length) (d .length)) _ r) in
     λ i. record { mode = m i; length = l i; bytes = b i }
 
-same-self : (c : Checkpoint) → same c c ≡ true
-unfolding same
+same-self : (c : Checkpoint) → same-checkpoint c c ≡ true
+unfolding same-checkpoint
 same-self c = and-both _ _ (eq-eqb (c .mode) _ refl) (and-both _ _ (eq-eqb (c .length) _ refl) (bytes-self (c .bytes)))
 
 -- ---- where calls stop
@@ -50,18 +50,18 @@ same-self c = and-both _ _ (eq-eqb (c .mode) _ refl) (and-both _ _ (eq-eqb (c .l
 go-least : (l : List Entry) (b k : ℕ) → k ≤ go-on l b k .behind
 unfolding go-on
 go-least [] b k = omega arith
-go-least (assign x e ∷ l) zero k = omega arith
-go-least (assign x e ∷ l) (suc b) k = let i = go-least l b (suc k) in omega arith
-go-least (undo ∷ l) zero k = omega arith
-go-least (undo ∷ l) (suc b) k = let i = go-least l b (suc k) in omega arith
+go-least (assigns x e ∷ l) zero k = omega arith
+go-least (assigns x e ∷ l) (suc b) k = let i = go-least l b (suc k) in omega arith
+go-least (undoes ∷ l) zero k = omega arith
+go-least (undoes ∷ l) (suc b) k = let i = go-least l b (suc k) in omega arith
 go-least (model a ∷ l) b k = omega arith
 go-least (end ∷ l) b k = omega arith
 
 -- a call of budget 1 leaves an entry more behind
 go-more : (e : Entry) (l : List Entry) (k : ℕ) → k < go-on (e ∷ l) 1 k .behind
 unfolding go-on
-go-more (assign x e) l k = let i = go-least l 0 (suc k) in omega arith
-go-more undo l k = let i = go-least l 0 (suc k) in omega arith
+go-more (assigns x e) l k = let i = go-least l 0 (suc k) in omega arith
+go-more undoes l k = let i = go-least l 0 (suc k) in omega arith
 go-more (model a) l k = omega arith
 go-more end l k = omega arith
 
@@ -94,8 +94,8 @@ module _ (T : Task) where
   step-stops : (b k j : ℕ) (l : List Entry) → drop (suc k) (plain-walk T) ≡ l → go-on l 0 (suc k) .behind ≡ j → Stops k j (go-on l b (suc k) .behind)
   unfolding go-on state-after plain-call
   step-stops b k j [] q s = inr ([], s)
-  step-stops b k j (assign x e ∷ l) q s = inr (b ∷ [], ap (λ (r : List Entry). go-on r b (suc k) .behind) (sym q) ∙ ap (stop b) s)
-  step-stops b k j (undo ∷ l) q s = inr (b ∷ [], ap (λ (r : List Entry). go-on r b (suc k) .behind) (sym q) ∙ ap (stop b) s)
+  step-stops b k j (assigns x e ∷ l) q s = inr (b ∷ [], ap (λ (r : List Entry). go-on r b (suc k) .behind) (sym q) ∙ ap (stop b) s)
+  step-stops b k j (undoes ∷ l) q s = inr (b ∷ [], ap (λ (r : List Entry). go-on r b (suc k) .behind) (sym q) ∙ ap (stop b) s)
   step-stops b k j (model a ∷ l) q s = inr ([], s)
   step-stops b k j (end ∷ l) q s = inr ([], s)
 
@@ -106,10 +106,10 @@ module _ (T : Task) where
     where
       at : (b : ℕ) (l : List Entry) → drop k (plain-walk T) ≡ l → Stops k (go-on l 1 k .behind) (go-on l b k .behind)
       at b [] q = inl refl
-      at zero (assign x e ∷ l) q = inl refl
-      at (suc b) (assign x e ∷ l) q = step-stops b k _ l (drop-next k (plain-walk T) q) refl
-      at zero (undo ∷ l) q = inl refl
-      at (suc b) (undo ∷ l) q = step-stops b k _ l (drop-next k (plain-walk T) q) refl
+      at zero (assigns x e ∷ l) q = inl refl
+      at (suc b) (assigns x e ∷ l) q = step-stops b k _ l (drop-next k (plain-walk T) q) refl
+      at zero (undoes ∷ l) q = inl refl
+      at (suc b) (undoes ∷ l) q = step-stops b k _ l (drop-next k (plain-walk T) q) refl
       at b (model a ∷ l) q = inr ([], refl)
       at b (end ∷ l) q = inr ([], refl)
 
@@ -142,8 +142,8 @@ module _ (T : Task) where
         at ih (inl z) = ih (rw z at e)
         at ih (inr w) = later (w .0 ++ bs) (rw (state-append (w .0) bs (stop 1 k), ← w .1) e)
 
-    not-here : (k : ℕ) → same (checkpoint-after T k) c ≡ false → checkpoint-after T k ≡ c → ⊥
-    not-here k h e = clash (same-self c) (rw e at h)
+    not-here : (k : ℕ) → same-checkpoint (checkpoint-after T k) c ≡ false → checkpoint-after T k ≡ c → ⊥
+    not-here k h e = bool-clash (same-self c) (rw e at h)
 
     nearer : (f k : ℕ) → length (plain-walk T) ≤ k + suc f → length (plain-walk T) ≤ stop 1 k + f
     nearer f k h = at (ltb k (length (plain-walk T))) refl
@@ -155,14 +155,14 @@ module _ (T : Task) where
     -- where the search finds nothing, no calls return c
     missed : (f k : ℕ) → length (plain-walk T) ≤ k + f → locate-from T c f k ≡ nowhere → Never k
     unfolding locate-from
-    missed zero k h q = at (same (checkpoint-after T k) c) refl q
+    missed zero k h q = at (same-checkpoint (checkpoint-after T k) c) refl q
       where
-        at : (x : Bool) → same (checkpoint-after T k) c ≡ x → cond x (at-state k) nowhere ≡ nowhere → Never k
+        at : (x : Bool) → same-checkpoint (checkpoint-after T k) c ≡ x → cond x (at-state k) nowhere ≡ nowhere → Never k
         at true s z = let y : _≡_ {A = ℕ} 0 1 = cc in absurd (omega arith)
         at false s z = λ bs e. not-here k s (rw (state-past bs k (omega arith)) at e)
-    missed (suc f) k h q = at (missed f (stop 1 k)) (same (checkpoint-after T k) c) refl q
+    missed (suc f) k h q = at (missed f (stop 1 k)) (same-checkpoint (checkpoint-after T k) c) refl q
       where
-        at : (length (plain-walk T) ≤ stop 1 k + f → locate-from T c f (stop 1 k) ≡ nowhere → Never (stop 1 k)) → (x : Bool) → same (checkpoint-after T k) c ≡ x
+        at : (length (plain-walk T) ≤ stop 1 k + f → locate-from T c f (stop 1 k) ≡ nowhere → Never (stop 1 k)) → (x : Bool) → same-checkpoint (checkpoint-after T k) c ≡ x
             → cond x (at-state k) (locate-from T c f (stop 1 k)) ≡ nowhere → Never k
         at ih true s z = let y : _≡_ {A = ℕ} 0 1 = cc in absurd (omega arith)
         at ih false s z = never-step k (not-here k s) (ih (nearer f k h) z)
@@ -171,20 +171,20 @@ module _ (T : Task) where
     abbrev Stands : ℕ → ℕ → Type 0
     Stands k j = (bs : List ℕ) × (state-after T k bs ≡ j) × (checkpoint-after T j ≡ c)
 
-    here : (k j : ℕ) → same (checkpoint-after T k) c ≡ true → at-state k ≡ at-state j → Stands k j
+    here : (k j : ℕ) → same-checkpoint (checkpoint-after T k) c ≡ true → at-state k ≡ at-state j → Stands k j
     unfolding state-after
     here k j s z = let e : k ≡ j = cc in ([], e, rw e at (same-is _ c s))
 
     found : (f k j : ℕ) → locate-from T c f k ≡ at-state j → Stands k j
     unfolding locate-from state-after
-    found zero k j q = at (same (checkpoint-after T k) c) refl q
+    found zero k j q = at (same-checkpoint (checkpoint-after T k) c) refl q
       where
-        at : (x : Bool) → same (checkpoint-after T k) c ≡ x → cond x (at-state k) nowhere ≡ at-state j → Stands k j
+        at : (x : Bool) → same-checkpoint (checkpoint-after T k) c ≡ x → cond x (at-state k) nowhere ≡ at-state j → Stands k j
         at true s z = here k j s z
         at false s z = let y : _≡_ {A = ℕ} 0 1 = cc in absurd (omega arith)
-    found (suc f) k j q = at (found f (stop 1 k) j) (same (checkpoint-after T k) c) refl q
+    found (suc f) k j q = at (found f (stop 1 k) j) (same-checkpoint (checkpoint-after T k) c) refl q
       where
-        at : (locate-from T c f (stop 1 k) ≡ at-state j → Stands (stop 1 k) j) → (x : Bool) → same (checkpoint-after T k) c ≡ x
+        at : (locate-from T c f (stop 1 k) ≡ at-state j → Stands (stop 1 k) j) → (x : Bool) → same-checkpoint (checkpoint-after T k) c ≡ x
             → cond x (at-state k) (locate-from T c f (stop 1 k)) ≡ at-state j → Stands k j
         at ih true s z = here k j s z
         at ih false s z = let w = ih z in (1 ∷ w .0, w .1, w .2)

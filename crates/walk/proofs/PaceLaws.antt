@@ -8,12 +8,12 @@ use native.Mathlib.Omega.{arith}
 use Rattle.walk.specs.Plain.{Entry, model, end}
 use Rattle.walk.specs.PlainMachine.{Answer, found, spent, ended}
 use Rattle.walk.specs.Checkpoints.{checkpoint-of}
-use Rattle.walk.specs.WalkCall.{kind-of}
+use Rattle.walk.specs.WalkCall.{answer-kind}
 use Rattle.walk.specs.Gaps.{gap-after, gaps-from, gaps, common, PacedLater, Paced}
 use Rattle.walk.specs.InnerStack.{Stack, empty, push, depth, Tree}
 use Rattle.walk.specs.InnerMachine.{Position, down, full, back, over, Resumed, resume}
 use Rattle.walk.specs.InnerTest.{stack-of, shown}
-use Rattle.walk.proofs.RestLaws.{Replayed, replayed-depth, Ok, Live, from-full, from-back, k-model, k-assign, k-turn, k-undo, k-end}
+use Rattle.walk.proofs.RestLaws.{Replayed, replayed-depth, Reachable, Live, from-full, from-back, k-model, k-assign, k-true, k-undo, k-end}
 use Rattle.walk.proofs.RestLaws as rests
 use Rattle.walk.proofs.CallLaws.{Steps, s-assign, s-undo, call-ind, call-effect, resumes, results}
 use Rattle.walk.proofs.CostLaws.{step-cheap}
@@ -23,9 +23,9 @@ use Rattle.walk.proofs.PartingLaws.{trail-bytes, Begins, b-same, b-more
 -- end; behind a model Then starts anew.
 module _ (K : Tree) (L : Live K) (Now : ℕ → ℕ → Position → Type 0) (Then : Stack → ℕ → ℕ → Position → Type 0) (Hit : ℕ → ℕ → Stack → Type 0) (Stop : ℕ → ℕ → Type 0) where
   record Kept : Type 0 where
-    stepping : (p : Position) (x : Entry) (y : ℕ) (q : Position) (c e : ℕ) → Ok K p → rests.Kind K p x q → Steps x y → Now c e p → Now (suc c) (e + y) q
-    hitting : (p : Position) (a : ℕ) (q : Position) (c e : ℕ) → Ok K p → rests.Kind K p (model a) q → Now c e p → Hit c e (stack-of q) × Then (stack-of q) 0 0 q
-    stopping : (p q : Position) (c e : ℕ) → Ok K p → rests.Kind K p end q → Now c e p → Stop c e
+    stepping : (p : Position) (x : Entry) (y : ℕ) (q : Position) (c e : ℕ) → Reachable K p → rests.Kind K p x q → Steps x y → Now c e p → Now (suc c) (e + y) q
+    hitting : (p : Position) (a : ℕ) (q : Position) (c e : ℕ) → Reachable K p → rests.Kind K p (model a) q → Now c e p → Hit c e (stack-of q) × Then (stack-of q) 0 0 q
+    stopping : (p q : Position) (c e : ℕ) → Reachable K p → rests.Kind K p end q → Now c e p → Stop c e
     never-over : (c e : ℕ) → Now c e over → ⊥
 
   abbrev Paces : Answer → Position → ℕ → ℕ → Type 0
@@ -42,7 +42,7 @@ module _ (K : Tree) (L : Live K) (Now : ℕ → ℕ → Position → Type 0) (Th
   one-more : (a : Answer) (q : Position) (c e m s y : ℕ) → Paces a q (suc c + m) (e + y + s) → Paces a q (c + suc m) (e + (y + s))
   one-more a q c e m s y h = let i : c + suc m ≡ suc c + m = omega arith in let j : e + (y + s) ≡ e + y + s = omega arith in rw (i, j) h
 
-  call-paces : Kept → (b : ℕ) (p : Position) → Ok K p → Good b p (resume K b p)
+  call-paces : Kept → (b : ℕ) (p : Position) → Reachable K p → Good b p (resume K b p)
   call-paces k = call-ind K L Good
       (λ b c e i. absurd (k .never-over c e i))
       (λ b p a q o g c e i. no-more (found a) q c e (k .hitting p a q c e o (g .kind) i))
@@ -89,13 +89,13 @@ module _ (K : Tree) (L : Live K) (B : ℕ) (cheap : (t : Stack) → K .choose t 
   rose-up : (u : Stack) (c v : ℕ) (b : Bool) (t : Stack) → Replayed K (push v b t) → Begins (push v b t) u → c + depth t ≡ K .size → Rose K B u c b t
   rose-up u c v b t r h n = record { had = subst (λ (x : ℕ). Begins (push x b t) u) (r .2) h; count = n }
 
-  later-pausing : (p : Position) (u : Stack) (c e : ℕ) → Ok K p → later K B u c e p → (c ≤ 2 * K .size) × (e ≤ K .size * B)
+  later-pausing : (p : Position) (u : Stack) (c e : ℕ) → Reachable K p → later K B u c e p → (c ≤ 2 * K .size) × (e ≤ K .size * B)
   later-pausing (down t) u c e o i = let d = replayed-depth K t o in let w = mul-le-mul-right B d in (omega (arith, i .0 .count), omega arith)
   later-pausing (full t) u c e o i = (omega arith, omega arith)
   later-pausing (back b t) u c e o i = (omega (arith, i .0 .count), omega arith)
   later-pausing over u c e o i = absurd i
 
-  first-pausing : (p : Position) (c e : ℕ) → Ok K p → first K B c e p → (c ≤ K .size) × (e ≤ K .size * B)
+  first-pausing : (p : Position) (c e : ℕ) → Reachable K p → first K B c e p → (c ≤ K .size) × (e ≤ K .size * B)
   first-pausing (down t) c e o i = let d = replayed-depth K t o in let w = mul-le-mul-right B d in (omega arith, omega arith)
   first-pausing (full t) c e o i = absurd i
   first-pausing (back b t) c e o i = absurd i
@@ -104,14 +104,14 @@ module _ (K : Tree) (L : Live K) (B : ℕ) (cheap : (t : Stack) → K .choose t 
   later-kept : (u : Stack) → Kept K L (later K B u) (later K B) (HitLater K B u) (StopLast K B)
   later-kept u = record { stepping = stepping; hitting = hitting; stopping = stopping; never-over = λ c e i. i }
     where
-      stepping : (p : Position) (x : Entry) (y : ℕ) (q : Position) (c e : ℕ) → Ok K p → rests.Kind K p x q → Steps x y → later K B u c e p → later K B u (suc c) (e + y) q
+      stepping : (p : Position) (x : Entry) (y : ℕ) (q : Position) (c e : ℕ) → Reachable K p → rests.Kind K p x q → Steps x y → later K B u c e p → later K B u (suc c) (e + y) q
       stepping p x y q c e o (k-model h) m i = elim m [ ]
       stepping p x y q c e o (k-assign {t} b h) (s-assign l y′) i =
           let z = step-cheap B (K .choose t) b (cheap t) in
           let w = i .0 in
           let k = w .count in
           (record { at = w .at; variable = w .variable; had = w .had; has = b-more _ b (w .has); count = omega arith }, omega (arith, suc-mul (depth t) B, i .1))
-      stepping p x y q c e o (k-turn {t} h) (s-assign l y′) i =
+      stepping p x y q c e o (k-true {t} h) (s-assign l y′) i =
           let z = step-cheap B (K .choose t) true (cheap t) in
           let k = i .0 .count in
           (record { at = t; variable = K .choose t .variable; had = i .0 .had; has = b-same; count = omega arith }, omega (arith, suc-mul (depth t) B, i .1))
@@ -122,7 +122,7 @@ module _ (K : Tree) (L : Live K) (B : ℕ) (cheap : (t : Stack) → K .choose t 
           (rose-up u (suc c) v b t (o .0) (begins-less (i .0 .had)) (omega arith), omega (arith, i .1))
       stepping p x y q c e o (k-end h) m i = elim m [ ]
 
-      hitting : (p : Position) (a : ℕ) (q : Position) (c e : ℕ) → Ok K p → rests.Kind K p (model a) q → later K B u c e p
+      hitting : (p : Position) (a : ℕ) (q : Position) (c e : ℕ) → Reachable K p → rests.Kind K p (model a) q → later K B u c e p
           → HitLater K B u c e (stack-of q) × later K B (stack-of q) 0 0 q
       hitting p a q c e o (k-model {t} h) i =
           let w = i .0 in
@@ -131,40 +131,40 @@ module _ (K : Tree) (L : Live K) (B : ℕ) (cheap : (t : Stack) → K .choose t 
           let d = begins-depth (w .has) in
           ((omega arith, omega arith, subst (λ (m : ℕ). e ≤ m * B) h (i .1)), (refl, refl, refl))
 
-      stopping : (p q : Position) (c e : ℕ) → Ok K p → rests.Kind K p end q → later K B u c e p → StopLast K B c e
+      stopping : (p q : Position) (c e : ℕ) → Reachable K p → rests.Kind K p end q → later K B u c e p → StopLast K B c e
       stopping p q c e o (k-end (from-full h)) i = (omega (arith, i .1), i .2)
       stopping p q c e o (k-end (from-back x h)) i = let k = i .0 .count in (omega arith, i .1)
 
   first-kept : Kept K L (first K B) (later K B) (HitFirst K B) (λ c e. ⊥)
   first-kept = record { stepping = stepping; hitting = hitting; stopping = stopping; never-over = λ c e i. i }
     where
-      stepping : (p : Position) (x : Entry) (y : ℕ) (q : Position) (c e : ℕ) → Ok K p → rests.Kind K p x q → Steps x y → first K B c e p → first K B (suc c) (e + y) q
+      stepping : (p : Position) (x : Entry) (y : ℕ) (q : Position) (c e : ℕ) → Reachable K p → rests.Kind K p x q → Steps x y → first K B c e p → first K B (suc c) (e + y) q
       stepping p x y q c e o (k-model h) m i = elim m [ ]
       stepping p x y q c e o (k-assign {t} b h) (s-assign l y′) i =
           let z = step-cheap B (K .choose t) b (cheap t) in (omega arith, omega (arith, suc-mul (depth t) B))
-      stepping p x y q c e o (k-turn h) m i = absurd i
+      stepping p x y q c e o (k-true h) m i = absurd i
       stepping p x y q c e o (k-undo v b (from-full h)) m i = absurd i
       stepping p x y q c e o (k-undo v b (from-back d h)) m i = absurd i
       stepping p x y q c e o (k-end h) m i = elim m [ ]
 
-      hitting : (p : Position) (a : ℕ) (q : Position) (c e : ℕ) → Ok K p → rests.Kind K p (model a) q → first K B c e p
+      hitting : (p : Position) (a : ℕ) (q : Position) (c e : ℕ) → Reachable K p → rests.Kind K p (model a) q → first K B c e p
           → HitFirst K B c e (stack-of q) × later K B (stack-of q) 0 0 q
       hitting p a q c e o (k-model h) i = ((omega arith, subst (λ (m : ℕ). e ≤ m * B) h (i .1)), (refl, refl, refl))
 
-      stopping : (p q : Position) (c e : ℕ) → Ok K p → rests.Kind K p end q → first K B c e p → ⊥
+      stopping : (p q : Position) (c e : ℕ) → Reachable K p → rests.Kind K p end q → first K B c e p → ⊥
       stopping p q c e o (k-end (from-full h)) i = i
       stopping p q c e o (k-end (from-back x h)) i = i
 
   later-after : (a : Answer) (u : Stack) (q : Position) (c e : ℕ) (bs : List ℕ) → Paces K L (later K B u) (later K B) (HitLater K B u) (StopLast K B) a q c e
       → ((u : Stack) (c e : ℕ) → later K B u c e q → PacedLater (K .size) B (trail-bytes u) (gaps-from c e (results K L q bs)))
       → PacedLater (K .size) B (trail-bytes u)
-      (gap-after (kind-of a) c e (shown q .bytes) (λ c′ e′. gaps-from c′ e′ (results K L q bs)))
+      (gap-after (answer-kind a) c e (shown q .bytes) (λ c′ e′. gaps-from c′ e′ (results K L q bs)))
   unfolding checkpoint-of
   later-after (found m) u q c e bs h ih = (h .0 .0, h .0 .1, h .0 .2, ih (stack-of q) 0 0 (h .1))
   later-after spent u q c e bs h ih = ih u c e h
   later-after ended u q c e bs h ih = (h .0, h .1, tt)
 
-  later-paced : (bs : List ℕ) (p : Position) (u : Stack) (c e : ℕ) → Ok K p → later K B u c e p
+  later-paced : (bs : List ℕ) (p : Position) (u : Stack) (c e : ℕ) → Reachable K p → later K B u c e p
       → PacedLater (K .size) B (trail-bytes u) (gaps-from c e (results K L p bs))
   unfolding resumes gaps-from
   later-paced [] p u c e o i = let w = later-pausing p u c e o i in (w .0, w .1, tt)
@@ -173,15 +173,15 @@ module _ (K : Tree) (L : Live K) (B : ℕ) (cheap : (t : Stack) → K .choose t 
       later-after (r .answer) u (r .position) _ _ bs (call-paces K L _ _ _ _ (later-kept u) b p o c e i)
       (λ u′ c′ e′ i′. later-paced bs (resume K b p .position) u′ c′ e′ (call-effect K L b p o .fine) i′)
 
-  first-after : (a : Answer) (q : Position) (c e : ℕ) (bs : List ℕ) → Ok K q → Paces K L (first K B) (later K B) (HitFirst K B) (λ c e. ⊥) a q c e
+  first-after : (a : Answer) (q : Position) (c e : ℕ) (bs : List ℕ) → Reachable K q → Paces K L (first K B) (later K B) (HitFirst K B) (λ c e. ⊥) a q c e
       → ((c e : ℕ) → first K B c e q → Paced (K .size) B (gaps-from c e (results K L q bs)))
-      → Paced (K .size) B (gap-after (kind-of a) c e (shown q .bytes) (λ c′ e′. gaps-from c′ e′ (results K L q bs)))
+      → Paced (K .size) B (gap-after (answer-kind a) c e (shown q .bytes) (λ c′ e′. gaps-from c′ e′ (results K L q bs)))
   unfolding checkpoint-of
   first-after (found m) q c e bs o h ih = (h .0 .0, h .0 .1, later-paced bs q (stack-of q) 0 0 o (h .1))
   first-after spent q c e bs o h ih = ih c e h
   first-after ended q c e bs o h ih = absurd h
 
-  first-paced : (bs : List ℕ) (p : Position) (c e : ℕ) → Ok K p → first K B c e p → Paced (K .size) B (gaps-from c e (results K L p bs))
+  first-paced : (bs : List ℕ) (p : Position) (c e : ℕ) → Reachable K p → first K B c e p → Paced (K .size) B (gaps-from c e (results K L p bs))
   unfolding resumes gaps-from
   first-paced [] p c e o i = first-pausing p c e o i
   first-paced (b ∷ bs) p c e o i =

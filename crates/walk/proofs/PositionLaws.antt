@@ -9,12 +9,12 @@ use lib.Dec.{eqb}
 use lib.ListN.{length, length-append}
 use borrow.Author.Tests.{eq-eqb}
 use Rattle.formula.specs.Format.{Literal}
-use Rattle.walk.specs.Plain.{Entry, assign, undo, model, end}
+use Rattle.walk.specs.Plain.{Entry, assigns, undoes, model, end}
 use Rattle.walk.specs.Checkpoints.{Behind, without-last, last-value, past}
 use Rattle.walk.specs.InnerStack.{Stack, empty, push, depth, trail-of, Tree}
 use Rattle.walk.specs.InnerMachine.{Position, down, full, back, over, hands, descend, next}
 use Rattle.walk.specs.InnerTest.{mode-of, stack-of, position-of}
-use Rattle.walk.proofs.RestLaws.{Quiet, Stops, Ok, Rising, from-full, from-back, Kind, k-model, k-assign, k-turn, k-undo, k-end}
+use Rattle.walk.proofs.RestLaws.{Pauses, Stops, Reachable, Rising, from-full, from-back, Kind, k-model, k-assign, k-true, k-undo, k-end}
 
 -- the last literal is dropped
 pub without-last-snoc : (t : List Literal) (l : Literal) → without-last (t ++ (l ∷ [])) ≡ t
@@ -41,7 +41,7 @@ abbrev pub behind-of : Position → Behind
 behind-of p = record { mode = mode-of p; trail = trail-of (stack-of p) }
 
 module _ (K : Tree) where
-  undo-past : (p : Position) (v : ℕ) (b : Bool) (t : Stack) → stack-of p ≡ push v b t → past (behind-of p) undo ≡ behind-of (back b t)
+  undo-past : (p : Position) (v : ℕ) (b : Bool) (t : Stack) → stack-of p ≡ push v b t → past (behind-of p) undoes ≡ behind-of (back b t)
   unfolding trail-of
   undo-past p v b t e = rw (e, last-value-snoc, without-last-snoc)
 
@@ -54,16 +54,16 @@ module _ (K : Tree) where
   unfolding trail-of
   past-next (k-model h) = refl
   past-next (k-assign b h) = refl
-  past-next (k-turn h) = refl
+  past-next (k-true h) = refl
   past-next {p} (k-undo v b {t} r) = undo-past p v b t (rising-stack r)
   past-next (k-end r) = refl
 
   -- behind a model or the end a call can stop
-  abbrev pub Lands : Entry → Position → Type 0
-  Lands (assign l e) p = Unit {0}
-  Lands undo p = Unit {0}
-  Lands (model a) p = Stops K p
-  Lands end p = Stops K p
+  abbrev pub StopsBehind : Entry → Position → Type 0
+  StopsBehind (assigns l e) p = Unit {0}
+  StopsBehind undoes p = Unit {0}
+  StopsBehind (model a) p = Stops K p
+  StopsBehind end p = Stops K p
 
   -- where the model is handed out a call can stop
   pub full-stops : (t : Stack) → depth t ≡ K .size → Stops K (full t)
@@ -72,22 +72,22 @@ module _ (K : Tree) where
   full-stops (push v b t) h = inr tt
 
   -- the position behind a model or the end
-  pub lands : {p q : Position} {e : Entry} → Kind K p e q → Lands e q
+  pub stops-behind : {p q : Position} {e : Entry} → Kind K p e q → StopsBehind e q
   unfolding next
-  lands (k-model {t} h) = full-stops t h
-  lands (k-assign b h) = tt
-  lands (k-turn h) = tt
-  lands (k-undo v b r) = tt
-  lands (k-end r) = inr tt
+  stops-behind (k-model {t} h) = full-stops t h
+  stops-behind (k-assign b h) = tt
+  stops-behind (k-true h) = tt
+  stops-behind (k-undo v b r) = tt
+  stops-behind (k-end r) = inr tt
 
   -- where a call can stop, the mode and the trail give the position back
-  pub position-back : (p : Position) → Ok K p → Stops K p → position-of (K .size) (mode-of p) (stack-of p) ≡ p
+  pub position-back : (p : Position) → Reachable K p → Stops K p → position-of (K .size) (mode-of p) (stack-of p) ≡ p
   unfolding next
   position-back (down empty) r q = refl
   position-back (down (push v b t)) r (inl z) = absurd (omega (arith, r .1))
   position-back (down (push v b t)) r (inr q) = at (eqb (suc (depth t)) (K .size)) q
     where
-      at : (x : Bool) → Quiet (cond x (hands (K .result (push v b t)) (full (push v b t))) (descend (K .choose (push v b t)) (push v b t)))
+      at : (x : Bool) → Pauses (cond x (hands (K .result (push v b t)) (full (push v b t))) (descend (K .choose (push v b t)) (push v b t)))
           → cond x (full (push v b t)) (down (push v b t)) ≡ down (push v b t)
       at true q = absurd q
       at false q = refl

@@ -17,7 +17,7 @@ use Rattle.walk.specs.Proper.{ByChoice, ModeFits, Proper}
 use Rattle.walk.specs.InnerStack.{Stack, empty, push, depth, trail-of, tree}
 use Rattle.walk.specs.InnerMachine.{Position}
 use Rattle.walk.specs.InnerTest.{mode-of, stack-of, shown, is-empty, replays, fits}
-use Rattle.walk.proofs.RestLaws.{Stops, Replayed, replayed-depth, Ok, Live}
+use Rattle.walk.proofs.RestLaws.{Stops, Replayed, replayed-depth, Reachable, Live}
 use Rattle.walk.proofs.PositionLaws.{length-trail}
 use Rattle.walk.proofs.TestLaws.{replayed-replays, fits-stop, stop-fits}
 use Rattle.walk.proofs.AcceptLaws.{mode-le, stack-replayed}
@@ -127,7 +127,7 @@ module _ (T : Task) where
 
   module _ (L : Live (tree T)) where
     -- the checkpoint of a position at which a call can stop is proper
-    shown-proper : (p : Position) → Ok (tree T) p → Stops (tree T) p → Proper T (shown p)
+    shown-proper : (p : Position) → Reachable (tree T) p → Stops (tree T) p → Proper T (shown p)
     unfolding checkpoint-of
     shown-proper p o q =
         let r = stack-replayed (tree T) p o in
@@ -142,11 +142,11 @@ module _ (T : Task) where
         }
 
     -- the same of any checkpoint
-    pub stop-proper : (p : Position) (c : Checkpoint) → Ok (tree T) p → Stops (tree T) p → shown p ≡ c → Proper T c
+    pub stop-proper : (p : Position) (c : Checkpoint) → Reachable (tree T) p → Stops (tree T) p → shown p ≡ c → Proper T c
     stop-proper p c o q e = subst (Proper T) e (shown-proper p o q)
 
     -- a proper checkpoint is one of a position at which a call can stop
-    pub proper-stop : (c : Checkpoint) → Proper T c → (p : Position) × Ok (tree T) p × Stops (tree T) p × (shown p ≡ c)
+    pub proper-stop : (c : Checkpoint) → Proper T c → (p : Position) × Reachable (tree T) p × Stops (tree T) p × (shown p ≡ c)
     unfolding trail-of
     proper-stop c w =
         let u = stacked empty (w .trail) in

@@ -17,7 +17,7 @@ use Rattle.matched.proofs.AcceptanceLaws.{accepted-is, pairs-accepted, unpaired
 use Rattle.walk.specs.Task.{whole, Posed}
 use Rattle.walk.specs.Checkpoints.{Checkpoint, start}
 use Rattle.walk.specs.WalkCall.{says-refused, Result, refusing, task-call, walk-call, walk-calls}
-use Rattle.walk.proofs.FormulaLaws.{calls-unrefused}
+use Rattle.walk.proofs.TaskLaws.{calls-unrefused}
 use Rattle.walk.proofs.WholeLaws.{whole-posed}
 
 -- a declined input gets its refusal

@@ -12,7 +12,7 @@ use Rattle.walk.specs.PlainMachine.{plain-call}
 use Rattle.walk.specs.WalkCall.{Result, Located, at-state, nowhere, located, walk-call}
 use Rattle.walk.specs.InnerStack.{tree}
 use Rattle.walk.specs.InnerCall.{resumed-call}
-use Rattle.walk.proofs.FormulaLaws.{call-is, call-tested, after-bytes}
+use Rattle.walk.proofs.TaskLaws.{call-is, call-tested, after-bytes}
 use Rattle.walk.proofs.RefusalLaws.{call-declined, call-accepted, accepted-posed}
 
 module _ (s : List ℕ) (c : Checkpoint) (b : ℕ) (whole-bytes : length (c .bytes) ≡ max-variables) where

@@ -10,7 +10,7 @@ use Rattle.lists.proofs.TestLaws.{and-left, and-right, and-both}
 use Rattle.walk.specs.InnerStack.{Stack, empty, push, depth, Tree}
 use Rattle.walk.specs.InnerMachine.{Position, down, full, back, over, rise, enter, next}
 use Rattle.walk.specs.InnerTest.{mode-of, stack-of, is-empty, replays, fits}
-use Rattle.walk.proofs.RestLaws.{Quiet, Stops, Replayed, Ok, Live}
+use Rattle.walk.proofs.RestLaws.{Pauses, Stops, Replayed, Reachable, Live}
 use Rattle.walk.proofs.PositionLaws.{full-stops}
 use Rattle.walk.proofs.MetLaws.{down-quiet, start-stops}
 
@@ -38,7 +38,7 @@ module _ (K : Tree) where
   -- a position with this mode and trail, at which a call can stop
   pub record Stop (m : ℕ) (t : Stack) : Type 0 where
     pub position : Position
-    pub fine : Ok K position
+    pub fine : Reachable K position
     pub stops : Stops K position
     pub mode : mode-of position ≡ m
     pub stack : stack-of position ≡ t
@@ -75,7 +75,7 @@ module _ (K : Tree) where
         stack = refl;
       }
     where
-      at : (x : Bool) (u : Stack) → (not (is-empty u) || x) ≡ true → Quiet (cond x (enter 0 (K .choose t) true t) (rise u))
+      at : (x : Bool) (u : Stack) → (not (is-empty u) || x) ≡ true → Pauses (cond x (enter 0 (K .choose t) true t) (rise u))
       at true u h = tt
       at false empty h = absurd (false≢true h)
       at false (push v b u) h = tt
@@ -90,7 +90,7 @@ module _ (K : Tree) where
         stack = refl;
       }
     where
-      at : (u : Stack) → not (is-empty u) ≡ true → Quiet (rise u)
+      at : (u : Stack) → not (is-empty u) ≡ true → Pauses (rise u)
       at empty h = absurd (false≢true h)
       at (push v b u) h = tt
   fits-stop L (suc (suc (suc (suc zero)))) empty h e = record { position = over; fine = tt; stops = inr (unfold next in tt); mode = refl; stack = refl }
@@ -98,7 +98,7 @@ module _ (K : Tree) where
   fits-stop L (suc (suc (suc (suc (suc m))))) t h e = absurd (omega arith)
 
   -- and holds of each
-  pub stop-fits : Live K → (p : Position) → Ok K p → Stops K p → fits K (mode-of p) (stack-of p) ≡ true
+  pub stop-fits : Live K → (p : Position) → Reachable K p → Stops K p → fits K (mode-of p) (stack-of p) ≡ true
   unfolding fits next replays
   stop-fits L (down empty) o q = refl
   stop-fits L (down (push v b t)) o q = replayed-replays (push v b t) o
@@ -108,7 +108,7 @@ module _ (K : Tree) where
   stop-fits L (back false t) o (inr q) =
       and-both _ _ (replayed-replays t (o .0)) (and-both _ _ (lt-ltb _ _ (o .1)) (and-both _ _ (o .2) (at t (K .choose t .true_open) q)))
     where
-      at : (u : Stack) (x : Bool) → Quiet (cond x (enter 0 (K .choose t) true t) (rise u)) → (not (is-empty u) || x) ≡ true
+      at : (u : Stack) (x : Bool) → Pauses (cond x (enter 0 (K .choose t) true t) (rise u)) → (not (is-empty u) || x) ≡ true
       at empty true h = refl
       at empty false h = absurd h
       at (push v b u) x h = refl
@@ -116,7 +116,7 @@ module _ (K : Tree) where
   stop-fits L (back true t) o (inr q) =
       and-both _ _ (replayed-replays t (o .0)) (and-both _ _ (lt-ltb _ _ (o .1)) (and-both _ _ (o .2) (at t q)))
     where
-      at : (u : Stack) → Quiet (rise u) → not (is-empty u) ≡ true
+      at : (u : Stack) → Pauses (rise u) → not (is-empty u) ≡ true
       at empty h = absurd h
       at (push v b u) h = refl
   stop-fits L over o q = refl

@@ -11,7 +11,7 @@ use lib.Dec.{eqb}
 use lib.ListN.{length}
 use borrow.Author.Tests.{eqb-true}
 use Rattle.limits.specs.Limits.{max-variables}
-use Rattle.lists.proofs.TestLaws.{or-cases, or-none, or-right, look, clash}
+use Rattle.lists.proofs.TestLaws.{or-cases, or-none, or-right, bool-cases, bool-clash}
 use Rattle.masks.specs.Mask.{bit}
 use Rattle.masks.proofs.BitLaws.{bit-above}
 use Rattle.formula.specs.Format.{Literal, names, distinct}
@@ -23,7 +23,7 @@ use Rattle.splitting.specs.Terms.{Sound, Trail, Covers, ModelAt, Unassigned, As
 use Rattle.splitting.proofs.NodeLaws.{named-remaining, remaining-append}
 use Rattle.splitting.proofs.Theorems.{open-sound, sound-model, formula-below, remaining-snoc, trail-lacks, trail-full, full-model, open-means, choice-cost}
 use Rattle.walk.specs.Task.{Task, to-assign, ModelFor, Posed}
-use Rattle.walk.specs.Plain.{Entry, end, assignment, chosen, node-walk, plain-walk}
+use Rattle.walk.specs.Plain.{Entry, end, assignment, choice-literal, node-walk, plain-walk}
 use Rattle.walk.specs.InnerStack.{Stack, empty, push, depth, trail-of, tree}
 use Rattle.walk.proofs.RestLaws.{entries, walk, Replayed, replayed-ind, Live}
 use Rattle.walk.proofs.PositionLaws.{length-trail}
@@ -37,8 +37,8 @@ unfolding node-walk entries trail-of
 node-same T zero t = refl
 node-same T (suc k) t =
     let c = tree T .choose t in
-    let i : (b : Bool) → node-walk T k ((T .before ++ trail-of t) ++ (chosen c b ∷ [])) ≡ entries (tree T) k (push (c .variable) b t) =
-    λ b. ap (node-walk T k) (append-assoc (T .before) (trail-of t) (chosen c b ∷ [])) ∙ node-same T k (push (c .variable) b t) in
+    let i : (b : Bool) → node-walk T k ((T .before ++ trail-of t) ++ (choice-literal c b ∷ [])) ≡ entries (tree T) k (push (c .variable) b t) =
+    λ b. ap (node-walk T k) (append-assoc (T .before) (trail-of t) (choice-literal c b ∷ [])) ∙ node-same T k (push (c .variable) b t) in
     rw (i false, i true)
 
 -- and so of the whole
@@ -145,7 +145,7 @@ module _ (T : Task) (P : Posed T) where
       e = append-assoc (T .before) (trail-of t) (l ∷ [])
 
       own : (v : ℕ) → names (l ∷ []) v ≡ true → bit (T .scope) v ≡ true
-      own v k = ⊎-elim (λ q. rw (← eqb-true (l .variable) v q) (w .inside)) (λ q. clash q refl) (or-cases (eqb (l .variable) v) false k)
+      own v k = ⊎-elim (λ q. rw (← eqb-true (l .variable) v q) (w .inside)) (λ q. bool-clash q refl) (or-cases (eqb (l .variable) v) false k)
 
   node : (t : Stack) → Replayed (tree T) t → Node t
   node = replayed-ind (tree T) Node root (λ t r N h b o. child t N h b o)
@@ -158,7 +158,7 @@ module _ (T : Task) (P : Posed T) where
   pub trail-over : (t : Stack) → Replayed (tree T) t → Trail (T .variables) (assigned t)
   trail-over t r = node t r .trail
 
-  -- the chosen variable is below n and not assigned yet
+  -- the choice-literal variable is below n and not assigned yet
   pub choice-fresh : (t : Stack) → Replayed (tree T) t → depth t < to-assign T
       → (picked t .variable < T .variables) × (names (assigned t) (picked t .variable) ≡ false)
   choice-fresh t r h = let w = choosing t (node t r) h in (w .below, w .fresh)
@@ -231,25 +231,25 @@ module _ (T : Task) (P : Posed T) where
         model = full-model (T .variables) (T .scope) (T .clauses) (assigned t) (covered t) (full-assigns t N h) (N .sound) (assignment (assigned t)) g
             (λ v k. bit-above (T .variables) v (assignment (assigned t)) (assignment-lt (T .variables) (assigned t) (N .trail .below)) k);
         agrees = g;
-        within = λ v k. ⊎-elim (λ x. inr x) (λ x. clash k (assignment-none (assigned t) v x)) (look (names (assigned t) v));
+        within = λ v k. ⊎-elim (λ x. inr x) (λ x. bool-clash k (assignment-none (assigned t) v x)) (bool-cases (names (assigned t) v));
       }
 
   -- and no other model agrees with it
   full-one : (t : Stack) → Node t → depth t ≡ to-assign T → (a : ℕ) → ModelFor T a → Agrees a t → a ≡ assignment (assigned t)
   full-one t N h a m g =
       same-assignment (T .variables) (assigned t) (N .trail) a (model-lt (T .variables) (T .clauses) a (m .model)) (enter t a m g .agrees)
-      (λ v f. ⊎-elim (λ x. absurd (other v f (m .within v x))) (λ x. x) (look (bit a v)))
+      (λ v f. ⊎-elim (λ x. absurd (other v f (m .within v x))) (λ x. x) (bool-cases (bit a v)))
     where
       other : (v : ℕ) → names (assigned t) v ≡ false → (bit (T .scope) v ≡ true) ⊎ (names (T .before) v ≡ true) → ⊥
-      other v f (inl x) = clash (full-assigns t N h v x) f
-      other v f (inr x) = clash (names-append (T .before) (trail-of t) v ∙ rw x) f
+      other v f (inl x) = bool-clash (full-assigns t N h v x) f
+      other v f (inr x) = bool-clash (names-append (T .before) (trail-of t) v ∙ rw x) f
 
   -- a full trail is one model, and no model has a closed value
   pub splits : Splits (tree T) (ModelFor T)
   splits = record {
     full-model = λ t r h. let N = node t r in leave t N (assignment (assigned t)) (full-at t N h);
     full-only = λ t r h a m g. full-one t (node t r) h a m g;
-    shut = λ t r h b o a m g. true≢false (sym (model-open t r h b a m g) ∙ o);
+    closed-none = λ t r h b o a m g. true≢false (sym (model-open t r h b a m g) ∙ o);
   }
 
   -- one choice makes at most s × m × (m + 1) expansions, s the variables to assign, m the clauses

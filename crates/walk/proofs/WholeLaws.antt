@@ -8,7 +8,7 @@ use native.Mathlib.Omega.{arith}
 use lib.Dec.{ltb}
 use lib.Pow.{pow-pos}
 use borrow.Author.Tests.{lt-ltb, ltb-false}
-use Rattle.lists.proofs.TestLaws.{clash}
+use Rattle.lists.proofs.TestLaws.{bool-clash}
 use Rattle.masks.specs.Mask.{bit, full}
 use Rattle.masks.proofs.BitLaws.{bit-full}
 use Rattle.formula.specs.Format.{Literal, names, distinct, Sized}
@@ -46,4 +46,4 @@ module _ (n : ℕ) (cs : List (List Literal)) where
     where
       below : Model n cs a → (v : ℕ) → bit a v ≡ true → (x : Bool) → ltb v n ≡ x → bit (full n) v ≡ true
       below m v h true e = bit-full n v ∙ e
-      below m v h false e = clash h (m .none-above v (ltb-false v n e))
+      below m v h false e = bool-clash h (m .none-above v (ltb-false v n e))

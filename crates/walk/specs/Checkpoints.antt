@@ -7,7 +7,7 @@ use Rattle.lists.specs.Padded.{padded}
 use Rattle.formula.specs.Format.{Literal}
 use Rattle.limits.specs.Limits.{max-variables}
 use Rattle.walk.specs.Task.{Task}
-use Rattle.walk.specs.Plain.{Entry, assign, undo, model, end, plain-walk}
+use Rattle.walk.specs.Plain.{Entry, assigns, undoes, model, end, plain-walk}
 
 -- 'A marker has a mode, a length and 48 bytes'
 pub record Checkpoint : Type 0 where
@@ -52,8 +52,8 @@ undone-mode true = 3
 -- one entry more: '1 just settled', '4 ended, length 0'. A model leaves the trail as it is, and mode 1, which it has already where
 -- something was assigned
 abbrev pub past : Behind → Entry → Behind
-past p (assign l e) = record { mode = 1; trail = p .trail ++ (l ∷ []) }
-past p undo = record { mode = undone-mode (last-value (p .trail)); trail = without-last (p .trail) }
+past p (assigns l e) = record { mode = 1; trail = p .trail ++ (l ∷ []) }
+past p undoes = record { mode = undone-mode (last-value (p .trail)); trail = without-last (p .trail) }
 past p (model a) = record { mode = 1; trail = p .trail }
 past p end = record { mode = 4; trail = [] }
 

@@ -6,7 +6,7 @@ use lib.Dec.{eqb}
 use lib.ListN.{length}
 use Rattle.formula.specs.declared.Refusal.{Refusal}
 use Rattle.formula.specs.declared.Refusal.the-variants.{ForeignCheckpoint}
-use Rattle.formula.specs.Refusals.{listing}
+use Rattle.formula.specs.Refusals.{table-row}
 use Rattle.matched.specs.Acceptance.{Acceptance, accepted, declined, acceptance}
 use Rattle.walk.specs.Task.{Task, whole}
 use Rattle.walk.specs.Plain.{plain-walk}
@@ -14,15 +14,15 @@ use Rattle.walk.specs.Checkpoints.{Checkpoint, checkpoint-after}
 use Rattle.walk.specs.PlainMachine.{Answer, found, spent, ended, Call, plain-call}
 
 -- 'It answers one of four ways: a set-up, spent, ended, refused.'
-pub data Kind : Type 0 where
-  says-model : Kind
-  says-spent : Kind
-  says-ended : Kind
-  says-refused : Kind
+pub data AnswerKind : Type 0 where
+  says-model : AnswerKind
+  says-spent : AnswerKind
+  says-ended : AnswerKind
+  says-refused : AnswerKind
 
 -- 01's values of a result: the model, or 0; the refusal's number and place, or zeros; the steps, the expansions and the checkpoint
 pub record Result : Type 0 where
-  pub kind : Kind
+  pub kind : AnswerKind
   pub model : ℕ
   pub number : ℕ
   pub place : ℕ
@@ -31,10 +31,10 @@ pub record Result : Type 0 where
   pub checkpoint : Checkpoint
 
 -- how an answer is told
-abbrev pub kind-of : Answer → Kind
-kind-of (found a) = says-model
-kind-of spent = says-spent
-kind-of ended = says-ended
+abbrev pub answer-kind : Answer → AnswerKind
+answer-kind (found a) = says-model
+answer-kind spent = says-spent
+answer-kind ended = says-ended
 
 -- 'In spent and ended the set-up is 0.'
 abbrev pub model-of : Answer → ℕ
@@ -44,12 +44,12 @@ model-of ended = 0
 
 -- the values of an answer
 abbrev pub answered : Answer → ℕ → ℕ → Checkpoint → Result
-answered a s e c = record { kind = kind-of a; model = model-of a; number = 0; place = 0; steps = s; expansions = e; checkpoint = c }
+answered a s e c = record { kind = answer-kind a; model = model-of a; number = 0; place = 0; steps = s; expansions = e; checkpoint = c }
 
 -- 'A refusal carries its own number and place, and otherwise zeros: the marker comes back as handed in, set-up 0, moves 0, reaches 0.'
 abbrev pub refusing : Refusal → Checkpoint → Result
 refusing r c =
-    record { kind = says-refused; model = 0; number = listing r .number; place = listing r .place; steps = 0; expansions = 0; checkpoint = c }
+    record { kind = says-refused; model = 0; number = table-row r .number; place = table-row r .place; steps = 0; expansions = 0; checkpoint = c }
 
 -- what the plain machine gives, as a result
 abbrev pub plain-result : Task → Call → Result
@@ -57,16 +57,16 @@ plain-result T p = answered (p .answer) (p .steps) (p .expansions) (checkpoint-a
 
 -- ---- the state of a checkpoint
 
--- the same bytes
+-- the same-checkpoint bytes
 unfoldable pub same-bytes : List ℕ → List ℕ → Bool
 same-bytes [] [] = true
 same-bytes [] (y ∷ ys) = false
 same-bytes (x ∷ xs) [] = false
 same-bytes (x ∷ xs) (y ∷ ys) = eqb x y && same-bytes xs ys
 
--- the same checkpoint: 'a mode, a length and 48 bytes'
-unfoldable pub same : Checkpoint → Checkpoint → Bool
-same c d = eqb (c .mode) (d .mode) && (eqb (c .length) (d .length) && same-bytes (c .bytes) (d .bytes))
+-- the same-checkpoint checkpoint: 'a mode, a length and 48 bytes'
+unfoldable pub same-checkpoint : Checkpoint → Checkpoint → Bool
+same-checkpoint c d = eqb (c .mode) (d .mode) && (eqb (c .length) (d .length) && same-bytes (c .bytes) (d .bytes))
 
 -- where the plain machine has a checkpoint: at a state, which is how many entries lie behind; or nowhere
 pub data Located : Type 0 where
@@ -76,8 +76,8 @@ pub data Located : Type 0 where
 module _ (T : Task) (c : Checkpoint) where
   -- the first state with this checkpoint, from k on, by at most f calls of budget 1
   unfoldable pub locate-from : ℕ → ℕ → Located
-  locate-from zero k = cond (same (checkpoint-after T k) c) (at-state k) nowhere
-  locate-from (suc f) k = cond (same (checkpoint-after T k) c) (at-state k) (locate-from f (plain-call T 1 k .behind))
+  locate-from zero k = cond (same-checkpoint (checkpoint-after T k) c) (at-state k) nowhere
+  locate-from (suc f) k = cond (same-checkpoint (checkpoint-after T k) c) (at-state k) (locate-from f (plain-call T 1 k .behind))
 
   -- 'A sheet's walk has the start marker and those so returned on some list of budgets, and no others.' Calls of budget 1 stop wherever
   -- calls stop, and each leaves an entry more behind while one is ahead: as many calls as there are entries come to the end.

@@ -6,7 +6,7 @@ use borrow.Author.Needs.{needs}
 use Rattle.lists.specs.Tabulated.{tabulated}
 use Rattle.masks.specs.Mask.{bit}
 use Rattle.formula.specs.declared.Clause.{Clause}
-use Rattle.formula.specs.Masked.{named}
+use Rattle.formula.specs.Masked.{clause-variables}
 use Rattle.splitting.specs.InnerChoose.{clauses-in, unnamed}
 use Rattle.splitting.proofs.OpenClauseLaws.{unnamed-whole}
 use Rattle.splitting.proofs.first_named.Statement.{statement}
@@ -32,7 +32,7 @@ returns : tie.Need-returns Inv-loop μ-loop
 returns c =
     let l = c .before .before .before .before .before in
     let x = c .before .before .before .clause-at in
-    (l .loop .inv, λ h. ap (λ (d : Clause). bit (named d) (l .before .args .v)) (sym (x .ensures)) ∙ sym (c .before .member .ensures) ∙ c .if1 .taken)
+    (l .loop .inv, λ h. ap (λ (d : Clause). bit (clause-variables d) (l .before .args .v)) (sym (x .ensures)) ∙ sym (c .before .member .ensures) ∙ c .if1 .taken)
 
 add-i : tie.Need-add-i Inv-loop μ-loop
 add-i c = search needs
@@ -47,7 +47,7 @@ loop-again c =
     let x = c .before .before .before .clause-at in (
       omega arith,
       unnamed-whole (s .positives .now) (s .negatives .now) (s .count) (s .v) (l .loop .i) (omega arith)
-          (ap (λ (d : Clause). bit (named d) (s .v)) (sym (x .ensures)) ∙ sym (c .before .member .ensures) ∙ c .if1 .left) (l .loop .inv .1),
+          (ap (λ (d : Clause). bit (clause-variables d) (s .v)) (sym (x .ensures)) ∙ sym (c .before .member .ensures) ∙ c .if1 .left) (l .loop .inv .1),
     )
 
 returns-2 : tie.Need-returns-2 Inv-loop μ-loop

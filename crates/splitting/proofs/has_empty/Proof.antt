@@ -6,7 +6,7 @@ use mathlib.Core.Path.{_≡_, refl, sym, ap, _∙_}
 use borrow.Author.Needs.{needs}
 use borrow.Author.Tests.{not-true, not-false}
 use mathlib.Core.Bool.{false}
-use Rattle.formula.specs.Masked.{named}
+use Rattle.formula.specs.Masked.{clause-variables}
 use Rattle.splitting.specs.InnerChoose.{clauses-in, open-clauses, some-empty}
 use Rattle.splitting.proofs.OpenClauseLaws.{clause-read, open-gone, empty-found, empty-passed}
 use Rattle.splitting.proofs.has_empty.Statement.{statement}
@@ -41,7 +41,7 @@ returns c =
     let x = t .before .clause-at in
     sym (empty-found (clauses-in p q k) (l .before .args .a) (l .loop .i) (x .result) (clause-read p q k (l .loop .i) (omega arith) ∙ sym (x .ensures))
     (sym (t .is-satisfied .ensures) ∙ not-true _ (c .before .before .before .if1 .taken)) k (omega arith)
-    (ap named (sym (c .before .before .left .ensures)) ∙ c .if2 .taken))
+    (ap clause-variables (sym (c .before .before .left .ensures)) ∙ c .if2 .taken))
 
 add-i : tie.Need-add-i Inv-loop μ-loop
 add-i c = search needs
@@ -62,7 +62,7 @@ loop-again c =
     (λ w. (
       omega arith,
       empty-passed (clauses-in p q k) a (l .loop .i) (x .result) at (sym (c .before .is-satisfied .ensures) ∙ not-true _ (w .0 .taken)) (l .loop .inv .1)
-          (λ z. w .3 .left (ap named (w .1 .ensures) ∙ z)),
+          (λ z. w .3 .left (ap clause-variables (w .1 .ensures) ∙ z)),
     ))
     (λ w. (
       omega arith,

@@ -11,7 +11,7 @@ use Rattle.limits.specs.Limits.{max-variables}
 use Rattle.lists.specs.Distinct.{Distinct}
 use Rattle.lists.specs.Every.{Every}
 use Rattle.lists.proofs.PaddedLaws.{length-padded}
-use Rattle.lists.proofs.TestLaws.{clash}
+use Rattle.lists.proofs.TestLaws.{bool-clash}
 use Rattle.masks.specs.Mask.{bit}
 use Rattle.masks.proofs.SizeLaws.{size-le}
 use Rattle.formula.specs.declared.Refusal.the-variants.{ForeignCheckpoint}
@@ -19,10 +19,10 @@ use Rattle.formula.specs.Format.{Literal}
 use Rattle.splitting.specs.Terms as terms
 use Rattle.splitting.specs.Terms.{opened}
 use Rattle.walk.specs.Task.{Task, to-assign, choice-at, ModelFor, Posed}
-use Rattle.walk.specs.Plain.{Entry, assign, plain-walk, models-of, listing}
+use Rattle.walk.specs.Plain.{Entry, assigns, plain-walk, models-of, listing}
 use Rattle.walk.specs.Checkpoints.{Checkpoint, Behind, byte, checkpoint-of, start, past-all, behind, checkpoint-after}
 use Rattle.walk.specs.PlainMachine.{Answer, found, spent, ended, Call, plain-call, plain-calls, state-after, Has}
-use Rattle.walk.specs.WalkCall.{says-model, says-spent, says-ended, says-refused, Result, kind-of, answered, refusing, plain-result, Located, at-state, nowhere, located, by-state, task-call, walk-call, walk-calls, last-checkpoint}
+use Rattle.walk.specs.WalkCall.{says-model, says-spent, says-ended, says-refused, Result, answer-kind, answered, refusing, plain-result, Located, at-state, nowhere, located, by-state, task-call, walk-call, walk-calls, last-checkpoint}
 use Rattle.walk.specs.Gaps.{brought, SaysEnded, gaps, Paced, step-bound, ample-budget}
 use Rattle.walk.specs.Proper.{Proper}
 use Rattle.walk.specs.InnerStack.{Stack, empty, depth, trail-of, tree}
@@ -30,7 +30,7 @@ use Rattle.walk.specs.InnerMachine.{Position, down, over, next, resume}
 use Rattle.walk.specs.InnerTest.{stack-of, shown, read, position-of, accepts}
 use Rattle.walk.specs.InnerCall.{resumed-result, call-from}
 use Rattle.walk.proofs.LocateLaws.{located-stands, has-located}
-use Rattle.walk.proofs.RestLaws.{Stops, walk, node, up, rest, Replayed, replayed-depth, Ok, Live}
+use Rattle.walk.proofs.RestLaws.{Stops, walk, node, after-node, rest, Replayed, replayed-depth, Reachable, Live}
 use Rattle.walk.proofs.PositionLaws.{behind-of, length-trail}
 use Rattle.walk.proofs.AgreeLaws.{behind-after, At, at-start, at-every, Same, call-same}
 use Rattle.walk.proofs.ListingLaws.{walk-lists, walk-distinct, node-model}
@@ -55,7 +55,7 @@ module _ (T : Task) where
   at-checkpoint a = ap (λ (b : Behind). checkpoint-of (b .mode) (b .trail)) (at-behind a)
 
   rest-start : rest (tree T) (down empty) ≡ plain-walk T
-  unfolding rest node up walk
+  unfolding rest node after-node walk
   rest-start = rw sub-zero (sym (walk-same T))
 
 -- an input whose walk calls are those on a task
@@ -100,7 +100,7 @@ module _ (s : List ℕ) (T : Task) (P : Posed T) (walks : (c : Checkpoint) (b : 
   state-at [] k p a = a
   state-at (b ∷ bs) k p a = state-at bs (plain-call T b k .behind) (resume (tree T) b p .position) (plain-same b k p a .at)
 
-  state-stops : (bs : List ℕ) (p : Position) → Ok (tree T) p → Stops (tree T) p → Stops (tree T) (last-position (tree T) alive p bs)
+  state-stops : (bs : List ℕ) (p : Position) → Reachable (tree T) p → Stops (tree T) p → Stops (tree T) (last-position (tree T) alive p bs)
   unfolding last-position
   state-stops [] p o q = q
   state-stops (b ∷ bs) p o q = let e = call-effect (tree T) alive b p o in state-stops bs (resume (tree T) b p .position) (e .fine) (e .stops)
@@ -123,18 +123,18 @@ module _ (s : List ℕ) (T : Task) (P : Posed T) (walks : (c : Checkpoint) (b : 
   call-is c b x e = walks c b ∙ rw e refl
 
   -- the checkpoint of a position at which a call can stop is no other's
-  shown-one : (p q : Position) → Ok (tree T) p → Stops (tree T) p → Ok (tree T) q → Stops (tree T) q → shown p ≡ shown q → p ≡ q
+  shown-one : (p q : Position) → Reachable (tree T) p → Stops (tree T) p → Reachable (tree T) q → Stops (tree T) q → shown p ≡ shown q → p ≡ q
   shown-one p q o h r k e =
       sym (shown-position (tree T) alive small low p o h)
       ∙ ap (λ (c : Checkpoint). position-of (to-assign T) (c .mode) (read c)) e
       ∙ shown-position (tree T) alive small low q r k
 
   -- and the walk has it
-  stopped-has : (p : Position) → Ok (tree T) p → Stops (tree T) p → Has T (shown p)
+  stopped-has : (p : Position) → Reachable (tree T) p → Stops (tree T) p → Has T (shown p)
   stopped-has p o q = let g = all-got (tree T) alive p o q in (g .0, at-checkpoint T (standing-at (g .0)) ∙ ap shown (g .1))
 
   -- from it a call goes on from the position
-  call-goes : (b : ℕ) (p : Position) → Ok (tree T) p → Stops (tree T) p → walk-call s (shown p) b ≡ resumed-result (resume (tree T) b p)
+  call-goes : (b : ℕ) (p : Position) → Reachable (tree T) p → Stops (tree T) p → walk-call s (shown p) b ≡ resumed-result (resume (tree T) b p)
   call-goes b p o q = at (located T (shown p)) refl
     where
       at : (x : Located) → located T (shown p) ≡ x → walk-call s (shown p) b ≡ resumed-result (resume (tree T) b p)
@@ -148,14 +148,14 @@ module _ (s : List ℕ) (T : Task) (P : Posed T) (walks : (c : Checkpoint) (b : 
           ∙ ap (λ (x : Position). resumed-result (resume (tree T) b x)) one
       at nowhere e = absurd (has-located T (shown p) (stopped-has p o q) e)
 
-  calls-go : (bs : List ℕ) (p : Position) → Ok (tree T) p → Stops (tree T) p → walk-calls s (shown p) bs ≡ results (tree T) alive p bs
+  calls-go : (bs : List ℕ) (p : Position) → Reachable (tree T) p → Stops (tree T) p → walk-calls s (shown p) bs ≡ results (tree T) alive p bs
   unfolding walk-calls resumes
   calls-go [] p o q = refl
   calls-go (b ∷ bs) p o q =
       let e = call-effect (tree T) alive b p o in
       rw (call-goes b p o q) (ap {B = List Result} (λ l. resumed-result (resume (tree T) b p) ∷ l) (calls-go bs (resume (tree T) b p .position) (e .fine) (e .stops)))
 
-  last-goes : (bs : List ℕ) (p : Position) → Ok (tree T) p → Stops (tree T) p → last-checkpoint s (shown p) bs ≡ shown (last-position (tree T) alive p bs)
+  last-goes : (bs : List ℕ) (p : Position) → Reachable (tree T) p → Stops (tree T) p → last-checkpoint s (shown p) bs ≡ shown (last-position (tree T) alive p bs)
   unfolding last-checkpoint last-position
   last-goes [] p o q = refl
   last-goes (b ∷ bs) p o q =
@@ -171,7 +171,7 @@ module _ (s : List ℕ) (T : Task) (P : Posed T) (walks : (c : Checkpoint) (b : 
   calls-plain bs = calls-results bs ∙ sym (plain-results bs 0 (down empty) (at-start (tree T)))
 
   -- none is refused
-  plain-kind : (a : Answer) → kind-of a ≡ says-refused → ⊥
+  plain-kind : (a : Answer) → answer-kind a ≡ says-refused → ⊥
   plain-kind (found a) e = let z : _≡_ {A = ℕ} 0 1 = cc in omega arith
   plain-kind spent e = let z : _≡_ {A = ℕ} 0 1 = cc in omega arith
   plain-kind ended e = let z : _≡_ {A = ℕ} 0 1 = cc in omega arith
@@ -234,7 +234,7 @@ module _ (s : List ℕ) (T : Task) (P : Posed T) (walks : (c : Checkpoint) (b : 
   calls-paced bs = rw (calls-results bs) (pace (tree T) alive (step-bound T) (cheap T P) bs)
 
   -- enough steps are not spent
-  not-spent : (a : Answer) → (kind-of a ≡ says-spent → ⊥) → (kind-of a ≡ says-model) ⊎ (kind-of a ≡ says-ended)
+  not-spent : (a : Answer) → (answer-kind a ≡ says-spent → ⊥) → (answer-kind a ≡ says-model) ⊎ (answer-kind a ≡ says-ended)
   not-spent (found a) h = inl refl
   not-spent spent h = absurd (h refl)
   not-spent ended h = inr refl
@@ -297,7 +297,7 @@ module _ (s : List ℕ) (T : Task) (P : Posed T) (walks : (c : Checkpoint) (b : 
           let w = accepted-stopped (tree T) alive small low c h e in
           subst (λ (x : Checkpoint). walk-call s x b ≡ call-from (tree T) x b) (w .shows)
           (call-goes b (w .position) (w .fine) (w .stops) ∙ sym (call-shown (tree T) alive small low b (w .position) (w .fine) (w .stops)))
-      at false e = foreign c b (λ w. clash (has-accepted c w) e)
+      at false e = foreign c b (λ w. bool-clash (has-accepted c w) e)
 
   -- the checkpoint behind k entries has 48 bytes
   pub after-bytes : (k : ℕ) → length (checkpoint-after T k .bytes) ≡ max-variables
@@ -341,5 +341,5 @@ module _ (s : List ℕ) (T : Task) (P : Posed T) (walks : (c : Checkpoint) (b : 
       )
 
   -- the expansions of one assignment
-  pub assignment-cheap : (l : Literal) (e : ℕ) → List·Memᴰ (assign l e) (plain-walk T) → e ≤ step-bound T
+  pub assignment-cheap : (l : Literal) (e : ℕ) → List·Memᴰ (assigns l e) (plain-walk T) → e ≤ step-bound T
   assignment-cheap l e m = walk-cheap (tree T) (step-bound T) (cheap T P) l e (rw (walk-same T) at m)
