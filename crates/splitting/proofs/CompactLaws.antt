@@ -11,6 +11,7 @@ use lib.Bits.{bitOr, bitXor}
 use lib.Dec.{eqb}
 use lib.ListN.{length, getD}
 use borrow.Author.Tests.{not-true, eqb-true}
+use Rattle.limits.specs.Limits.{max-clauses}
 use Rattle.lists.specs.Every.{Every}
 use Rattle.lists.specs.Tabulated.{tabulated}
 use Rattle.lists.proofs.EveryLaws.{every-of, every-getD}
@@ -140,7 +141,7 @@ pure-free f small a z = one-way-free f a (lowest (pure-of f a)) (pure-lowest f s
 -- ---- stripping
 
 -- the clauses of a node in arrays: there are at most 96
-pub few-in : (f : Formula) → Small f → (a : Assignment) (p q : List ℕ) (k : ℕ) → clauses-in p q k ≡ node f a → k ≤ 96
+pub few-in : (f : Formula) → Small f → (a : Assignment) (p q : List ℕ) (k : ℕ) → clauses-in p q k ≡ node f a → k ≤ max-clauses
 few-in f small a p q k e =
     let m : k ≡ length (node f a) = sym (length-tabulated (clause-in p q) k) ∙ ap length e in
     omega (arith, small-at f small a .few)

@@ -9,6 +9,7 @@ use lib.Bits.{bitAnd}
 use lib.Dec.{eqb}
 use lib.ListN.{length, getD, length-map}
 use borrow.Author.Tests.{eqb-true, eqb-false, eq-eqb, ne-eqb}
+use Rattle.limits.specs.Limits.{max-clauses}
 use Rattle.lists.specs.Padded.{padded}
 use Rattle.lists.proofs.PaddedLaws.{getD-padded}
 use Rattle.lists.proofs.TestLaws.{or-swap, eqb-comm, bool-cases, bool-clash}
@@ -224,7 +225,7 @@ open-none (c ∷ cs) =
 pub node-masks : (n : ℕ) (cs : List (List Literal)) (t : List Literal) → distinct t ≡ true → node (formula-of n cs) (assignment-of t) ≡ map clause-of (remaining t cs)
 node-masks n cs t d =
     let m : length (map clause-of cs) ≡ length cs = length-map cs clause-of in
-    open-padded (assignment-of t) 96 (map clause-of cs) (length cs) (omega arith)
+    open-padded (assignment-of t) max-clauses (map clause-of cs) (length cs) (omega arith)
     ∙ ap (open-clauses (map clause-of cs) (assignment-of t)) (sym m)
     ∙ open-list (assignment-of t) (map clause-of cs)
     ∙ open-trail t (record { trues = 0; falses = 0 }) (map clause-of cs) cs d (λ i _. bit-none i) (open-none (map clause-of cs))

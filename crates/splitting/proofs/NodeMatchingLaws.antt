@@ -9,6 +9,7 @@ use lib.Bits.{or-lt}
 use lib.ListN.{length, getD, take, drop, replicate, length-append, length-map, length-replicate}
 use lib.Pow.{pow-mono}
 use lib.Seq.{take-at}
+use Rattle.limits.specs.Limits.{max-clauses}
 use Rattle.lists.specs.Every.{Every}
 use Rattle.lists.specs.Over.{over}
 use Rattle.lists.proofs.EveryLaws.{every-append, every-replicate, every-getD}
@@ -91,15 +92,15 @@ module _ (f : Formula) (fits : Small f) (a : Assignment) where
   node-words : Every Word (map clause-variables (node f a))
   node-words = words-named (node f a) (open-words (f .count) (omega arith))
 
-  node-few : length (map clause-variables (node f a)) ≤ 96
+  node-few : length (map clause-variables (node f a)) ≤ max-clauses
   node-few = let e = length-map (node f a) clause-variables in omega (arith, open-length (f .count), fits .few)
 
   -- over zeros, what the clauses name is what the matching asks
-  pub node-clauses : (b : List ℕ) → b ≡ replicate 96 0 → Clauses (over (map clause-variables (node f a)) b) (length (node f a))
+  pub node-clauses : (b : List ℕ) → b ≡ replicate max-clauses 0 → Clauses (over (map clause-variables (node f a)) b) (length (node f a))
   node-clauses b e =
       let l = map clause-variables (node f a) in
-      let n : length b ≡ 96 = ap length e ∙ length-replicate {A = ℕ} 96 0 in
-      let w : Every Word b = rw e (every-replicate Word 96 0 (omega arith)) in
+      let n : length b ≡ max-clauses = ap length e ∙ length-replicate {A = ℕ} max-clauses 0 in
+      let w : Every Word b = rw e (every-replicate Word max-clauses 0 (omega arith)) in
       record {
         few = omega (arith, length-map (node f a) clause-variables, node-few);
         present = omega (arith, length-map (node f a) clause-variables, node-few, over-length l b (omega (arith, node-few)));
@@ -116,7 +117,7 @@ module _ (f : Formula) (fits : Small f) (a : Assignment) where
       let l = map clause-variables (node f a) in
       let k = length l in
       let s : k + 1 ≤ 97 = omega (arith, node-few) in
-      let p : k * (k + 1) ≤ 96 * 97 = mul-le-mul node-few s in
+      let p : k * (k + 1) ≤ max-clauses * (max-clauses + 1) = mul-le-mul node-few s in
       omega (arith, outcome-cost l (λ i m. every-getD Word l i 0 m node-words))
 
   pub match-cost : (m : Matching) → m ≡ matching-at f a → m .expansions ≤ 4656

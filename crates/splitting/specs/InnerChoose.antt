@@ -5,6 +5,7 @@ use mathlib.Core.List.{List, [], _∷_, _++_, map}
 use lib.Bits.{bitOr, bitXor}
 use lib.Dec.{eqb}
 use lib.ListN.{length, getD}
+use Rattle.limits.specs.Limits.{max-clauses}
 use Rattle.lists.specs.Tabulated.{tabulated}
 use Rattle.masks.specs.Mask.{bit, with, minus, meets, lowest, members}
 use Rattle.matching.specs.declared.Matching.{Matching}
@@ -78,7 +79,7 @@ formula-in p q k = record { variables = 64; count = k; clauses = clauses-in p q 
 
 -- at most 96 clauses, of 64-bit masks
 pub record Small (f : Formula) : Type 0 where
-  pub few : f .count ≤ 96
+  pub few : f .count ≤ max-clauses
   pub words : (i : ℕ) → i < f .count → (sign : Bool) → side (getD (f .clauses) i no-clause) sign < 2 ^ 64
 
 -- the variables that clauses name as true and as false, and whether there is a clause

@@ -7,6 +7,7 @@ ghost use mathlib.Core.Bool.{true};
 ghost use mathlib.Core.List.{map};
 ghost use Prim.Native.Nat.{ℕ, _<_, _≤_};
 ghost use lib.ListN.{length};
+ghost use Rattle.limits.specs.Limits.{max-clauses};
 ghost use Rattle.lists.specs.Over.{over};
 ghost use Rattle.masks.specs.Mask.{bit, members};
 ghost use Rattle.formula.specs.Masked.{FormulaFits, clause-variables};
@@ -106,8 +107,12 @@ fn left(a: Assignment, c: Clause) -> Clause
 }
 
 // The i-th clause of the arrays.
-fn clause_at(positives: &[u64; 96], negatives: &[u64; 96], i: usize) -> Clause
-    requires { ⌜ i < 96 ⌝ }
+fn clause_at(
+    positives: &[u64; limits::MAX_CLAUSES],
+    negatives: &[u64; limits::MAX_CLAUSES],
+    i: usize,
+) -> Clause
+    requires { ⌜ i < max-clauses ⌝ }
     ensures { λ r. ⌜ r ≡ clause-in (now (positives .entry)) (now (negatives .entry)) i ⌝ }
 {
     Clause {
@@ -118,7 +123,7 @@ fn clause_at(positives: &[u64; 96], negatives: &[u64; 96], i: usize) -> Clause
 
 // Every clause is satisfied, so that none is left at the node.
 pub fn all_satisfied(f: Formula, a: Assignment) -> bool
-    requires { ⌜ f .count ≤ 96 ⌝ }
+    requires { ⌜ f .count ≤ max-clauses ⌝ }
     ensures { λ r. ⌜ r ≡ all-satisfied f a ⌝ }
 {
     let mut i: usize = 0;
@@ -135,12 +140,12 @@ pub fn all_satisfied(f: Formula, a: Assignment) -> bool
 fn open_node(
     f: Formula,
     a: Assignment,
-    positives: &mut [u64; 96],
-    negatives: &mut [u64; 96],
+    positives: &mut [u64; limits::MAX_CLAUSES],
+    negatives: &mut [u64; limits::MAX_CLAUSES],
 ) -> usize
-    requires { ⌜ Small f × (length (now positives) ≡ 96) × (length (now negatives) ≡ 96) ⌝ }
+    requires { ⌜ Small f × (length (now positives) ≡ max-clauses) × (length (now negatives) ≡ max-clauses) ⌝ }
     ensures { λ r. ⌜ formula-in (now (positives .exit)) (now (negatives .exit)) r ≡ formula-at f a ⌝ }
-    ensures { λ _. ⌜ (length (now (positives .exit)) ≡ 96) × (length (now (negatives .exit)) ≡ 96) ⌝ }
+    ensures { λ _. ⌜ (length (now (positives .exit)) ≡ max-clauses) × (length (now (negatives .exit)) ≡ max-clauses) ⌝ }
 {
     let mut count: usize = 0;
     let mut i: usize = 0;
@@ -159,14 +164,14 @@ fn open_node(
 
 // Keeps what is left of the open clauses, in place, and gives their number.
 fn compact(
-    positives: &mut [u64; 96],
-    negatives: &mut [u64; 96],
+    positives: &mut [u64; limits::MAX_CLAUSES],
+    negatives: &mut [u64; limits::MAX_CLAUSES],
     count: usize,
     a: Assignment,
 ) -> usize
-    requires { ⌜ (count ≤ 96) × (length (now positives) ≡ 96) × (length (now negatives) ≡ 96) ⌝ }
+    requires { ⌜ (count ≤ max-clauses) × (length (now positives) ≡ max-clauses) × (length (now negatives) ≡ max-clauses) ⌝ }
     ensures { λ r. ⌜ formula-in (now (positives .exit)) (now (negatives .exit)) r ≡ formula-at (formula-in (now (positives .entry)) (now (negatives .entry)) count) a ⌝ }
-    ensures { λ _. ⌜ (length (now (positives .exit)) ≡ 96) × (length (now (negatives .exit)) ≡ 96) ⌝ }
+    ensures { λ _. ⌜ (length (now (positives .exit)) ≡ max-clauses) × (length (now (negatives .exit)) ≡ max-clauses) ⌝ }
 {
     let mut kept: usize = 0;
     let mut i: usize = 0;
@@ -184,8 +189,13 @@ fn compact(
 }
 
 // The first clause that names v, or their number.
-fn first_named(positives: &[u64; 96], negatives: &[u64; 96], count: usize, v: usize) -> usize
-    requires { ⌜ (count ≤ 96) × (v < 64) ⌝ }
+fn first_named(
+    positives: &[u64; limits::MAX_CLAUSES],
+    negatives: &[u64; limits::MAX_CLAUSES],
+    count: usize,
+    v: usize,
+) -> usize
+    requires { ⌜ (count ≤ max-clauses) × (v < 64) ⌝ }
     ensures { λ r. ⌜ (r ≤ count) × (unnamed (clauses-in (now (positives .entry)) (now (negatives .entry)) count) v r ≡ clauses-in (now (positives .entry)) (now (negatives .entry)) r) ⌝ }
     ensures { λ r. ⌜ (r < count → bit (clause-variables (clause-in (now (positives .entry)) (now (negatives .entry)) r)) v ≡ true) ⌝ }
 {
@@ -201,10 +211,15 @@ fn first_named(positives: &[u64; 96], negatives: &[u64; 96], count: usize, v: us
 }
 
 // Keeps the clauses that do not name v, in place, and gives their number. Those before the first that names it need no store.
-fn drop_named(positives: &mut [u64; 96], negatives: &mut [u64; 96], count: usize, v: usize) -> usize
-    requires { ⌜ (count ≤ 96) × (v < 64) × (length (now positives) ≡ 96) × (length (now negatives) ≡ 96) ⌝ }
+fn drop_named(
+    positives: &mut [u64; limits::MAX_CLAUSES],
+    negatives: &mut [u64; limits::MAX_CLAUSES],
+    count: usize,
+    v: usize,
+) -> usize
+    requires { ⌜ (count ≤ max-clauses) × (v < 64) × (length (now positives) ≡ max-clauses) × (length (now negatives) ≡ max-clauses) ⌝ }
     ensures { λ r. ⌜ clauses-in (now (positives .exit)) (now (negatives .exit)) r ≡ unnamed (clauses-in (now (positives .entry)) (now (negatives .entry)) count) v count ⌝ }
-    ensures { λ _. ⌜ (length (now (positives .exit)) ≡ 96) × (length (now (negatives .exit)) ≡ 96) ⌝ }
+    ensures { λ _. ⌜ (length (now (positives .exit)) ≡ max-clauses) × (length (now (negatives .exit)) ≡ max-clauses) ⌝ }
 {
     let mut kept = first_named(positives, negatives, count, v);
     let mut i = kept;
@@ -221,8 +236,12 @@ fn drop_named(positives: &mut [u64; 96], negatives: &mut [u64; 96], count: usize
 }
 
 // What the clauses name.
-fn survey_clauses(positives: &[u64; 96], negatives: &[u64; 96], count: usize) -> Survey
-    requires { ⌜ count ≤ 96 ⌝ }
+fn survey_clauses(
+    positives: &[u64; limits::MAX_CLAUSES],
+    negatives: &[u64; limits::MAX_CLAUSES],
+    count: usize,
+) -> Survey
+    requires { ⌜ count ≤ max-clauses ⌝ }
     ensures { λ r. ⌜ r ≡ survey-of (clauses-in (now (positives .entry)) (now (negatives .entry)) count) ⌝ }
 {
     let mut positive: u64 = 0;
@@ -241,8 +260,13 @@ fn survey_clauses(positives: &[u64; 96], negatives: &[u64; 96], count: usize) ->
 }
 
 // Some clause of the node names nothing.
-fn has_empty(positives: &[u64; 96], negatives: &[u64; 96], count: usize, a: Assignment) -> bool
-    requires { ⌜ count ≤ 96 ⌝ }
+fn has_empty(
+    positives: &[u64; limits::MAX_CLAUSES],
+    negatives: &[u64; limits::MAX_CLAUSES],
+    count: usize,
+    a: Assignment,
+) -> bool
+    requires { ⌜ count ≤ max-clauses ⌝ }
     ensures { λ r. ⌜ r ≡ some-empty (node (formula-in (now (positives .entry)) (now (negatives .entry)) count) a) ⌝ }
 {
     let mut i: usize = 0;
@@ -261,13 +285,13 @@ fn has_empty(positives: &[u64; 96], negatives: &[u64; 96], count: usize, a: Assi
 
 // Writes the variables that each clause of the node names, and gives the number of clauses.
 fn gather(
-    positives: &[u64; 96],
-    negatives: &[u64; 96],
+    positives: &[u64; limits::MAX_CLAUSES],
+    negatives: &[u64; limits::MAX_CLAUSES],
     count: usize,
     a: Assignment,
-    sets: &mut [u64; 96],
+    sets: &mut [u64; limits::MAX_CLAUSES],
 ) -> usize
-    requires { ⌜ (count ≤ 96) × (length (now sets) ≡ 96) ⌝ }
+    requires { ⌜ (count ≤ max-clauses) × (length (now sets) ≡ max-clauses) ⌝ }
     ensures { λ r. ⌜ r ≡ length (node (formula-in (now (positives .entry)) (now (negatives .entry)) count) a) ⌝ }
     ensures { λ _. ⌜ now (sets .exit) ≡ over (map clause-variables (node (formula-in (now (positives .entry)) (now (negatives .entry)) count) a)) (now (sets .entry)) ⌝ }
 {
@@ -286,19 +310,29 @@ fn gather(
 }
 
 // Matches the clauses of the node, from nothing.
-fn match_node(positives: &[u64; 96], negatives: &[u64; 96], count: usize, a: Assignment) -> Matching
+fn match_node(
+    positives: &[u64; limits::MAX_CLAUSES],
+    negatives: &[u64; limits::MAX_CLAUSES],
+    count: usize,
+    a: Assignment,
+) -> Matching
     requires { ⌜ Small (formula-in (now positives) (now negatives) count) ⌝ }
     ensures { λ r. ⌜ r ≡ matching-at (formula-in (now (positives .entry)) (now (negatives .entry)) count) a ⌝ }
 {
-    let mut sets = [0u64; 96];
+    let mut sets = [0u64; limits::MAX_CLAUSES];
     let written = gather(positives, negatives, count, a, &mut sets);
     matching::match_sets(&sets, written)
 }
 
 // Strips pure literals, the lowest first, until there is none, from a copy of the arrays. No variable is noted twice, so that as
 // many turns as variables are enough.
-fn reduce(positives: &[u64; 96], negatives: &[u64; 96], count: usize, variables: usize) -> Reduced
-    requires { ⌜ Small (formula-in (now positives) (now negatives) count) × (length (now positives) ≡ 96) × (length (now negatives) ≡ 96) ⌝ }
+fn reduce(
+    positives: &[u64; limits::MAX_CLAUSES],
+    negatives: &[u64; limits::MAX_CLAUSES],
+    count: usize,
+    variables: usize,
+) -> Reduced
+    requires { ⌜ Small (formula-in (now positives) (now negatives) count) × (length (now positives) ≡ max-clauses) × (length (now negatives) ≡ max-clauses) ⌝ }
     ensures { λ r. ⌜ r ≡ reduce-from variables (formula-in (now (positives .entry)) (now (negatives .entry)) count) unassigned 0 0 ⌝ }
 {
     let mut left_positives = *positives;
@@ -335,7 +369,12 @@ fn reduce(positives: &[u64; 96], negatives: &[u64; 96], count: usize, variables:
 }
 
 // A trial of v: the clauses are matched with v false, and if that succeeds, with v true.
-fn try_variable(positives: &[u64; 96], negatives: &[u64; 96], count: usize, v: usize) -> Trial
+fn try_variable(
+    positives: &[u64; limits::MAX_CLAUSES],
+    negatives: &[u64; limits::MAX_CLAUSES],
+    count: usize,
+    v: usize,
+) -> Trial
     requires { ⌜ Small (formula-in (now positives) (now negatives) count) × (v < 64) ⌝ }
     ensures { λ r. ⌜ r ≡ tried (formula-in (now (positives .entry)) (now (negatives .entry)) count) unassigned v ⌝ }
 {
@@ -367,8 +406,8 @@ fn both_open(v: usize, expansions: u64) -> Choice
 
 // Tries the candidates upward, until one passes.
 fn first_passing(
-    positives: &[u64; 96],
-    negatives: &[u64; 96],
+    positives: &[u64; limits::MAX_CLAUSES],
+    negatives: &[u64; limits::MAX_CLAUSES],
     count: usize,
     candidates: u64,
 ) -> Choice
@@ -403,8 +442,13 @@ fn highest(mask: u64) -> usize
 }
 
 // The last listed variable, with the values that empty no clause open.
-fn last_listed(positives: &[u64; 96], negatives: &[u64; 96], count: usize, v: usize) -> Choice
-    requires { ⌜ (count ≤ 96) × (v < 64) ⌝ }
+fn last_listed(
+    positives: &[u64; limits::MAX_CLAUSES],
+    negatives: &[u64; limits::MAX_CLAUSES],
+    count: usize,
+    v: usize,
+) -> Choice
+    requires { ⌜ (count ≤ max-clauses) × (v < 64) ⌝ }
     ensures { λ r. ⌜ r ≡ listed-last (formula-in (now (positives .entry)) (now (negatives .entry)) count) unassigned v ⌝ }
 {
     Choice {
@@ -420,8 +464,8 @@ fn choose_open(f: Formula, a: Assignment) -> Choice
     requires { ⌜ Small f × (survey-of (node f a) .any ≡ true) ⌝ }
     ensures { λ r. ⌜ ((scope : ℕ) → r ≡ mask-choice f scope a) ⌝ }
 {
-    let mut positives = [0u64; 96];
-    let mut negatives = [0u64; 96];
+    let mut positives = [0u64; limits::MAX_CLAUSES];
+    let mut negatives = [0u64; limits::MAX_CLAUSES];
     let count = open_node(f, a, &mut positives, &mut negatives);
     let names = survey_clauses(&positives, &negatives, count);
     let r = reduce(&positives, &negatives, count, f.variables);

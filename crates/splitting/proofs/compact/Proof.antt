@@ -7,6 +7,7 @@ use mathlib.Core.Path.{_≡_, refl, sym, _∙_}
 use borrow.Author.Needs.{needs}
 use borrow.Author.Tests.{not-true, not-false}
 use lib.ListN.{length, length-set}
+use Rattle.limits.specs.Limits.{max-clauses}
 use Rattle.lists.specs.Tabulated.{tabulated}
 use Rattle.splitting.specs.InnerChoose.{clause-in, clauses-in, open-clauses}
 use Rattle.splitting.proofs.OpenClauseLaws.{clause-read, clause-kept, formula-held, open-gone, keep-more}
@@ -15,7 +16,7 @@ use Rattle.splitting.proofs.compact.Tie as tie
 
 abbrev Inv-loop : tie.InvT-loop
 Inv-loop positives₀ negatives₀ count a kept₀ i₀ positives negatives kept i =
-    (i ≤ count) × (kept ≤ i) × (length positives ≡ 96) × (length negatives ≡ 96)
+    (i ≤ count) × (kept ≤ i) × (length positives ≡ max-clauses) × (length negatives ≡ max-clauses)
     × (clauses-in positives negatives kept ≡ open-clauses (clauses-in positives₀ negatives₀ count) a i)
     × ((j : ℕ) → i ≤ j → clause-in positives negatives j ≡ clause-in positives₀ negatives₀ j)
 

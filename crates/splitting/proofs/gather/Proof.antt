@@ -7,6 +7,7 @@ use borrow.Author.Needs.{needs}
 use borrow.Author.Tests.{not-true, not-false}
 use mathlib.Core.List.{map}
 use lib.ListN.{length, length-set}
+use Rattle.limits.specs.Limits.{max-clauses}
 use Rattle.lists.specs.Over.{over}
 use Rattle.formula.specs.Masked.{clause-variables}
 use Rattle.splitting.specs.InnerChoose.{clauses-in, open-clauses}
@@ -16,7 +17,7 @@ use Rattle.splitting.proofs.gather.Tie as tie
 
 abbrev Inv-loop : tie.InvT-loop
 Inv-loop positives negatives count a sets₀ written₀ i₀ sets written i =
-    (i ≤ count) × (written ≤ i) × (length sets ≡ 96) × (written ≡ length (open-clauses (clauses-in positives negatives count) a i))
+    (i ≤ count) × (written ≤ i) × (length sets ≡ max-clauses) × (written ≡ length (open-clauses (clauses-in positives negatives count) a i))
     × (sets ≡ over (map clause-variables (open-clauses (clauses-in positives negatives count) a i)) sets₀)
 
 abbrev μ-loop : tie.MeasureT-loop

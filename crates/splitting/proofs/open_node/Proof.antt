@@ -6,6 +6,7 @@ use mathlib.Core.Path.{_≡_, refl, sym, _∙_}
 use borrow.Author.Needs.{needs}
 use borrow.Author.Tests.{not-true, not-false}
 use lib.ListN.{length, length-set}
+use Rattle.limits.specs.Limits.{max-clauses}
 use Rattle.lists.specs.Tabulated.{tabulated}
 use Rattle.splitting.specs.InnerChoose.{clauses-in, open-clauses}
 use Rattle.splitting.proofs.OpenClauseLaws.{formula-held, open-gone, keep-more}
@@ -14,7 +15,7 @@ use Rattle.splitting.proofs.open_node.Tie as tie
 
 abbrev Inv-loop : tie.InvT-loop
 Inv-loop a positives₀ negatives₀ f count₀ i₀ positives negatives count i =
-    (i ≤ f .count) × (count ≤ i) × (length positives ≡ 96) × (length negatives ≡ 96)
+    (i ≤ f .count) × (count ≤ i) × (length positives ≡ max-clauses) × (length negatives ≡ max-clauses)
     × (clauses-in positives negatives count ≡ open-clauses (f .clauses) a i)
 
 abbrev μ-loop : tie.MeasureT-loop

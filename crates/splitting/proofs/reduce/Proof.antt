@@ -6,6 +6,7 @@ use mathlib.Core.Path.{_≡_, sym, ap, _∙_}
 use borrow.Author.Needs.{needs}
 use lib.Bits.{bitXor}
 use lib.ListN.{length}
+use Rattle.limits.specs.Limits.{max-clauses}
 use Rattle.masks.specs.Mask.{bit, lowest}
 use Rattle.formula.specs.declared.Formula.{Formula}
 use Rattle.splitting.specs.declared.Survey.{Survey}
@@ -17,7 +18,7 @@ use Rattle.splitting.proofs.reduce.Tie as tie
 
 abbrev Inv-loop : tie.InvT-loop
 Inv-loop positives negatives count variables left-positives₀ left-negatives₀ left-count₀ assignment₀ noted₀ last₀ k₀ left-positives left-negatives left-count assignment noted last k =
-    (k ≤ variables) × (length left-positives ≡ 96) × (length left-negatives ≡ 96)
+    (k ≤ variables) × (length left-positives ≡ max-clauses) × (length left-negatives ≡ max-clauses)
     × (clauses-in left-positives left-negatives left-count ≡ node (formula-in positives negatives count) assignment)
     × (reduce-from (variables - k) (formula-in positives negatives count) assignment noted last ≡ reduce-from variables (formula-in positives negatives count) unassigned 0 0)
 
@@ -33,7 +34,7 @@ entry l = l .before .before .before .before
 abbrev held : tie.At-loop Inv-loop μ-loop → Formula
 held l = formula-in (entry l .args .positives .now) (entry l .args .negatives .now) (entry l .args .count)
 
-few : (l : tie.At-loop Inv-loop μ-loop) → l .loop .left-count ≤ 96
+few : (l : tie.At-loop Inv-loop μ-loop) → l .loop .left-count ≤ max-clauses
 few l = few-in (held l) (entry l .pre .0) (l .loop .assignment) (l .loop .left-positives) (l .loop .left-negatives) (l .loop .left-count) (l .loop .inv .3)
 
 -- the survey of a turn, and its pure variables
