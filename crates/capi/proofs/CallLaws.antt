@@ -13,7 +13,7 @@ use Rattle.walk.specs.WalkCall.{Result, walk-call}
 use Rattle.enumeration.specs.declared.listing.Listed.{Listed}
 use Rattle.enumeration.specs.declared.calls.Walked.{Walked}
 use Rattle.enumeration.specs.Values.{checkpoint-values, walked-values, listed-values}
-use Rattle.enumeration.specs.Lists.{BroughtInto, next-models}
+use Rattle.enumeration.specs.Lists.{Delivered, next-models}
 use Rattle.capi.specs.Interface.{results-size, checkpoint-size, check-row, judge-row, walk-row, list-row, checkpoint-bytes, checkpoint-in, check-called, judge-called, start-called, walk-told, walk-called, list-told, list-called}
 use Rattle.capi.proofs.RowLaws.{beside}
 
@@ -117,7 +117,7 @@ module _ (s checkpoint models results : List ℕ) where
       length checkpoint ≡ checkpoint-size →
       length results ≡ results-size →
       from ≡ checkpoint-in checkpoint →
-      BroughtInto (next-models s from (length models)) models brought r →
+      Delivered (next-models s from (length models)) models brought r →
       left ≡ checkpoint-bytes (checkpoint-values (r .checkpoint)) →
       after ≡ list-row (r .count) (listed-values r) →
       list-called s checkpoint models results ≡ record { code = 0; checkpoint = left; models = brought; results = after }

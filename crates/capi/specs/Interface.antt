@@ -12,7 +12,7 @@ use Rattle.matched.specs.Judge as judging
 use Rattle.matched.specs.Judge.{judge}
 use Rattle.walk.specs.Checkpoints.{Checkpoint, start}
 use Rattle.walk.specs.WalkCall.{AnswerKind, says-model, says-spent, says-ended, says-refused, Result, walk-call}
-use Rattle.enumeration.specs.Lists.{Brought, next-models}
+use Rattle.enumeration.specs.Lists.{Delivery, next-models}
 
 -- ---- results: six numbers, of which the first says the answer, and the third and fourth are the refusal's number and place
 
@@ -133,7 +133,7 @@ pub record ListCalled : Type 0 where
   pub results : List ℕ
 
 -- what a list of calls brings, in the buffers: the models stand over the first ones
-abbrev pub list-told : List ℕ → Brought → ListCalled
+abbrev pub list-told : List ℕ → Delivery → ListCalled
 list-told models x = record {
   code = 0;
   checkpoint = checkpoint-bytes (x .last .checkpoint);
