@@ -158,7 +158,7 @@ module _ (T : Task) (P : Posed T) where
   pub trail-over : (t : Stack) → Replayed (tree T) t → Trail (T .variables) (assigned t)
   trail-over t r = node t r .trail
 
-  -- the choice-literal variable is below n and not assigned yet
+  -- the chosen variable is below n and not assigned yet
   pub choice-fresh : (t : Stack) → Replayed (tree T) t → depth t < to-assign T
       → (picked t .variable < T .variables) × (names (assigned t) (picked t .variable) ≡ false)
   choice-fresh t r h = let w = choosing t (node t r) h in (w .below, w .fresh)
