@@ -1,4 +1,4 @@
--- The vectors of judge: the answer and the buffer that the document fixes, compared with those that the corpus has.
+-- The vectors of judge: the answer and the buffer of its definition (S5.7), compared with those that the corpus has.
 use Prim.Native.Nat.{ℕ, zero, suc, _+_, _-_}
 use mathlib.Core.Bool.{Bool, _&&_}
 use mathlib.Core.List.{List, _++_}

@@ -1,4 +1,4 @@
--- The vectors of start and walk: the answer and the checkpoint that the document fixes, compared with those that the corpus has.
+-- The vectors of start and walk: the answer and the checkpoint of their definitions (S8), compared with those that the corpus has.
 use Prim.Native.Nat.{ℕ, _+_, _-_}
 use mathlib.Core.Bool.{Bool, cond, _&&_}
 use mathlib.Core.List.{List}
