@@ -41,7 +41,7 @@ refused-only s r e = rw e at (decode-means s)
 pub refused-all : (s : List ℕ) (r : Refusal) → Refuses s r → decode s ≡ refused r
 refused-all s r = decode-gives s (refused r)
 
--- S2.3: the longest readable input: its number of bytes
+-- S2.3: the length of the longest readable input, as a number
 pub longest-is : max-bytes ≡ 9315
 longest-is = refl
 
@@ -82,11 +82,11 @@ accepted-fits s n cs e = formula-fits (accepted-only s n cs e .sized)
 pub check-yes : (s : List ℕ) (a : ℕ) → (checked s a .said ≡ said-yes) ↔ ModelOf s a
 check-yes s a = (says-yes (says s a), λ m. ap (λ (x : VerdictValues). x .said) (checked-model s a m))
 
--- no exactly of the assignments that give no variable from n on true and are not models
+-- no exactly of an assignment that is not a model and has no variable from n on true
 pub check-no : (s : List ℕ) (a : ℕ) → (checked s a .said ≡ said-no) ↔ NoModelOf s a
 check-no s a = (says-no (says s a), λ m. ap (λ (x : VerdictValues). x .said) (checked-no-model s a m))
 
--- 12 at place 0 exactly of those that give such a variable true
+-- 12 at place 0 exactly of one that has such a variable true
 pub check-stray : (s : List ℕ) (a : ℕ) → (checked s a ≡ verdict-refused (StrayVariable 0)) ↔ StrayOf s a
 check-stray s a = (says-stray (says s a), checked-stray s a)
 

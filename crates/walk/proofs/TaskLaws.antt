@@ -117,7 +117,7 @@ module _ (s : List ℕ) (T : Task) (P : Posed T) (walks : (c : Checkpoint) (b : 
 
   -- ---- a call
 
-  -- a call goes on from the checkpoint's state, or is refused by 11
+  -- a call from a checkpoint goes on from its state, or is refused by 11
   pub call-is : (c : Checkpoint) (b : ℕ) (x : Located) → located T c ≡ x → walk-call s c b ≡ by-state T c x b
   unfolding task-call
   call-is c b x e = walks c b ∙ rw e refl
@@ -133,7 +133,7 @@ module _ (s : List ℕ) (T : Task) (P : Posed T) (walks : (c : Checkpoint) (b : 
   stopped-has : (p : Position) → Reachable (tree T) p → Stops (tree T) p → Has T (shown p)
   stopped-has p o q = let g = all-got (tree T) alive p o q in (g .0, at-checkpoint T (standing-at (g .0)) ∙ ap shown (g .1))
 
-  -- from it a call goes on from the position
+  -- a call from it goes on from the position
   call-goes : (b : ℕ) (p : Position) → Reachable (tree T) p → Stops (tree T) p → walk-call s (shown p) b ≡ resumed-result (resume (tree T) b p)
   call-goes b p o q = at (located T (shown p)) refl
     where

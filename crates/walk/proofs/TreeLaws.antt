@@ -31,7 +31,7 @@ use Rattle.walk.proofs.ListingLaws.{Agrees, Splits}
 use Rattle.walk.proofs.ByteLaws.{Below}
 use Rattle.walk.proofs.AssignmentLaws.{assignment-agrees, assignment-lt, assignment-none, model-lt, same-assignment}
 
--- the plain walk of a task is that of its tree
+-- a task's plain walk is that of its tree
 node-same : (T : Task) (k : ℕ) (t : Stack) → node-walk T k (T .before ++ trail-of t) ≡ entries (tree T) k t
 unfolding node-walk entries trail-of
 node-same T zero t = refl
