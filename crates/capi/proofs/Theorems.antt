@@ -1,5 +1,5 @@
 -- What holds of the interface: no byte of a checkpoint is lost, a refused call leaves it as it was and brings no model, and calls from
--- the start checkpoint make the walk of demand 3.
+-- the start checkpoint make the walk of demand 3 (S10).
 use Prim.Native.Nat.{ℕ}
 use mathlib.Core.List.{List, [], _∷_, map}
 use mathlib.Core.Logic.{⊎-elim}
@@ -41,7 +41,7 @@ kind-refused says-spent e = absurd (omega arith)
 kind-refused says-ended e = absurd (omega arith)
 kind-refused says-refused e = refl
 
--- 'the marker comes back as handed in'
+-- S3.3: a refused walk call returns the checkpoint that it was given
 refused-kept : (s : List ℕ) (c : Checkpoint) (b : ℕ) → walk-call s c b .kind ≡ says-refused → walk-call s c b .checkpoint ≡ c
 refused-kept s c b h = ⊎-elim (λ w. ap (λ (r : Result). r .checkpoint) (w .1 b)) (λ w. absurd (w .0 b h)) (refuses-or-goes s c)
 
@@ -78,8 +78,8 @@ calls-walked s c results (b ∷ bs) h k =
     rw (walk-called-is s (checkpoint-bytes c) results b l k)
     (ap (λ (t : List WalkCalled). walk-told r ∷ t) (calls-walked s (r .checkpoint) (walk-row r) bs (call-bytes s c b h) refl))
 
--- Demand 3 in the interface: after norwythai_start, each norwythai_walk of a list returns 0 and leaves in the results, and as the
--- checkpoint's 50 bytes, the result and the checkpoint of the walk call that demand 3 speaks of, whatever stood in the buffers before.
+-- S10, demand 3, in the interface: after norwythai_start, each norwythai_walk of a list returns 0 and leaves in the results, and as the
+-- checkpoint's 50 bytes, the result and the checkpoint of the walk call that demand 3 is about, whatever stood in the buffers before.
 pub walked-from-start :
     (s checkpoint results bs : List ℕ) →
     length checkpoint ≡ checkpoint-size →

@@ -1,4 +1,4 @@
--- The interface to C: for each exported function the number that it returns, and each lent buffer as it is left.
+-- S13.1: the interface to C: for each exported function the number that it returns, and each lent buffer as it is left.
 use Prim.Native.Nat.{ℕ, _+_}
 use mathlib.Core.Bool.{Bool, cond, _&&_}
 use mathlib.Core.List.{List, [], _∷_}

@@ -1,5 +1,5 @@
-// The functions exported to C and Rust. Each is lent its buffers as slices: a pointer and a length. Results go out as six numbers,
-// a checkpoint as 50 bytes.
+// S13.1: the functions exported to C and Rust. Each is lent its buffers as slices: a pointer and a length. Results go out as six
+// numbers, a checkpoint as 50 bytes.
 ghost use mathlib.Core.Path.{_≡_};
 ghost use lib.ListN.{length, drop};
 ghost use Rattle.formula.specs.Check as check;
@@ -149,7 +149,7 @@ fn put_checkpoint(c: Checkpoint, checkpoint: &mut [u8])
     bytes::copy(&trail, &mut checkpoint[2..]);
 }
 
-// The act check (01).
+// S4.3: the act check.
 #[no_mangle]
 pub extern "C" fn norwythai_check(input: &[u8], assignment: u64, results: &mut [u64]) -> u32
     ensures { λ r. ⌜ check-called (now (input .entry)) assignment (now (results .entry)) ≡ record { code = r; results = now (results .exit) } ⌝ }
@@ -161,7 +161,7 @@ pub extern "C" fn norwythai_check(input: &[u8], assignment: u64, results: &mut [
     0
 }
 
-// The act judge (01).
+// S5.7: the act judge.
 #[no_mangle]
 pub extern "C" fn norwythai_judge(input: &[u8], buffer: &mut [u8], results: &mut [u64]) -> u32
     ensures { λ r. ⌜ judge-called (now (input .entry)) (now (buffer .entry)) (now (results .entry)) ≡ record { code = r; buffer = now (buffer .exit); results = now (results .exit) } ⌝ }
@@ -173,7 +173,7 @@ pub extern "C" fn norwythai_judge(input: &[u8], buffer: &mut [u8], results: &mut
     0
 }
 
-// The start checkpoint (01: start marker).
+// S8.3: the start checkpoint.
 #[no_mangle]
 pub extern "C" fn norwythai_start(checkpoint: &mut [u8]) -> u32
     ensures { λ r. ⌜ start-called (now (checkpoint .entry)) ≡ record { code = r; checkpoint = now (checkpoint .exit) } ⌝ }
@@ -185,7 +185,7 @@ pub extern "C" fn norwythai_start(checkpoint: &mut [u8]) -> u32
     0
 }
 
-// A walk call (01).
+// S8.1: a walk call.
 #[no_mangle]
 pub extern "C" fn norwythai_walk(
     input: &[u8],
@@ -208,7 +208,7 @@ pub extern "C" fn norwythai_walk(
     0
 }
 
-// The next models, as many as the slice has room for.
+// S11: the next models, as many as the slice has room for.
 #[no_mangle]
 pub extern "C" fn norwythai_list(
     input: &[u8],

@@ -39,7 +39,7 @@ copied k s old new at h l f =
     let z : drop k old ≡ [] = rw (← l) (drop-length old) in
     f ∙ rw (d, take-length, n, z, append-nil)
 
--- the walked-values of an answer have the checkpoint beside it
+-- the values of an answer have the checkpoint beside it
 kept : (a : Answer) (s e : ℕ) (c : Checkpoint) → answer-values a s e c .checkpoint ≡ c
 kept (Model a) s e c = refl
 kept Spent s e c = refl

@@ -1,4 +1,4 @@
--- The vectors of check: the answer that the document fixes, compared with the one that the corpus has.
+-- The vectors of check: the answer of its definition (S4.3), compared with the one that the corpus has.
 use Prim.Native.Nat.{ℕ, _+_, _-_}
 use mathlib.Core.Bool.{Bool}
 use mathlib.Core.List.{List}

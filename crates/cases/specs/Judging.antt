@@ -1,4 +1,4 @@
--- The vectors of judge: the answer and the buffer that the document fixes, compared with those that the corpus has.
+-- The vectors of judge: the answer and the buffer of its definition (S5.7), compared with those that the corpus has.
 use Prim.Native.Nat.{ℕ, zero, suc, _+_, _-_}
 use mathlib.Core.Bool.{Bool, _&&_}
 use mathlib.Core.List.{List, _++_}
@@ -37,7 +37,7 @@ judged s size fill =
     let j = judge s (take size (filled fill)) in
     record { answer = judge-written (j .answer); array = j .buffer ++ drop size (filled fill) }
 
--- the answers are the same-answer, and no byte of the array is wrong
+-- the answers are the same, and no byte of the array is wrong
 abbrev pub judge-alike : Answer → Answer → ℕ → Bool
 judge-alike wanted got wrong = same-answer wanted got && eqb wrong 256
 

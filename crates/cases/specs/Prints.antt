@@ -1,4 +1,4 @@
--- The vectors of the printed walk: the text that the document fixes, compared with the one that the corpus has.
+-- The vectors of the printed walk: the text of its definition (S12), compared with the one that the corpus has.
 use Prim.Native.Nat.{ℕ, _+_, _-_}
 use mathlib.Core.Bool.{Bool, false, cond, _&&_}
 use mathlib.Core.List.{List, []}

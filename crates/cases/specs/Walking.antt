@@ -1,4 +1,4 @@
--- The vectors of start and walk: the answer and the checkpoint that the document fixes, compared with those that the corpus has.
+-- The vectors of start and walk: the answer and the checkpoint of their definitions (S8), compared with those that the corpus has.
 use Prim.Native.Nat.{ℕ, _+_, _-_}
 use mathlib.Core.Bool.{Bool, cond, _&&_}
 use mathlib.Core.List.{List}
@@ -65,7 +65,7 @@ checkpoint-wrong s at c =
     (cond (eqb (c .length) (getD s (at + 1) 0)) (2 + first-wrong s (at + 2) max-variables 0 (c .bytes)) 1)
     0
 
--- no byte of the checkpoint is wrong, and all else is the same-answer
+-- no byte of the checkpoint is wrong, and all else is the same
 abbrev pub walk-alike : Told → Told → ℕ → Bool
 walk-alike a b wrong =
     eqb wrong checkpoint-size && eqb (a .model) (b .model) && eqb (a .steps) (b .steps) && eqb (a .expansions) (b .expansions)

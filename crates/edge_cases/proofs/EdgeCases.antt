@@ -1,4 +1,4 @@
--- 01's marked cases, and some more, computed from the definitions. The statements of the marked ones are in specs/MarkedCases.antt.
+-- The cases of the table specs/MarkedCases.antt, and some more, computed from the definitions.
 use mathlib.Core.Bool.{xor}
 use Prim.Native.Nat.{ℕ}
 use mathlib.Core.List.{List, [], _∷_, _++_, map}
@@ -67,7 +67,7 @@ walked-plain : (s : List ℕ) (n : ℕ) (cs : List (List Literal)) (row : List �
 walked-plain s n cs row e k =
     ap (map line) (calls-plain s (whole n cs) (accepted-posed s n cs row e) (call-accepted s n cs row e) (replicate k ample-budget))
 
--- ---- the marked cases
+-- ---- the table
 
 pub marked-cases : MarkedCases
 unfolding judging walking printing
@@ -86,7 +86,7 @@ marked-cases = record {
   start-zero = start-zero;
 }
 
--- ---- not in 01
+-- ---- more cases
 
 -- the first candidates fail: the expansions of their trials count too
 pub failed-trials : walked (formula-bytes 4 ((off 1 ∷ off 2 ∷ off 3 ∷ []) ∷ (on 2 ∷ on 3 ∷ on 4 ∷ []) ∷ (on 1 ∷ on 4 ∷ []) ∷ (on 1 ∷ off 4 ∷ []) ∷ [])) 6
@@ -111,12 +111,12 @@ pub more-failed-trials : walked (formula-bytes 4 ((on 3 ∷ on 4 ∷ []) ∷ (on
 unfolding walking
 more-failed-trials = walked-plain _ _ _ _ refl 5
 
--- refusals as they are printed: no bytes, 'refused 2 0'
+-- S12.1: refusals as they are printed: the empty input, `refused 2 0`
 pub no-bytes-printed : printed [] ≡ refused-word ++ (blank ∷ 50 ∷ blank ∷ 48 ∷ line-feed ∷ [])
 unfolding printing
 no-bytes-printed = refl
 
--- 01 01 04 05: 'refused 10 1'
+-- an empty clause alone, `refused 10 1`
 pub empty-clause-printed : printed (1 ∷ 1 ∷ 4 ∷ 5 ∷ []) ≡ refused-word ++ (blank ∷ 49 ∷ 48 ∷ blank ∷ 49 ∷ line-feed ∷ [])
 unfolding printing
 empty-clause-printed = refl

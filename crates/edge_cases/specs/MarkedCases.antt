@@ -1,5 +1,5 @@
--- 01, 'Cases at the edges (♦ proved)': the marked cases as one table, in 01's order. Where 01 gives the bytes of a sheet, the statement
--- begins from them, and where it gives rules, from the bytes of these rules.
+-- The cases at the edges, as one table: each from the bytes of an input, which are written out or are those of the clauses. In the
+-- comments a variable is its number from 1, and ¬ stands before it where it is named as false.
 use Prim.Native.Nat.{ℕ, _+_, _-_, _*_, _≤_}
 use mathlib.Core.Bool.{true, false}
 use mathlib.Core.List.{List, [], _∷_, _++_, map}
@@ -20,19 +20,19 @@ use Rattle.printing.specs.Printed.{switches-word, rules-word, end-word, printed
 
 -- ---- how the cases are written
 
--- 01's switch s, named as on or as off
+-- the variable of number s, from 1, named as true or as false (request: switch s, on or off)
 abbrev pub on : ℕ → Literal
 on s = record { variable = s - 1; positive = true }
 
 abbrev pub off : ℕ → Literal
 off s = record { variable = s - 1; positive = false }
 
--- 01's digits of a set-up, switch 1 first
+-- S12.1: the assignment of printed digits, variable 0 first
 abbrev pub digits-assignment : List ℕ → ℕ
 digits-assignment [] = 0
 digits-assignment (d ∷ ds) = d + 2 * digits-assignment ds
 
--- a line of a walk: what a walk call says, its model, its steps (01: moves) and its expansions (01: reaches)
+-- a line of a walk: what a walk call says, its model, its steps and its expansions
 pub record Line : Type 0 where
   pub kind : AnswerKind
   pub model : ℕ
@@ -60,48 +60,48 @@ refusal-of (refused r) = table-row r
 abbrev pub number-at : ℕ → ℕ → TableRow
 number-at k p = record { number = k; place = p }
 
--- judge refuses by 10 with this place, and writes these marks into a buffer (01: slate) that is not short
+-- S5.7: judge refuses by 10 with this place, and writes these marks into a buffer that is not short
 abbrev pub UnmatchedAt : List ℕ → ℕ → List ℕ → Type 0
 UnmatchedAt s p marks =
     (b : List ℕ) → max-clauses ≤ length b
     → judge s b ≡ record { answer = record { number = 10; place = p; variables = 0; clauses = 0 }; buffer = marks ++ drop (length marks) b }
 
--- 'Input 01 02 02 01 02 02 04 03 01 03 02 04 05'
+-- S12.3: the example: 2 variables, clauses (1, 2) and (¬1, ¬2)
 abbrev pub example : List ℕ
 example = 1 ∷ 2 ∷ 2 ∷ 1 ∷ 2 ∷ 2 ∷ 4 ∷ 3 ∷ 1 ∷ 3 ∷ 2 ∷ 4 ∷ 5 ∷ []
 
 -- ---- the table
 
 pub record MarkedCases : Type 0 where
-  -- 'the sheet above: slate 1, 2,'
+  -- the example is matched: the buffer begins with the variables 1 and 2
   pub example-matching : (b : List ℕ) → max-clauses ≤ length b → judge example b ≡ record { answer = accepted-values 2 2; buffer = 1 ∷ 2 ∷ drop 2 b }
-  -- 'and the four lines': switches 2 rules 2, 01 2 2, 10 4 0, end 2 0
+  -- S12.3: it is printed as `switches 2 rules 2`, `01 2 2`, `10 4 0`, `end 2 0`
   pub example-printed : printed example
       ≡ (switches-word ++ (blank ∷ 50 ∷ blank ∷ [])) ++ (rules-word ++ (blank ∷ 50 ∷ line-feed ∷ []))
       ++ (48 ∷ 49 ∷ blank ∷ 50 ∷ blank ∷ 50 ∷ line-feed ∷ [])
       ++ (49 ∷ 48 ∷ blank ∷ 52 ∷ blank ∷ 48 ∷ line-feed ∷ [])
       ++ (end-word ++ (blank ∷ 50 ∷ blank ∷ 48 ∷ line-feed ∷ []))
-  -- 'rules (1 on, 2 on), (1 on, 3 on), (2 on, 3 on), n = 3: 110, 101, 011, 111 at 3, 6, 4, 2 moves, end 3, no reaches'
+  -- 3 variables, clauses (1, 2), (1, 3), (2, 3): stripping leaves nothing, so no expansion is made
   pub three-pairs : walked (formula-bytes 3 ((on 1 ∷ on 2 ∷ []) ∷ (on 1 ∷ on 3 ∷ []) ∷ (on 2 ∷ on 3 ∷ []) ∷ [])) 5
       ≡ model-at (1 ∷ 1 ∷ 0 ∷ []) 3 0 ∷ model-at (1 ∷ 0 ∷ 1 ∷ []) 6 0 ∷ model-at (0 ∷ 1 ∷ 1 ∷ []) 4 0 ∷ model-at (1 ∷ 1 ∷ 1 ∷ []) 2 0 ∷ end-at 3 0 ∷ []
-  -- 'rules (1 on, 2 on), (1 on, 2 off), n = 2: 10, 11 at 2, 4 moves, end 2'
+  -- 2 variables, clauses (1, 2), (1, ¬2): with 1 false no clause is empty yet, but no model is left; the walk never assigns it so
   pub wrong-turn : walked (formula-bytes 2 ((on 1 ∷ on 2 ∷ []) ∷ (on 1 ∷ off 2 ∷ []) ∷ [])) 3
       ≡ model-at (1 ∷ 0 ∷ []) 2 0 ∷ model-at (1 ∷ 1 ∷ []) 4 0 ∷ end-at 2 0 ∷ []
-  -- '01 02 05: 00, 01, 10, 11 at 2, 2, 4, 2 moves, end 2'
+  -- 2 variables and no clause: all four assignments are models
   pub no-clauses : walked (1 ∷ 2 ∷ 5 ∷ []) 5
       ≡ model-at (0 ∷ 0 ∷ []) 2 0 ∷ model-at (0 ∷ 1 ∷ []) 2 0 ∷ model-at (1 ∷ 0 ∷ []) 4 0 ∷ model-at (1 ∷ 1 ∷ []) 2 0 ∷ end-at 2 0 ∷ []
-  -- 'no bytes: 2 at 0'
+  -- the empty input: 2 at 0
   pub no-bytes : refusal-of (decode []) ≡ number-at 2 0
-  -- '01 01 04 05: 10, place 1'
+  -- an empty clause alone: 10, one clause marked
   pub empty-clause : UnmatchedAt (1 ∷ 1 ∷ 4 ∷ 5 ∷ []) 1 (1 ∷ [])
-  -- '01 01 02 01 04 03 01 04 05: 10, place 2'
+  -- 1 variable, clauses (1) and (¬1): 10, two clauses marked
   pub both-ways : UnmatchedAt (1 ∷ 1 ∷ 2 ∷ 1 ∷ 4 ∷ 3 ∷ 1 ∷ 4 ∷ 5 ∷ []) 2 (1 ∷ 1 ∷ [])
-  -- '01 02 02 01 03 01 04 05: 7 at 4'
+  -- a clause (1, ¬1): 7 at its second literal, offset 4
   pub named-twice : refusal-of (decode (1 ∷ 2 ∷ 2 ∷ 1 ∷ 3 ∷ 1 ∷ 4 ∷ 5 ∷ [])) ≡ number-at 7 4
-  -- '01 01 02 01 05: 4 at 4'
+  -- kind 5 after a literal, with no kind 4 between: 4 at offset 4
   pub clause-not-ended : refusal-of (decode (1 ∷ 1 ∷ 2 ∷ 1 ∷ 5 ∷ [])) ≡ number-at 4 4
-  -- '01 01 05 00: 9 at 3'
+  -- a byte behind kind 5: 9 at offset 3
   pub tail-byte : refusal-of (decode (1 ∷ 1 ∷ 5 ∷ 0 ∷ [])) ≡ number-at 9 3
-  -- 'start marker, budget 0, pairable sheet: spent', with no step made and the checkpoint unchanged
+  -- S8.2: an accepted formula, from the start checkpoint, on budget 0: spent, with no step made and the checkpoint unchanged
   pub start-zero : (s : List ℕ) (n : ℕ) (cs : List (List Literal)) → decode s ≡ readable n cs → (vs : List ℕ) → Pairs cs vs
       → walk-call s start 0 ≡ answered spent 0 0 start

@@ -1,1 +1,1 @@
-// Theory only: the cases at the edges that document 01 marks to be proved. See specs/MarkedCases.antt.
+// Theory only: cases at the edges, computed from the definitions. The table of them is specs/MarkedCases.antt.

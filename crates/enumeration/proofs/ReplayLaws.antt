@@ -53,7 +53,7 @@ module _ (f : Formula) (K : Tree) (F : Follows f K) (s : State) (h : Holds K s) 
       choice-low : c .variable < f .variables
       choice-low = rw e (F .low (stack-in s) (h .replayed) within)
 
-      -- another variable than the mask-choice one
+      -- another variable than the chosen one
       replays-other : (v : ℕ) (b : Bool) → (v ≡ c .variable → ⊥) → replays K (push v b (stack-in s)) ≡ false
       unfolding replays
       replays-other v b x =
@@ -65,7 +65,7 @@ module _ (f : Formula) (K : Tree) (F : Follows f K) (s : State) (h : Holds K s) 
       pub replayed-other : (v : ℕ) (b : Bool) → (v ≡ c .variable → ⊥) → Replayed K (push v b (stack-in s)) (record { known = false; state = s })
       replayed-other v b x = record { known = sym (replays-other v b x); node = λ y. absurd (false≢true y) }
 
-      -- the mask-choice one
+      -- the chosen one
       replays-open : (b : Bool) → replays K (push (c .variable) b (stack-in s)) ≡ opened c b
       unfolding replays
       replays-open b =
@@ -88,7 +88,7 @@ module _ (f : Formula) (K : Tree) (F : Follows f K) (s : State) (h : Holds K s) 
             place = refl;
           }
 
-      -- so the mask-choice one is known if its value is open
+      -- so the chosen one is known if its value is open
       pub replayed-chosen : (v : ℕ) (x b free : Bool) (u : State) → (free ≡ true → Free K (stack-in s)) → v ≡ c .variable → x ≡ b
           → u ≡ pushing (noted s (c .true_open) free) (c .variable) b → Replayed K (push v x (stack-in s)) (record { known = opened c b; state = u })
       replayed-chosen v x b free u g p q r = rw (p, q, r) (record { known = sym (replays-open b); node = node-more b free g })
@@ -99,7 +99,7 @@ module _ (f : Formula) (s : State) (w : Valid f s) (ne : s .length ≡ f .variab
   pub valid-short : s .length < f .variables
   valid-short = not-full f (w .tree) (w .follows) s (w .holds) ne
 
-  -- the mask-choice variable is one of the formula's
+  -- the chosen variable is one of the formula's
   pub valid-low : (c : Choice) → c ≡ mask-choice f (full (f .variables)) (s .assignment) → c .variable < f .variables
   valid-low c x = choice-low f (w .tree) (w .follows) s (w .holds) ne c (choice-is f (w .tree) (w .follows) s (w .holds) ne c x)
 

@@ -1,4 +1,4 @@
--- 01's walked-values of what a walk call gives, for each case of its answer.
+-- S8.1: the values of what a walk call gives, for each case of its answer.
 use Prim.Native.Nat.{ℕ}
 use Rattle.formula.specs.Refusals.{table-row}
 use Rattle.walk.specs.Checkpoints as walk
@@ -13,7 +13,7 @@ use Rattle.enumeration.specs.declared.calls.Walked.{Walked}
 abbrev pub checkpoint-values : Checkpoint → walk.Checkpoint
 checkpoint-values c = record { mode = c .mode; length = c .length; bytes = c .bytes }
 
--- 'a set-up, spent, ended, refused': the model, or 0; the refusal's number and place, or zeros
+-- the values of each answer: the model, or 0; the refusal's number and place, or zeros
 abbrev pub answer-values : Answer → ℕ → ℕ → walk.Checkpoint → Result
 answer-values (Model a) s e c = record { kind = says-model; model = a; number = 0; place = 0; steps = s; expansions = e; checkpoint = c }
 answer-values Spent s e c = record { kind = says-spent; model = 0; number = 0; place = 0; steps = s; expansions = e; checkpoint = c }

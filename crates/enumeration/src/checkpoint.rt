@@ -1,4 +1,4 @@
-// Checkpoints (01: markers): the one of the start, the bytes of assigned variables, and the form that a checkpoint has.
+// S7.2: checkpoints: the one of the start, the bytes of assigned variables, and the form that a checkpoint has.
 ghost use mathlib.Core.Path.{_≡_};
 ghost use Prim.Native.Nat.{_<_, _≤_};
 ghost use lib.ListN.{length, take, drop};
@@ -8,14 +8,14 @@ ghost use Rattle.walk.specs.InnerTest.{byte-number, numbered, zeros};
 ghost use Rattle.enumeration.specs.Values.{checkpoint-values};
 ghost use Rattle.enumeration.specs.InnerRead.{FormTested};
 
-// A checkpoint (01: marker): its mode, its length, and a byte for each assigned variable in order.
+// A checkpoint (request: marker): its mode, its length, and a byte for each assigned variable in order.
 pub struct Checkpoint {
     pub mode: u8,
     pub length: u8,
     pub bytes: [u8; limits::MAX_VARIABLES],
 }
 
-// The start checkpoint (01: start marker).
+// S8.3: the start checkpoint (request: start marker).
 pub fn start_checkpoint() -> Checkpoint
     ensures { λ r. ⌜ checkpoint-values r ≡ start ⌝ }
 {

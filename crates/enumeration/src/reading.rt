@@ -1,4 +1,4 @@
-// The test of a checkpoint (01: 11): its trail is assigned again, then its mode's place is taken.
+// S7.4: the test of a checkpoint, for refusal 11: its trail is assigned again, then its mode's place is taken.
 ghost use mathlib.Core.Path.{_≡_};
 ghost use Prim.Native.Nat.{_-_, _≤_};
 ghost use mathlib.Core.Bool.{true, false};
@@ -167,7 +167,7 @@ fn take_place(f: Formula, s: State, mode: u8) -> Tested
     }
 }
 
-// The checkpoint's test (01: 11), and the state that it stands for.
+// S7.4: the checkpoint's test, and the state that it stands for.
 pub fn read_checkpoint(f: Formula, c: Checkpoint) -> Tested
     requires { ⌜ FormulaFits f × HasTree f ⌝ }
     ensures { λ r. ⌜ ((K : Tree) → Follows f K → PlaceTaken K (c .mode) (read (checkpoint-values c)) (accepts K (checkpoint-values c)) r) ⌝ }

@@ -28,14 +28,14 @@ unfolding with-literals
 with-literals-last c [] l = refl
 with-literals-last c (k ∷ ls) l = with-literals-last (with-literal c (k .variable) (k .positive)) ls l
 
--- a literal more names its variable and what was clause-variables
+-- a literal more names its variable and what was named
 pub with-literal-names : (c : Clause) (v : ℕ) (sign : Bool) (i : ℕ) → bit (clause-variables (with-literal c v sign)) i ≡ bit (clause-variables c) i || eqb i v
 with-literal-names c v true i =
     simp (bit-or, bit-pow) (or-swap (bit (c .positive) i) (bit (c .negative) i) (eqb i v))
 with-literal-names c v false i =
     simp (bit-or, bit-pow) (sym (or-assoc (bit (c .positive) i) (bit (c .negative) i) (eqb i v)))
 
--- the masks name v if they clause-variables it before, or a literal does
+-- the masks name v if they named it before, or a literal does
 with-literals-names : (c : Clause) (ls : List Literal) (v : ℕ) → bit (clause-variables (with-literals c ls)) v ≡ bit (clause-variables c) v || names ls v
 unfolding with-literals names
 with-literals-names c [] v = sym (or-false (bit (clause-variables c) v))
@@ -118,7 +118,7 @@ empty-below : (n : ℕ) (sign : Bool) → side no-clause sign < 2 ^ n
 empty-below n true = pow-pos n
 empty-below n false = pow-pos n
 
--- what is clause-variables one way is clause-variables
+-- what is named one way is named
 pub named-as : (c : List Literal) (v : ℕ) (sign : Bool) → names-as c v sign ≡ true → names c v ≡ true
 unfolding names names-as
 named-as [] v sign e = e

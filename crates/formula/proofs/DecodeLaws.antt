@@ -106,7 +106,7 @@ gives-beginning (inside n cs c) h g =
     (gives-record (count n (h .0 .some) (h .0 .most))
     (gives-clauses [] cs (h .0 .clauses) (h .0 .few) (gives-literals [] c (h .1 .below) (h .1 .once) g)))
 
--- kind 5 and nothing after it gives the formula
+-- kind 5 as the last byte gives the formula
 pub gives-formula : (len n : ℕ) (cs : List (List Literal)) → Gives len (reading-of (inside n cs [])) (5 ∷ []) (readable n cs)
 unfolding read-record
 gives-formula len n cs = gives-stop (rw (lt-ltb 0 (length (written (inside n cs []))) (omega arith)))

@@ -1,6 +1,5 @@
--- What reading and check owe to the demands. Demand 1: a formula is read to its end or refused by the number that the order
--- of checks reaches first. Demand 2: an assignment is a model if every clause has a variable standing the way that it names
--- it; check says so.
+-- What reading and check owe to the demands (S10). Demand 1: any bytes at all are read as the one formula that they encode, or refused
+-- by the first check that fails. Demand 2: check tells models from other assignments.
 use Prim.Native.Nat.{ℕ, _≤_}
 use mathlib.Core.List.{List}
 use mathlib.Core.Logic.{_↔_}
@@ -26,23 +25,23 @@ use Rattle.formula.proofs.OutcomeLaws.{decode-gives, decode-means}
 use Rattle.formula.proofs.RefusalLaws.{given-number}
 use Rattle.formula.proofs.VerdictLaws.{says, says-yes, says-no, says-stray, checked-model, checked-no-model, checked-stray}
 
--- 'The sheet': what is accepted is an encoded formula, of that many variables and of those clauses
+-- S10, demand 1: what is accepted is an encoded formula (S2), of that many variables and of those clauses
 pub accepted-only : (s : List ℕ) (n : ℕ) (cs : List (List Literal)) → decode s ≡ readable n cs → Encodes s n cs
 accepted-only s n cs e = rw e at (decode-means s)
 
--- 'The sheet': every encoded formula is accepted, as the formula that it encodes
+-- S10, demand 1: every encoded formula is accepted, as the formula that it encodes
 pub accepted-all : (s : List ℕ) (n : ℕ) (cs : List (List Literal)) → Encodes s n cs → decode s ≡ readable n cs
 accepted-all s n cs = decode-gives s (readable n cs)
 
--- 'The verdict-refused table': a verdict-refused is given only where its column 'given if' says so, and no check before it in the order fails
+-- S10, demand 1: a refusal is given only where its row of the table (S3.1) applies and no earlier check fails (S3.2)
 pub refused-only : (s : List ℕ) (r : Refusal) → decode s ≡ refused r → Refuses s r
 refused-only s r e = rw e at (decode-means s)
 
--- 'The verdict-refused table': and wherever it says so
+-- and wherever that is so
 pub refused-all : (s : List ℕ) (r : Refusal) → Refuses s r → decode s ≡ refused r
 refused-all s r = decode-gives s (refused r)
 
--- 'the longest readable sheet has 9,315 bytes'
+-- S2.3: the length of the longest readable input, as a number
 pub longest-is : max-bytes ≡ 9315
 longest-is = refl
 
@@ -54,8 +53,8 @@ longest s n cs e = formula-le (accepted-only s n cs e)
 pub longest-exists : (s : List ℕ) × (cs : List (List Literal)) × (length s ≡ max-bytes) × (decode s ≡ readable max-variables cs)
 longest-exists = (formula-bytes max-variables fullest, fullest, fullest-length, accepted-all (formula-bytes max-variables fullest) max-variables fullest fullest-encoded)
 
--- 'The verdict-refused table', order, 'record by record from the front': the bound in the definition is never what stops it. Wherever
--- reading stands and s is left, any larger bound gives the same,
+-- S3.2: the bound in the definition of `records` is never what stops it. Wherever reading stands and s is left, any larger bound gives
+-- the same,
 pub records-unbounded : (len : ℕ) (r : Reading) (s : List ℕ) (k : ℕ) → length s ≤ k → records k len r s ≡ records (length s) len r s
 records-unbounded len r s k h = records-same k (length s) len r s h (omega arith)
 
@@ -67,30 +66,30 @@ records-next len r r′ s s′ e = records-on len r r′ s s′ e
 pub records-stop : (len : ℕ) (r : Reading) (s : List ℕ) (d : Decoding) → read-record len r s ≡ stop d → records (length s) len r s ≡ d
 records-stop len r s d e = gives-stop e .runs (length s) (omega arith)
 
--- 'The sheet': bytes encode one formula at most
+-- S2: bytes encode one formula at most
 pub unique : (s : List ℕ) (n n′ : ℕ) (cs cs′ : List (List Literal)) → Encodes s n cs → Encodes s n′ cs′ → (n ≡ n′) × (cs ≡ cs′)
 unique s n n′ cs cs′ e e′ = let q : readable n cs ≡ readable n′ cs′ = sym (accepted-all s n cs e) ∙ accepted-all s n′ cs′ e′ in (cc, cc)
 
--- 'The verdict-refused table', order: reading gives the refusals 2 to 9 only
+-- S3.2: reading gives the refusals 2 to 9 only
 pub numbers : (s : List ℕ) (r : Refusal) → decode s ≡ refused r → (2 ≤ table-row r .number) × (table-row r .number ≤ 9)
 numbers s r e = given-number (refused-only s r e .given)
 
--- 'n, 1 to 48', 'At most 96 rules': an accepted formula fits, its masks are below 2 ^ n and no variable is in both masks of a clause
+-- S2.3: an accepted formula keeps the limits, its masks are below 2 ^ n and no variable is in both masks of a clause
 pub accepted-fits : (s : List ℕ) (n : ℕ) (cs : List (List Literal)) → decode s ≡ readable n cs → FormulaFits (formula-of n cs)
 accepted-fits s n cs e = formula-fits (accepted-only s n cs e .sized)
 
--- 'Check answers yes if the set-up is permitted', whether or not the clauses can be matched
+-- S10, demand 2: check says yes exactly of the models of a readable input, whether or not its clauses can be matched (S4.3)
 pub check-yes : (s : List ℕ) (a : ℕ) → (checked s a .said ≡ said-yes) ↔ ModelOf s a
 check-yes s a = (says-yes (says s a), λ m. ap (λ (x : VerdictValues). x .said) (checked-model s a m))
 
--- 'and no if it isn't'
+-- no exactly of an assignment that is not a model and has no variable from n on true
 pub check-no : (s : List ℕ) (a : ℕ) → (checked s a .said ≡ said-no) ↔ NoModelOf s a
 check-no s a = (says-no (says s a), λ m. ap (λ (x : VerdictValues). x .said) (checked-no-model s a m))
 
--- 12: 'a checked set-up has a switch above n on', place 0
+-- 12 at place 0 exactly of one that has such a variable true
 pub check-stray : (s : List ℕ) (a : ℕ) → (checked s a ≡ verdict-refused (StrayVariable 0)) ↔ StrayOf s a
 check-stray s a = (says-stray (says s a), checked-stray s a)
 
--- 'Check uses 2 to 9 and 12 only': an unreadable input gets its own verdict-refused
+-- and an unreadable input gets the reader's refusal, one of 2 to 9
 pub check-refused : (s : List ℕ) (r : Refusal) (a : ℕ) → decode s ≡ refused r → checked s a ≡ verdict-refused r
 check-refused = checked-refused

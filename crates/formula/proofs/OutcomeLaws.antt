@@ -1,4 +1,4 @@
--- Every input is the bytes of a formula or meets a refusal's 'given if'.
+-- Every input is the bytes of a formula or one that a refusal is given for.
 use Prim.Native.Nat.{ℕ, zero, suc, _+_, _-_, _≤_, _<_}
 use mathlib.Core.Bool.{Bool, true, false}
 use mathlib.Core.List.{List, [], _∷_, _++_, append-assoc}
@@ -83,7 +83,7 @@ module _ (len : ℕ) where
       (literal-front n cs c false s (inner-stands n cs c 3 (omega arith) (omega arith)) (omega arith)) (clause-front n cs c s (g .0))
       (formula-front n cs c s) (λ k o. fails (UnknownKind _) (kind-unknown k o)) k
 
--- what a result of reading says of the input: it is the bytes of that formula, or meets that refusal's 'given if'
+-- what a result of reading says of the input: it is the bytes of that formula, or that refusal is given for it
 abbrev pub DecodesTo : List ℕ → Decoding → Type 0
 DecodesTo s (readable n cs) = Encodes s n cs
 DecodesTo s (refused r) = Refuses s r

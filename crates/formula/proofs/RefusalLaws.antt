@@ -42,7 +42,7 @@ pub inner-stands : (n : ℕ) (cs : List (List Literal)) (c : List Literal) (k : 
 inner-stands n cs c k h l = (h, omega arith, λ q. absurd (omega arith))
 
 module _ (len : ℕ) where
-  -- 3: a kind byte that is not 1 to 5
+  -- 3: a kind that is 0 or above 5
   unknown-read : (r : Reading) (k : ℕ) (s : List ℕ) → (k < 1) ⊎ (5 < k) → read-record len r (k ∷ s) ≡ refuse (UnknownKind (r .at))
   unfolding read-record
   unknown-read r k s (inl h) = let e : k ≡ 0 = omega arith in ap (λ (j : ℕ). read-record len r (j ∷ s)) e
@@ -92,7 +92,7 @@ module _ (len : ℕ) where
   repeated-read r true v s h l k f = rw (lt-ltb 0 (r .at) h, lt-ltb 0 v l, le-leb v (r .variables) k, f)
   repeated-read r false v s h l k f = rw (lt-ltb 0 (r .at) h, lt-ltb 0 v l, le-leb v (r .variables) k, f)
 
-  -- a record that meets a refusal's 'given if' is refused so
+  -- a record that a refusal is given for is refused so
   pub given-read : {b : Beginning} {at : ℕ} {s : List ℕ} {r : Refusal} → Given len at b s r → at ≡ length (written b)
       → read-record len (reading-of b) s ≡ refuse r
   unfolding read-record

@@ -66,7 +66,7 @@ says-no (no-for m) e = m
 says-no (stray-for m) e = let z : _≡_ {A = ℕ} 0 1 = cc in absurd (omega arith)
 says-no (refused-for r d) e = let z : _≡_ {A = ℕ} 0 1 = cc in absurd (omega arith)
 
--- and what the assignment is fixes the verdict-said
+-- and what the assignment is fixes the verdict
 pub checked-model : (s : List ℕ) (a : ℕ) → ModelOf s a → checked s a ≡ verdict-said said-yes
 unfolding checked
 checked-model s a m = let t = model-tests (m .variables) (m .clauses) a (m .model) in rw (m .reads, t .0, t .1)
@@ -90,7 +90,7 @@ pub checked-stray : (s : List ℕ) (a : ℕ) → StrayOf s a → checked s a ≡
 unfolding checked
 checked-stray s a m = rw (m .reads, some-stray (m .variables) a (m .variable) (m .above) (m .is-true))
 
--- a verdict-refused that reading gives is not 12
+-- a refusal that reading gives is not 12
 pub says-stray : {s : List ℕ} {a : ℕ} {x : VerdictValues} → Says s a x → x ≡ verdict-refused (StrayVariable 0) → StrayOf s a
 says-stray (yes-for m) e = absurd (omega (arith, ap (λ (x : VerdictValues). x .number) e))
 says-stray (no-for m) e = absurd (omega (arith, ap (λ (x : VerdictValues). x .number) e))

@@ -1,4 +1,4 @@
--- 01: the act check. It uses the refusals 2 to 9 and 12.
+-- S4.3: the act check. Its refusals are the reader's, 2 to 9, and 12.
 use Prim.Native.Nat.{ℕ}
 use mathlib.Core.Bool.{cond}
 use mathlib.Core.List.{List}
@@ -16,7 +16,7 @@ pub data Said : Type 0 where
   said-no : Said
   said-neither : Said
 
--- 01's verdict-values of an verdict-said: what it says, and the verdict-refused's number and place, else zeros
+-- the values of a verdict: what it says, and the refusal's number and place, else zeros
 pub record VerdictValues : Type 0 where
   pub said : Said
   pub number : ℕ
@@ -28,7 +28,7 @@ verdict-said s = record { said = s; number = 0; place = 0 }
 abbrev pub verdict-refused : Refusal → VerdictValues
 verdict-refused r = record { said = said-neither; number = table-row r .number; place = table-row r .place }
 
--- the verdict-values of each case
+-- the values of each case of a verdict
 abbrev pub verdict-values : Verdict → VerdictValues
 verdict-values Model = verdict-said said-yes
 verdict-values NotModel = verdict-said said-no

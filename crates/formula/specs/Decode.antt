@@ -1,5 +1,5 @@
--- 01, 'The refusal table', the order of checks: record by record from the front (kind present, 2; known, 3; allowed
--- here, 4; body present, 2; then 5, 6, 7 or 8); then 9.
+-- S3.2: the reader, in the order of checks. Of each record in turn: there is a kind (else 2), a known one (3), and it may stand here
+-- (4); there is its body (2), and it fits (5, 6, 7 or 8). After the record of kind 5 there is no byte (9).
 use Prim.Native.Nat.{ℕ, zero, suc, _+_, _-_}
 use mathlib.Core.Bool.{Bool, true, false, cond, _&&_}
 use mathlib.Core.List.{List, [], _∷_, _++_}
@@ -15,7 +15,7 @@ pub data Decoding : Type 0 where
   readable : ℕ → List (List Literal) → Decoding
   refused : Refusal → Decoding
 
--- 01's kinds 1 to 5
+-- S2.1: the kinds 1 to 5, and any other byte
 pub data Kind : Type 0 where
   variable-count : Kind
   literal : Bool → Kind
@@ -60,7 +60,7 @@ abbrev pub none-yet : List Literal → Bool
 none-yet [] = true
 none-yet (l ∷ c) = false
 
--- kind 1 comes first and only there; kind 5 may not stand while a clause has records and no end
+-- S2.2: kind 1 stands at offset 0, the other kinds after it, and kind 5 only where the current clause has no literal
 abbrev pub allowed : Reading → Kind → Bool
 allowed r variable-count = eqb (r .at) 0
 allowed r (literal sign) = ltb 0 (r .at)
@@ -76,7 +76,7 @@ variable-count-body len r (n ∷ s) =
     (next (record { at = r .at + 2; variables = n; ended = r .ended; current = r .current }) s)
     (refuse (BadVariableCount (r .at)))
 
--- the body of kinds 2 and 3: a variable, 1 to n (else 6), that this clause has not named (else 7)
+-- the body of a literal, kind 2 or 3: a variable, 1 to n (else 6), that this clause has not named (else 7)
 abbrev pub literal-body : ℕ → Reading → Bool → List ℕ → Step
 literal-body len r sign [] = refuse (Truncated len)
 literal-body len r sign (b ∷ s) =

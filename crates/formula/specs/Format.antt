@@ -1,5 +1,5 @@
--- 01, 'The sheet': an encoded formula as a grammar. A formula is a number of variables and a list of clauses; a clause
--- is the list of its literals in written order. Variables count from 0: variable v is 01's switch v + 1.
+-- S2: an encoded formula (request: sheet) as a grammar. A formula is a number of variables and a list of clauses (S2.4); a clause
+-- (request: rule) is the list of its literals in written order. Variables count from 0: in the format, variable v is v + 1.
 use Prim.Native.Nat.{ℕ, _+_, _*_, _<_, _≤_}
 use mathlib.Core.Bool.{Bool, true, false, not, _&&_, _||_, Bool·beq}
 use mathlib.Core.List.{List, [], _∷_, _++_}
@@ -9,12 +9,12 @@ use lib.ListN.{length}
 use Rattle.limits.specs.Limits.{max-variables, max-clauses}
 use Rattle.lists.specs.Every.{Every}
 
--- a variable named as true (01: a switch named as on) or as false
+-- a literal: a variable (request: switch) named as true (request: on) or as false (request: off)
 pub record Literal : Type 0 where
   pub variable : ℕ
   pub positive : Bool
 
--- kind 2 names a variable as true, kind 3 as false
+-- S2.1: kind 2 names a variable as true, kind 3 as false
 abbrev pub literal-kind : Bool → ℕ
 literal-kind true = 2
 literal-kind false = 3
@@ -27,7 +27,7 @@ unfoldable pub literals-bytes : List Literal → List ℕ
 literals-bytes [] = []
 literals-bytes (l ∷ c) = literal-bytes l ++ literals-bytes c
 
--- a clause: zero or more literals, followed by kind 4
+-- S2.2: a clause: its literals, none or more, then kind 4
 unfoldable pub clause-bytes : List Literal → List ℕ
 clause-bytes c = literals-bytes c ++ (4 ∷ [])
 
@@ -35,7 +35,7 @@ unfoldable pub clauses-bytes : List (List Literal) → List ℕ
 clauses-bytes [] = []
 clauses-bytes (c ∷ cs) = clause-bytes c ++ clauses-bytes cs
 
--- kind 1 with the number of variables, then the clauses, then kind 5
+-- S2.2: kind 1 with the number of variables, then the clauses, then kind 5
 unfoldable pub formula-bytes : ℕ → List (List Literal) → List ℕ
 formula-bytes n cs = 1 ∷ n ∷ (clauses-bytes cs ++ (5 ∷ []))
 
@@ -59,7 +59,7 @@ pub record ClauseOver (n : ℕ) (c : List Literal) : Type 0 where
   pub below : Every (λ l. l .variable < n) c
   pub once : distinct c ≡ true
 
--- 1 to 48 variables and at most 96 clauses over them
+-- S2.3: 1 to 48 variables and at most 96 clauses over them
 pub record Sized (n : ℕ) (cs : List (List Literal)) : Type 0 where
   pub some : 1 ≤ n
   pub most : n ≤ max-variables
@@ -70,7 +70,7 @@ pub record Sized (n : ℕ) (cs : List (List Literal)) : Type 0 where
 abbrev pub max-clause-bytes : ℕ
 max-clause-bytes = 2 * max-variables + 1
 
--- 'the longest readable sheet has 9,315 bytes': kind 1 with its number, the most clauses of the most bytes, kind 5
+-- S2.3: the bytes of the longest readable input: kind 1 with its number, the most clauses of the most bytes, kind 5
 abbrev pub max-bytes : ℕ
 max-bytes = 2 + max-clauses * max-clause-bytes + 1
 

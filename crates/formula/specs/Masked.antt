@@ -1,4 +1,4 @@
--- A formula as the code holds it: a clause is two masks, the clauses an array of 96 (01: set-ups and rules as 64-bit masks).
+-- A formula (S2.4) as the code holds it: a clause is two masks, the clauses an array of 96.
 use Prim.Native.Nat.{ℕ, _^_, _<_, _≤_}
 use mathlib.Core.Bool.{Bool, true, false}
 use mathlib.Core.List.{List, [], _∷_, map}
@@ -58,7 +58,7 @@ held (refused r) = record { outcome = Refused r; formula = formula-of 0 [] }
 unfoldable pub decoded : List ℕ → Decoded
 decoded s = held (decode s)
 
--- a clause over the variables below n, none of them clause-variables both ways
+-- a clause over the variables below n, none of them named both ways
 pub record ClauseFits (n : ℕ) (c : Clause) : Type 0 where
   pub below : (sign : Bool) → side c sign < 2 ^ n
   pub apart : meets (c .positive) (c .negative) ≡ false

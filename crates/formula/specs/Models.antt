@@ -1,4 +1,4 @@
--- 01: set-ups and permitted set-ups. An assignment (01: set-up) is a 64-bit mask: variable v is true if bit v is set.
+-- S4: assignments and models. An assignment (request: set-up) is a 64-bit mask: variable v is true if bit v is set.
 use Prim.Native.Nat.{ℕ, _/_, _^_, _≤_}
 use mathlib.Core.Bool.{Bool, true, false, not, _&&_, _||_, Bool·beq}
 use mathlib.Core.List.{List, [], _∷_, List·Memᴰ}
@@ -8,8 +8,7 @@ use Rattle.masks.specs.Mask.{bit}
 use Rattle.formula.specs.Decode.{readable, decode}
 use Rattle.formula.specs.Format.{Literal}
 
--- a model (01: permitted set-up): every clause has a variable standing the way that the clause names it, and no variable
--- from n on is true
+-- S4.2: a model (request: permitted set-up): of every clause some literal is true, and no variable from n on is
 pub record Model (n : ℕ) (cs : List (List Literal)) (a : ℕ) : Type 0 where
   pub satisfies : (c : List Literal) → List·Memᴰ c cs → (l : Literal) × List·Memᴰ l c × (bit a (l .variable) ≡ l .positive)
   pub none-above : (v : ℕ) → n ≤ v → bit a v ≡ false
@@ -29,7 +28,7 @@ pub record NoModelOf (s : List ℕ) (a : ℕ) : Type 0 where
   pub none-above : (v : ℕ) → variables ≤ v → bit a v ≡ false
   pub fails : Model variables clauses a → ⊥
 
--- a stray variable (01: a switch above n that is on): the input is readable, and a variable from n on is true
+-- a stray variable (request: stray switch): the input is readable, and a variable from n on is true
 pub record StrayOf (s : List ℕ) (a : ℕ) : Type 0 where
   pub variables : ℕ
   pub clauses : List (List Literal)

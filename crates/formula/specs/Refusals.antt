@@ -1,4 +1,4 @@
--- 01, 'The refusal table': the number and the place of each refusal.
+-- S3.1: the number and the place of each refusal.
 use Prim.Native.Nat.{ℕ}
 use Rattle.formula.specs.declared.Refusal.{Refusal}
 use Rattle.formula.specs.declared.Refusal.the-variants.{ShortBuffer, Truncated, UnknownKind, Misplaced, BadVariableCount, NoSuchVariable, RepeatedVariable, TooManyClauses, TrailingByte, Unmatched, ForeignCheckpoint, StrayVariable}
@@ -7,8 +7,8 @@ pub record TableRow : Type 0 where
   pub number : ℕ
   pub place : ℕ
 
--- 01's words: short slate, cut short, unknown kind, misplaced, bad kit, no such switch, named twice, too many rules, tail,
--- over-ruled, foreign marker, stray switch
+-- (request: short slate, cut short, unknown kind, misplaced, bad kit, no such switch, named twice, too many rules, tail,
+-- over-ruled, foreign marker, stray switch)
 abbrev pub table-row : Refusal → TableRow
 table-row (ShortBuffer p) = record { number = 1; place = p }
 table-row (Truncated p) = record { number = 2; place = p }

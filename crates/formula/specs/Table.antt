@@ -1,5 +1,5 @@
--- 01, 'The refusal table', its column 'given if', in the words of the grammar and without the reader's: where a record
--- may fail, and what is then wrong with it and with nothing that the order of checks asks before.
+-- S3.1: what each of the refusals 2 to 9 means, in the words of the grammar and without the reader's: where a record may fail, and
+-- what is then wrong with it and with nothing that the order of checks (S3.2) asks before.
 use Prim.Native.Nat.{ℕ, _+_, _-_, _<_, _≤_}
 use mathlib.Core.Bool.{Bool, true}
 use mathlib.Core.List.{List, [], _∷_, _++_}
@@ -26,7 +26,7 @@ abbrev pub Begins : Beginning → Type 0
 Begins nothing = Unit {0}
 Begins (inside n cs c) = Sized n cs × ClauseOver n c
 
--- kind k may stand after the beginning: kind 1 comes first and only there; kind 5 not while a clause has records and no end
+-- S2.2: kind k may stand after the beginning: kind 1 where nothing is before it, another after that, kind 5 with no clause begun
 abbrev pub MayStand : Beginning → ℕ → Type 0
 MayStand nothing k = k ≡ 1
 MayStand (inside n cs c) k = (2 ≤ k) × (k ≤ 5) × (k ≡ 5 → c ≡ [])
@@ -35,26 +35,26 @@ MayStand (inside n cs c) k = (2 ≤ k) × (k ≤ 5) × (k ≡ 5 → c ≡ [])
 pub data Given (len at : ℕ) : Beginning → List ℕ → Refusal → Type 0 where
   -- 2: no kind byte is left
   no-kind : {b : Beginning} → Given len at b [] (Truncated len)
-  -- 3: the kind is not 1 to 5
+  -- 3: the kind is 0 or above 5
   kind-unknown : {b : Beginning} {s : List ℕ} (k : ℕ) → (k < 1) ⊎ (5 < k) → Given len at b (k ∷ s) (UnknownKind at)
-  -- 4: the kind may not stand here
+  -- 4: a known kind that may not stand after the beginning
   kind-misplaced : {b : Beginning} {s : List ℕ} (k : ℕ) → 1 ≤ k → k ≤ 5 → (MayStand b k → ⊥) → Given len at b (k ∷ s) (Misplaced at)
   -- 2: a kind that has a body is the last byte
   no-body : {b : Beginning} (k : ℕ) → MayStand b k → k ≤ 3 → Given len at b (k ∷ []) (Truncated len)
-  -- 5: the number of variables is 0 or above 48
+  -- 5: the number of variables is not within 1 to 48
   count-bad : {s : List ℕ} (n : ℕ) → (n < 1) ⊎ (max-variables < n) → Given len at nothing (1 ∷ n ∷ s) (BadVariableCount at)
-  -- 6: the variable is 0 or above n
+  -- 6: the variable is not within 1 to n
   variable-unknown : {cs : List (List Literal)} {c : List Literal} {s : List ℕ} (n : ℕ) (sign : Bool) (v : ℕ) → (v < 1) ⊎ (n < v)
       → Given len at (inside n cs c) (literal-kind sign ∷ v ∷ s) (NoSuchVariable at)
   -- 7: the clause has named the variable, either way
   variable-repeated : {cs : List (List Literal)} {c : List Literal} {s : List ℕ} (n : ℕ) (sign : Bool) (v : ℕ) → 1 ≤ v → v ≤ n → names c (v - 1) ≡ true
       → Given len at (inside n cs c) (literal-kind sign ∷ v ∷ s) (RepeatedVariable at)
-  -- 8: the 97th kind 4
+  -- 8: a kind 4 after 96 clauses
   clause-extra : {n : ℕ} {c : List Literal} {s : List ℕ} (cs : List (List Literal)) → length cs ≡ max-clauses → Given len at (inside n cs c) (4 ∷ s) (TooManyClauses at)
-  -- 9: a byte follows kind 5
+  -- 9: a byte after kind 5
   byte-extra : {n : ℕ} {cs : List (List Literal)} (x : ℕ) (s : List ℕ) → Given len at (inside n cs []) (5 ∷ x ∷ s) (TrailingByte (at + 1))
 
--- the input is a beginning of the grammar, then a record that meets the refusal's 'given if'
+-- the input is a beginning of the grammar, then a record that the refusal is given for
 pub record Refuses (s : List ℕ) (r : Refusal) : Type 0 where
   pub before : Beginning
   pub begins : Begins before

@@ -14,20 +14,20 @@ ghost use Rattle.formula.specs.Decode.{refused};
 ghost use Rattle.formula.specs.Refusals.{table-row};
 ghost use Rattle.formula.specs.InnerReader.{count-event, variable-event, literal-event, end-event, finish-event, literal-stands, literal-read, record-event, PassesLiterals};
 
-// A clause (01: rule): the variables that it names as true (01: on) and those that it names as false.
+// A clause (request: rule): the variables that it names as true (request: on) and those that it names as false.
 pub struct Clause {
     pub positive: u64,
     pub negative: u64,
 }
 
-// A formula (01: sheet): the first `count` clauses; the others are empty.
+// A formula (request: sheet): the first `count` clauses; the others are empty.
 pub struct Formula {
     pub variables: usize,
     pub count: usize,
     pub clauses: [Clause; MAX_CLAUSES],
 }
 
-// The refusals of 01's table, in its order; each holds its place.
+// S3.1: the refusals, in the order of their numbers; each holds its place.
 pub enum Refusal {
     ShortBuffer(usize),
     Truncated(usize),
@@ -330,7 +330,7 @@ fn refuse(refusal: Refusal) -> Decoded
     }
 }
 
-// The formula that the input encodes, or the first refusal that the order of checks reaches.
+// S3.2: the formula that the input encodes, or the refusal of the first check that fails.
 pub fn decode(input: &[u8]) -> Decoded
     ensures { λ d. ⌜ d ≡ decoded (now (input .entry)) ⌝ }
 {
@@ -370,7 +370,7 @@ pub fn decode(input: &[u8]) -> Decoded
     }
 }
 
-// 01's number of a refusal.
+// S3.1: the number of a refusal.
 pub fn number_of(refusal: Refusal) -> u64
     ensures { λ r. ⌜ r ≡ table-row refusal .number ⌝ }
 {
@@ -390,7 +390,7 @@ pub fn number_of(refusal: Refusal) -> u64
     }
 }
 
-// 01's place of a refusal.
+// S3.1: the place of a refusal.
 pub fn place_of(refusal: Refusal) -> usize
     ensures { λ r. ⌜ r ≡ table-row refusal .place ⌝ }
 {
@@ -432,7 +432,7 @@ pub fn all_hold(f: Formula, assignment: u64) -> bool
     true
 }
 
-// The act check (01): whether the assignment is a model of the encoded formula, matched or not.
+// S4.3: the act check: whether the assignment is a model of the encoded formula, matched or not.
 pub fn check(input: &[u8], assignment: u64) -> Verdict
     ensures { λ r. ⌜ verdict-values r ≡ checked (now (input .entry)) assignment ⌝ }
 {

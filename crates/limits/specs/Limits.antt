@@ -1,10 +1,10 @@
--- The limits of a formula (01, 'The sheet').
+-- S1.2: the limits of a formula.
 use Prim.Native.Nat.{ℕ}
 
--- the most variables: 'number of switches n, 1 to 48'
+-- the most variables (request: switches)
 abbrev pub max-variables : ℕ
 max-variables = 48
 
--- the most clauses: 'At most 96 rules'
+-- the most clauses (request: rules)
 abbrev pub max-clauses : ℕ
 max-clauses = 96

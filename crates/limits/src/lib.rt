@@ -1,7 +1,7 @@
-// The limits of a formula. Every array and every bound of the other crates that rests on them is written by these names.
+// S1.2: the limits of a formula. Every array and every bound of the other crates that rests on them is written by these names.
 
-// The most variables that a formula has (01: switches).
+// The most variables that a formula has (request: switches).
 pub const MAX_VARIABLES: usize = 48;
 
-// The most clauses (01: rules).
+// The most clauses (request: rules).
 pub const MAX_CLAUSES: usize = 96;

@@ -1,6 +1,5 @@
--- What judge owes to the demands. Demand 1: a short buffer is refused first, and the buffer then holds what the table names and nothing
--- else. Demand 2: a formula is accepted exactly if its clauses can be paired with variables; if they can't, the marked clauses name
--- fewer variables among them than they are.
+-- What judge owes to the demands (S10). Demand 1: a short buffer is refused first, and every byte of the buffer is fixed. Demand 2: a
+-- formula is accepted exactly if it is matched; if it is not, a violator is shown.
 use Prim.Native.Nat.{ℕ, suc, _≤_, _<_}
 use mathlib.Core.List.{List, [], map}
 use mathlib.Core.Logic.{_↔_}
@@ -19,16 +18,16 @@ use Rattle.matched.proofs.AcceptanceLaws.{accepted-pairable, pairable-a
 use Rattle.matched.proofs.JudgeLaws.{judge-short, judge-declined, numberless-pairable, pairable-judged, unpaired-judged}
 use Rattle.matched.proofs.PairingLaws.{no-pairs}
 
--- Demand 1, 'judge is lent a slate below 96 bytes': 1 at 0 for every input, and the buffer is untouched
+-- S10, demand 1: a buffer of fewer than 96 bytes gets 1 at 0, whatever the input, and is untouched
 pub short-buffer : (s b : List ℕ) → length b < max-clauses → judge s b ≡ record { answer = refused-values (ShortBuffer 0); buffer = b }
 short-buffer = judge-short
 
--- Demand 1: an unreadable input gets the reader's refusal, and the buffer is untouched
+-- S10, demand 1: an unreadable input gets the reader's refusal, and the buffer is untouched
 pub unreadable : (s b : List ℕ) (r : Refusal) → max-clauses ≤ length b → decode s ≡ refused r
     → judge s b ≡ record { answer = refused-values r; buffer = b }
 unreadable s b r l e = judge-declined s b l r [] (unreadable-declined s r e)
 
--- Demand 2, 'A sheet is walked exactly if its rules can be paired': an input is accepted exactly then
+-- S10, demand 2: an input is accepted exactly if it is readable and matched
 pub acceptance-exactly : (s : List ℕ) → ((n : ℕ) × (cs : List (List Literal)) × (row : List ℕ) × (acceptance s ≡ accepted n cs row)) ↔ Pairable s
 acceptance-exactly s = (λ a. accepted-pairable s (a .0) (a .1) (a .2) (a .3), λ w. (w .variables, w .clauses, pairable-accepted s w .0, pairable-accepted s w .1))
 
@@ -36,17 +35,18 @@ acceptance-exactly s = (λ a. accepted-pairable s (a .0) (a .1) (a .2) (a .3), �
 pub accepted-exactly : (s b : List ℕ) → max-clauses ≤ length b → (judge s b .answer .number ≡ 0) ↔ Pairable s
 accepted-exactly s b l = (numberless-pairable s b l, λ w. ap (λ (j : Judged). j .answer .number) (pairable-judged s b l w .2))
 
--- 'On acceptance judge gives n and m, and slate byte i (from 0) is the switch paired with rule i + 1', from 1
+-- S5.7: judge then gives the numbers of variables and of clauses; the first bytes of the buffer are a matching, its variables from 1,
+-- and no other byte changes
 pub accepted-buffer : (s b : List ℕ) → max-clauses ≤ length b → (w : Pairable s)
     → (vs : List ℕ) × Pairs (w .clauses) vs × (judge s b ≡ record { answer = accepted-values (w .variables) (length (w .clauses)); buffer = over (map suc vs) b })
 accepted-buffer = pairable-judged
 
--- 'If they can't, we are shown a set of rules naming fewer switches among them than there are rules': 10 with their number, and
--- the first m bytes are 1 for a marked rule and 0 for another
+-- S10, demand 2: a readable formula that is not matched gets 10, at the number of marked clauses; the first bytes of the buffer are the
+-- marks of a violator, and no other byte changes
 pub refused-buffer : (s b : List ℕ) (n : ℕ) (cs : List (List Literal)) → max-clauses ≤ length b → decode s ≡ readable n cs → ((vs : List ℕ) → Pairs cs vs → ⊥)
     → (ms : List ℕ) × Violator cs ms × (judge s b ≡ record { answer = refused-values (Unmatched (length (marked ms cs))); buffer = over ms b })
 refused-buffer s b n cs l = unpaired-judged s b l n cs
 
--- a violator leaves no pairing
+-- where there is a violator there is no matching
 pub violator-unpaired : (n : ℕ) (cs : List (List Literal)) (ms : List ℕ) → Sized n cs → Violator cs ms → (vs : List ℕ) → Pairs cs vs → ⊥
 violator-unpaired = no-pairs

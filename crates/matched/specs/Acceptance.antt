@@ -1,4 +1,4 @@
--- Which inputs are accepted, told once for judge, walk, list and print: the reader (01: 2 to 9), then the matching (01: 10).
+-- S5.6: which inputs are accepted, told once for judge, walk, list and print: the reader (2 to 9), then the matching (10).
 use Prim.Native.Nat.{ℕ, suc}
 use mathlib.Core.List.{List, [], map}
 use lib.ListN.{length}
@@ -15,7 +15,7 @@ pub data Acceptance : Type 0 where
   accepted : ℕ → List (List Literal) → List ℕ → Acceptance
   declined : Refusal → List ℕ → Acceptance
 
--- 'slate byte i (from 0) is the switch paired with rule i + 1'; 10: 'the rules can't be paired', its place the 'number of marked rules'
+-- a matched formula: its matching, with variables from 1; else 10, at the number of marked clauses, and the marks
 abbrev pub by-outcome : ℕ → List (List Literal) → Outcome → Acceptance
 by-outcome n cs (success vs e) = accepted n cs (map suc vs)
 by-outcome n cs (failure taken e) = declined (Unmatched (length taken)) (marks (length cs) taken)

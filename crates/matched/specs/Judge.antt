@@ -1,4 +1,4 @@
--- 01: the act judge, `find_matching`. Refusal 1 first, then what comes of the input.
+-- S5.7: the act judge, `find_matching` in the code. Refusal 1 first, then what comes of the input.
 use Prim.Native.Nat.{ℕ}
 use mathlib.Core.Bool.{cond}
 use mathlib.Core.List.{List}
@@ -13,7 +13,7 @@ use Rattle.matched.specs.declared.Judgement.{Judgement}
 use Rattle.matched.specs.declared.Judgement.the-variants.{Accepted, Refused}
 use Rattle.matched.specs.Acceptance.{Acceptance, accepted, declined, acceptance}
 
--- 01's values of an answer: the refusal's number and place, n and m; zeros where it has none
+-- the values of an answer: the refusal's number and place, the numbers of variables and of clauses; zeros where it has none
 pub record JudgementValues : Type 0 where
   pub number : ℕ
   pub place : ℕ
@@ -31,12 +31,12 @@ abbrev pub judgement-values : Judgement → JudgementValues
 judgement-values (Accepted n m) = accepted-values n m
 judgement-values (Refused r) = refused-values r
 
--- the answer, and the lent buffer (01: slate) as it is left
+-- the answer, and the pairing buffer (request: slate) as it is left
 pub record Judged : Type 0 where
   pub answer : JudgementValues
   pub buffer : List ℕ
 
--- The row is written over the first bytes of the buffer; 'The slate's other bytes never change.'
+-- The row is written over the first bytes of the buffer, and the bytes behind it stay as they were.
 abbrev pub judgement-of : Acceptance → List ℕ → Judged
 judgement-of (accepted n cs row) buffer = record { answer = accepted-values n (length cs); buffer = over row buffer }
 judgement-of (declined r row) buffer = record { answer = refused-values r; buffer = over row buffer }

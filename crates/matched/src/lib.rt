@@ -1,5 +1,5 @@
-// What comes of an encoded formula: whether it is matched, and the matching or a violator. The act judge (01), which writes these into
-// a lent buffer.
+// S5.6, S5.7: what comes of an encoded formula: whether it is matched, and the matching or a violator. The act judge, which writes these
+// into a lent buffer.
 ghost use mathlib.Core.List.{List, map};
 ghost use mathlib.Core.Path.{_≡_};
 ghost use Prim.Native.Nat.{ℕ, suc, _<_, _≤_};
@@ -127,7 +127,7 @@ fn write(table: [u8; limits::MAX_CLAUSES], n: usize, buffer: &mut [u8])
     }
 }
 
-// The act judge: the numbers of variables and clauses and, in the buffer, the matching; or the refusal, with the violator in the
+// S5.7: the act judge: the numbers of variables and clauses and, in the buffer, the matching; or the refusal, with the violator in the
 // buffer if the formula is not matched.
 pub fn find_matching(input: &[u8], buffer: &mut [u8]) -> Judgement
     ensures answer { λ r. ⌜ judgement-values r ≡ judge (now (input .entry)) (now (buffer .entry)) .answer ⌝ }

@@ -1,4 +1,4 @@
-// Matching clauses to variables by breadth-first augmenting search (01: 'Pairing, and the reaches it costs').
+// S5: matching clauses to variables by breadth-first augmenting search.
 // A clause is the mask of its variables; clauses and variables count from 0.
 use limits::MAX_CLAUSES;
 ghost use mathlib.Core.Path.{_≡_};
@@ -12,8 +12,8 @@ ghost use Rattle.matching.specs.Inner.{at, search-of, SearchSound, Holds
 ghost use Rattle.matching.specs.Result.{Clauses, packed};
 ghost use Rattle.matching.specs.Matched.{Words};
 
-// If complete, the first bytes of `table` are the variables of the clauses and `marked` is 0; otherwise they are 1 for a marked
-// clause and 0 for another, and `marked` clauses are marked. The bytes after those of the clauses are 0.
+// If complete, the first bytes of `table` are the variables of the clauses and `marked` is 0; otherwise a marked clause has 1 there and
+// another 0, and `marked` clauses are marked. The bytes after those of the clauses are 0.
 pub struct Matching {
     pub complete: bool,
     pub expansions: u64,
@@ -152,7 +152,7 @@ fn find_path(
     front
 }
 
-// Re-matches along the path from v back to the clause, so that the first clauses and this one are matched. Calls itself once a link.
+// S5.4: re-matches along the path from v back to the clause, so that the first clauses and this one are matched. One call a link.
 fn rematch(
     table: &mut [u8; MAX_CLAUSES],
     owners: &mut [u8; 64],

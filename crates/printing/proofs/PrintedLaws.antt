@@ -106,7 +106,7 @@ clauses-few n cs vs z w =
 
 -- ---- the whole
 
--- 'at most n × n × m × (m + 1) reaches are made: 5,419,008 for n = m = 48'
+-- S9.5: the bound n × n × m × (m + 1) is at most 5,419,008, for n and m up to 48
 cost : (n m : ℕ) → n ≤ max-variables → m ≤ max-variables → n * (n * m * (m + 1)) ≤ 5419008
 cost n m h k = let l : m + 1 ≤ 49 = omega arith in let c = mul-le-mul h (mul-le-mul (mul-le-mul h k) l) in omega arith
 

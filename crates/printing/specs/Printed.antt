@@ -1,4 +1,4 @@
--- 01, 'The printed walk': what the program prints for an input, byte for byte. Words are lists of ASCII bytes.
+-- S12: what the program prints for an input, byte for byte. Words are lists of ASCII bytes.
 use Prim.Native.Nat.{ℕ, zero, suc}
 use mathlib.Core.List.{List, [], _∷_, _++_}
 use lib.ListN.{length}
@@ -26,23 +26,23 @@ more-word = 109 ∷ 111 ∷ 114 ∷ 101 ∷ []
 abbrev pub refused-word : List ℕ
 refused-word = 114 ∷ 101 ∷ 102 ∷ 117 ∷ 115 ∷ 101 ∷ 100 ∷ []
 
--- 'First line: `switches`, n, `rules`, m.'
+-- S12.1: the first line: `switches` with the number of variables, `rules` with that of clauses
 abbrev pub header : ℕ → ℕ → List ℕ
 header n m = line-of (switches-word ∷ decimal n ∷ rules-word ∷ decimal m ∷ [])
 
--- 'Then a line per set-up: n digits, switch 1 first, then moves and reaches since the line before.'
+-- S12.1: the line of a model: the digits of its n variables in ascending order, and the steps and expansions that led to it
 abbrev pub model-line : ℕ → ℕ → ℕ → ℕ → List ℕ
 model-line n a steps expansions = line-of (digits n a ∷ decimal steps ∷ decimal expansions ∷ [])
 
--- 'Then `end` with moves and reaches.'
+-- S12.1: the line of the end: `end`, and the steps and expansions that led to it
 abbrev pub end-line : ℕ → ℕ → List ℕ
 end-line steps expansions = line-of (end-word ∷ decimal steps ∷ decimal expansions ∷ [])
 
--- 'the line `more` stands alone'
+-- S12.2: the line in place of what is not printed: `more`
 abbrev pub more-line : List ℕ
 more-line = line-of (more-word ∷ [])
 
--- 'A refusal prints only one line: `refused`, number, place.'
+-- S12.1: the only line of a refusal: `refused` with its number and place
 abbrev pub refused-line : ℕ → ℕ → List ℕ
 refused-line number place = line-of (refused-word ∷ decimal number ∷ decimal place ∷ [])
 
@@ -55,13 +55,13 @@ call-lines n (found a) steps expansions rest = model-line n a steps expansions +
 call-lines n spent steps expansions rest = []
 call-lines n ended steps expansions rest = end-line steps expansions
 
--- the most models that are printed: 'After the 1,000th set-up the line `more` stands alone instead'
+-- S12.2: the most models that are printed
 abbrev pub max-models : ℕ
 max-models = 1000
 
 -- The lines with k entries of the plain walk behind and room for j models more. A call of the plain machine on an ample budget goes on
--- to the next model or to the end, so its steps and expansions are those 'since the line before'. 'After the 1,000th set-up the line
--- `more` stands alone instead, even if that set-up was the last.'
+-- to the next model or to the end, so its steps and expansions are those between two lines. S12.2: without room the print closes with
+-- `more`, whether or not there is another model.
 unfoldable pub walk-lines : Task → ℕ → ℕ → List ℕ
 walk-lines T zero k = more-line
 walk-lines T (suc j) k =

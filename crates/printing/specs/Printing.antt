@@ -1,4 +1,4 @@
--- The act print: its answer, and the lent buffer as it is left.
+-- S12: the act print: its answer, and the lent buffer as it is left.
 use Prim.Native.Nat.{ℕ, _+_, _*_}
 use mathlib.Core.Bool.{cond}
 use mathlib.Core.List.{List}
@@ -8,11 +8,11 @@ use Rattle.lists.specs.Over.{over}
 use Rattle.limits.specs.Limits.{max-variables}
 use Rattle.printing.specs.Printed.{more-line, max-models, printed}
 
--- 'The program reads at most 16,384 bytes'
+-- S12.2: the most bytes of an input that is printed
 abbrev pub max-input : ℕ
 max-input = 16384
 
--- the longest first line, 'switches 48 rules 48'
+-- the longest first line, `switches 48 rules 48`: a matched formula has no more clauses than variables
 abbrev pub max-header : ℕ
 max-header = 21
 

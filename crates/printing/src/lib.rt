@@ -1,4 +1,4 @@
-// The printed walk (01): its lines as bytes, written into a lent buffer.
+// S12: the printed walk: its lines as bytes, written into a lent buffer.
 ghost use mathlib.Core.Path.{_≡_};
 ghost use mathlib.Core.List.{List};
 ghost use Prim.Native.Nat.{ℕ, _≤_};
@@ -114,7 +114,7 @@ fn put_formula(f: Formula, buffer: &mut [u8]) -> usize
     put_walk(f, buffer, next)
 }
 
-// Prints the walk of an input (01), or its refusal, into the first bytes of the buffer, and answers how many these are.
+// S12: prints the walk of an input, or its refusal, into the first bytes of the buffer, and answers how many these are.
 pub fn print(input: &[u8], buffer: &mut [u8]) -> usize
     ensures { λ r. ⌜ printing (now (input .entry)) (now (buffer .entry)) ≡ record { count = r; buffer = now (buffer .exit) } ⌝ }
 {

@@ -61,7 +61,7 @@ module _ (n : ℕ) (ds : List (List Literal)) (fits : n ≤ 64) (low : Below n d
 
 -- ── Nothing is left, or no clause remains ────────────────────────────────────────────────────────────────────────────
 
--- a value of the last listed is open if it empties no clause
+-- a value of the last listed is open unless it empties a clause
 listed-open : (cs : List (List Literal)) (v : ℕ) (b : Bool) → opened (last-listed cs v) b ≡ not (emptied (assign v b cs))
 unfolding last-listed
 listed-open cs v false = refl

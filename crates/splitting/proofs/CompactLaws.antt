@@ -156,7 +156,7 @@ survey-none v sign s (c ∷ cs) e =
     let u = or-none (bit (survey-side s sign) v) (bit (side c sign) v) (sym (surveys-side s c sign v) ∙ w .0) in
     (u .0, (u .1, w .1))
 
--- where a variable is clause-variables in one way only, the survey has not the other way
+-- where a variable is named one way only, the survey has not the other way
 pure-way : (s : Survey) (v : ℕ) → bit (bitXor (s .positive) (s .negative)) v ≡ true → bit (survey-side s (not (bit (s .positive) v))) v ≡ false
 unfolding xor
 pure-way s v e = go (bit (s .positive) v) (bit (s .negative) v) refl refl (sym (bit-xor (s .positive) (s .negative) v) ∙ e)
@@ -343,7 +343,7 @@ module _ (f : Formula) (small : Small f) (scope : ℕ) (a : Assignment) (names :
       ∙ chosen-passing f scope a names n t w refl (rw (same .survey) at s))
 
   module _ (s : r .survey .any ≡ false) (others : ℕ) (o : others ≡ minus (bitOr (names .positive) (names .negative)) (r .noted)) where
-    -- it leaves none, and every variable that was clause-variables is noted
+    -- it leaves none, and every variable that was named is noted
     pub choice-noted : others ≡ 0 → listed-last (formula-at f a) unassigned (r .last) ≡ mask-choice f scope a
     choice-noted z =
         listed-same (formula-at f a) f unassigned a (node-at f a) (r .last) (free-none (r .last))
@@ -351,7 +351,7 @@ module _ (f : Formula) (small : Small f) (scope : ℕ) (a : Assignment) (names :
         ∙ ap (listed-last f a) (same .last)
         ∙ chosen-noted f scope a names n t (reduced f a) refl (rw (same .survey) at s) others (rw (same .noted) at o) z
 
-    -- or another one was clause-variables
+    -- or another one was named
     pub choice-other : others < 2 ^ 64 → (others ≡ 0 → ⊥) → listed-last (formula-at f a) unassigned (greatest others) ≡ mask-choice f scope a
     choice-other l z =
         let m = greatest others in

@@ -38,7 +38,7 @@ pub occurs-bit : (ds : List (List Literal)) (sign : Bool) (v : ℕ) → bit (sur
 occurs-bit ds true v = survey-occurs (record { positive = 0; negative = 0; any = false }) ds true v ∙ rw (bit-none v)
 occurs-bit ds false v = survey-occurs (record { positive = 0; negative = 0; any = false }) ds false v ∙ rw (bit-none v)
 
--- the variables clause-variables either way, and in one way only
+-- the variables named either way, and one way only
 pub named-bit : (ds : List (List Literal)) (v : ℕ) → bit (bitOr (survey-of (map clause-of ds) .positive) (survey-of (map clause-of ds) .negative)) v ≡ nodes.named ds v
 unfolding nodes.named
 named-bit ds v = bit-or (survey-of (map clause-of ds) .positive) (survey-of (map clause-of ds) .negative) v ∙ rw (occurs-bit ds true v, occurs-bit ds false v)
@@ -91,7 +91,7 @@ assign-drops v sign (d ∷ ds) e =
     go true f g ih = rw (named-as d v sign f) ih
     go false f g ih = rw (unnamed f g, less-none v d (unnamed f g), ih)
 
--- a variable clause-variables in one way only is not clause-variables the other way
+-- a variable named one way only is not named the other way
 pub pure-way : (ds : List (List Literal)) (v : ℕ) → pure ds v ≡ true → occurs ds v (not (occurs ds v true)) ≡ false
 unfolding pure xor
 pure-way ds v e = go (occurs ds v true) (occurs ds v false) refl refl e

@@ -119,7 +119,7 @@ assigned-matched cs vs i x s M l is sat =
       },
     )
 
--- ── The splitting theorem (source, theorem 5.9) ──────────────────────────────────────────────────────────────────────
+-- ── The splitting theorem (theorem 5.9 of the source) ────────────────────────────────────────────────────────────────
 
 -- clause j has the variable of clause i the other way
 abbrev Turns : List (List Literal) → (ℕ → ℕ) → ℕ → ℕ → Type 0

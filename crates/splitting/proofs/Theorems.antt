@@ -1,4 +1,4 @@
--- What is proved of the choice of the next variable (01, 'Which switch is settled next'), over lists of clauses. The words are in Terms.
+-- What is proved of the choice of the next variable (S6), over lists of clauses. The words are in Terms.
 use Prim.Native.Nat.{ℕ, suc, _*_, _^_, _≤_, _<_}
 use mathlib.Core.Path.{_≡_, refl}
 use mathlib.Core.Bool.{Bool, true, false}
@@ -28,13 +28,13 @@ use Rattle.splitting.proofs.ChoiceLaws as choices
 use Rattle.splitting.proofs.TrailLaws as trails
 use Rattle.splitting.proofs.OpenLaws as opens
 
--- ── Stripping (source, lemma 4.3 and corollary 4.4) ──────────────────────────────────────────────────────────────────
+-- ── Stripping (lemma 4.3 and corollary 4.4 of the source) ────────────────────────────────────────────────────────────
 
--- 'drop the rules that name it': what stripping leaves are clauses of the list, in order.
+-- S6.2: what stripping leaves are clauses of the list, in order.
 pub left-sub-list : (n : ℕ) (cs : List (List Literal)) → Sublistᴰ (stripped n cs .left) cs
 left-sub-list n cs = stripping.left-sub n cs
 
--- 'while some switch is named in only one way': in what it leaves none is.
+-- S6.2: in what it leaves no variable is pure.
 pub left-none-pure : (n : ℕ) (cs : List (List Literal)) → Below n cs → NonePure (stripped n cs .left)
 left-none-pure n cs low = stripping.left-none-pure n cs low
 
@@ -52,19 +52,19 @@ stripped-next n cs l = turns.stripped-next n cs l
 pub stripped-end : (n : ℕ) (cs : List (List Literal)) → n ≤ lowest-with (pure cs) n → stripped n cs ≡ record { noted = []; left = cs }
 stripped-end n cs l = turns.stripped-end n cs l
 
--- ── Something is left (source, theorem 5.9) ──────────────────────────────────────────────────────────────────────────
+-- ── Something is left (theorem 5.9 of the source) ────────────────────────────────────────────────────────────────────
 
 -- The splitting theorem: of matched clauses with no pure variable, equal ones counted apart, some variable can get both values.
 pub splitting : (cs : List (List Literal)) → Matched (map variables cs) → 0 < length cs → NonePure cs
     → (v : ℕ) × (named cs v ≡ true) × ((b : Bool) → Matched (map variables (assign v b cs)))
 splitting cs M some np = matchings.splits cs M some np
 
--- 'A trial pairs the left rules with the switch off, and if that succeeds, with it on': it passes exactly if both leave matched clauses.
+-- S6.3: a trial passes exactly if both values leave matched clauses.
 pub trial-decides : (n : ℕ) (cs : List (List Literal)) (v : ℕ) → n ≤ 64 → Below n cs
     → (trial cs v .passes ≡ true) ↔ ((b : Bool) → Matched (map variables (assign v b cs)))
 trial-decides n cs v fits low = (trials.passes-matched n cs v fits low, trials.matched-passes n cs v fits low)
 
--- 'try its switches': the candidates are exactly the variables named in what is left.
+-- S6.3: the candidates are exactly the variables named in what is left.
 pub candidates-are : (n : ℕ) (left : List (List Literal)) → Below n left → (v : ℕ) → (among (candidates n left) v ≡ true) ↔ (named left v ≡ true)
 candidates-are n left low v = (trials.candidates-named n left v, trials.named-candidates n left low v)
 
@@ -72,16 +72,16 @@ candidates-are n left low v = (trials.candidates-named n left v, trials.named-ca
 pub candidates-few : (n scope : ℕ) (left : List (List Literal)) → n ≤ 64 → Covers scope left → length (candidates n left) ≤ size scope
 candidates-few n scope left fits covers = trials.candidates-length n scope left fits covers
 
--- 'The first switch for which both succeed is chosen.' One exists: the chosen variable is a candidate, and its trial passes.
+-- S6.3: some candidate passes: the chosen variable is a candidate, and its trial passes.
 pub chosen-passes : (n : ℕ) (cs : List (List Literal)) → n ≤ 64 → Below n cs → Sound n cs → 0 < length (stripped n cs .left)
     → (among (candidates n (stripped n cs .left)) (first-passing (stripped n cs .left) (candidates n (stripped n cs .left)) 0 .variable) ≡ true)
     × (trial (stripped n cs .left) (first-passing (stripped n cs .left) (candidates n (stripped n cs .left)) 0 .variable) .passes ≡ true)
 chosen-passes n cs fits low S some =
     choices.left-chosen n (stripped n cs .left) 0 fits (choices.left-below n cs fits low) (stripping.left-none-pure n cs low) S some
 
--- ── Nothing is left, but clauses remain (source, lemma 4.5) ──────────────────────────────────────────────────────────
+-- ── Nothing is left, but clauses remain (lemma 4.5 of the source) ────────────────────────────────────────────────────
 
--- 'The last in that list is chosen': it is named at this node.
+-- S6.4: the last listed variable is named at this node.
 pub last-listed-named : (n : ℕ) (cs : List (List Literal)) → Below n cs → 0 < length cs → stripped n cs .left ≡ []
     → named cs (last (listed n cs (stripped n cs .noted))) ≡ true
 last-listed-named n [] low some none = absurd (omega arith)
@@ -89,7 +89,7 @@ last-listed-named n (c ∷ cs) low some none =
     let y = sound.noted-some n (c ∷ cs) none c (List·Memᴰ·head refl) in
     sound.last-named n (c ∷ cs) low (y .0) (named-by (c ∷ cs) c (y .0) (List·Memᴰ·head refl) (y .2))
 
--- 'A value is open if it empties no rule': then stripping leaves nothing again.
+-- S6.4: after an open value of it, one that leaves no clause empty, stripping leaves nothing again.
 pub last-listed-leaves : (n : ℕ) (cs : List (List Literal)) (b : Bool) → Below n cs → stripped n cs .left ≡ []
     → emptied (assign (last (listed n cs (stripped n cs .noted))) b cs) ≡ false
     → stripped n (assign (last (listed n cs (stripped n cs .noted))) b cs) .left ≡ []
@@ -103,7 +103,7 @@ one-open n cs v S = sound.one-open n v cs S
 pub emptied-no-model : (n : ℕ) (cs : List (List Literal)) (v : ℕ) (b : Bool) (a : ℕ) → emptied (assign v b cs) ≡ true → Model n cs a → bit a v ≡ b → ⊥
 emptied-no-model n cs v b a t M e = sound.emptied-unsatisfied v b cs t (bit a) (models.model-satisfies n cs a M) e
 
--- ── The invariant (source, definition 5.2 and theorem 5.3) ───────────────────────────────────────────────────────────
+-- ── The invariant (definition 5.2 and theorem 5.3 of the source) ─────────────────────────────────────────────────────
 
 -- What stripping leaves of matched clauses is matched: the invariant holds at the root of a matched formula.
 pub matched-sound : (n : ℕ) (cs : List (List Literal)) → Matched (map variables cs) → Sound n cs
@@ -155,9 +155,9 @@ full-model n scope cs t covers all S a g above =
 
 -- ── The choice ───────────────────────────────────────────────────────────────────────────────────────────────────────
 
--- 'Open means that some permitted set-up agrees with everything settled so far.' At a sound node at which a variable of the mask is
--- not assigned, and the mask has the variables named there, the chosen variable is such a one, and a value of it is open exactly if some
--- model agrees with the trail and has it; and then one with no variable true but the mask's and the trail's.
+-- S6.6: what open means. At a sound node at which a variable of the mask is not assigned, and the mask has the variables named there, the
+-- chosen variable is such a one, and a value of it is open exactly if some model agrees with the trail and has it; and then one with no
+-- variable true but the mask's and the trail's.
 pub open-means : (n scope : ℕ) (cs : List (List Literal)) (t : List Literal) → n ≤ 64 → Every (ClauseOver n) cs → Covers scope (remaining t cs) → Trail n t
     → Unassigned n scope t → Sound n (remaining t cs)
     → (choice n scope cs t .variable < n)
@@ -174,7 +174,7 @@ open-means n scope cs t fits over covers T lacks S =
 pub some-open : (n scope : ℕ) (cs : List (List Literal)) (t : List Literal) → Sound n (remaining t cs) → (b : Bool) × (opened (choice n scope cs t) b ≡ true)
 some-open n scope cs t S = opens.some-open n scope cs t S
 
--- One choice makes at most s × m × (m + 1) expansions, s the variables of the mask, m the formula's clauses.
+-- S6.7: one choice makes at most s × m × (m + 1) expansions, s the variables of the mask, m the formula's clauses.
 pub choice-cost : (n scope : ℕ) (cs : List (List Literal)) (t : List Literal) → n ≤ 64 → Below n cs → Covers scope (remaining t cs)
     → choice n scope cs t .expansions ≤ size scope * (length cs * suc (length cs))
 unfolding choice

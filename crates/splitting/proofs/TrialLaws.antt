@@ -71,7 +71,7 @@ tried cs v s =
       | false ↦ record { passes = false; cost = expansions (matching-of (assign v false cs)) }
     ]
 
--- a trial that passes leaves the clauses matching-of for both values
+-- a trial that passes leaves the clauses matched for both values
 pub passes-matched : (n : ℕ) (cs : List (List Literal)) (v : ℕ) → n ≤ 64 → Below n cs → trial cs v .passes ≡ true
     → (b : Bool) → Matched (map variables (assign v b cs))
 unfolding trial

@@ -1,4 +1,4 @@
--- 01, 'Which switch is settled next': the choice at a node of a formula of n variables.
+-- S6: the choice of the next variable, at a node of a formula of n variables.
 use Prim.Native.Nat.{ℕ, _+_}
 use mathlib.Core.Bool.{Bool, true, false, not, _&&_, _||_}
 use mathlib.Core.List.{List, [], _∷_, _++_, map}
@@ -13,16 +13,16 @@ use Rattle.splitting.specs.Stripping.{stripped}
 
 -- ---- a trial
 
--- the clauses are matching-of (01: paired) from nothing
+-- the clauses are matched from nothing
 unfoldable pub matching-of : List (List Literal) → Outcome
 matching-of cs = outcome (map variables cs)
 
--- both succeed, and the expansions of what was tried
+-- whether both matchings succeed, and the expansions of those that were made
 pub record Trial : Type 0 where
   pub passes : Bool
   pub cost : ℕ
 
--- 'A trial pairs the left rules with the switch off, and if that succeeds, with it on.'
+-- S6.3: a trial of v: the clauses are matched with v false and, unless this fails, also with v true
 unfoldable pub trial : List (List Literal) → ℕ → Trial
 trial cs v =
     elim (succeeds (matching-of (assign v false cs))) [
@@ -39,14 +39,13 @@ trial cs v =
 abbrev pub both-open : ℕ → ℕ → Choice
 both-open v e = record { variable = v; false_open = true; true_open = true; expansions = e }
 
--- 'The first switch for which both succeed is chosen. Both values are open.' The expansions are those of all trials made, failed
--- ones too.
+-- S6.3, S6.6: of the listed variables the first that passes its trial, with both values open. Failed trials count among the expansions.
 unfoldable pub first-passing : List (List Literal) → List ℕ → ℕ → Choice
 first-passing cs [] e = both-open 0 e
 first-passing cs (v ∷ vs) e =
     elim (trial cs v .passes) [ true ↦ both-open v (e + trial cs v .cost) | false ↦ first-passing cs vs (e + trial cs v .cost) ]
 
--- 'Something is left: try its switches upward.'
+-- S6.3: the variables that the left clauses name, in ascending order: these are tried
 unfoldable pub candidates : ℕ → List (List Literal) → List ℕ
 candidates n left = upward (named left) n
 
@@ -55,7 +54,7 @@ unfoldable pub among : List ℕ → ℕ → Bool
 among [] v = false
 among (x ∷ l) v = eqb x v || among l v
 
--- 'list the noted switches in order, then the other switches named at this place, upward'
+-- S6.4: the noted variables in order, then those that the remaining clauses name besides, in ascending order
 unfoldable pub listed : ℕ → List (List Literal) → List ℕ → List ℕ
 listed n cs noted = noted ++ upward (λ v. named cs v && not (among noted v)) n
 
@@ -71,17 +70,17 @@ emptied [] = false
 emptied ([] ∷ cs) = true
 emptied ((l ∷ c) ∷ cs) = emptied cs
 
--- 'The last in that list is chosen. A value is open if it empties no rule'
+-- S6.4: the variable v; a value is open unless it leaves an empty clause. No expansion is made.
 unfoldable pub last-listed : List (List Literal) → ℕ → Choice
 last-listed cs v =
     record { variable = v; false_open = not (emptied (assign v false cs)); true_open = not (emptied (assign v true cs)); expansions = 0 }
 
--- clauses remain: by whether stripping leaves some
+-- clauses remain: by whether stripping leaves some. S6.4: if not, the last listed variable; S6.3: else the first that passes
 abbrev pub by-left : ℕ → List (List Literal) → List ℕ → List (List Literal) → Choice
 by-left n cs noted [] = last-listed cs (last (listed n cs noted))
 by-left n cs noted (c ∷ left) = first-passing (c ∷ left) (candidates n (c ∷ left)) 0
 
--- 'No rule remains: the lowest unsettled switch is chosen, both values open.'
+-- S6.5: where no clause remains, the lowest unassigned variable, with both values open
 abbrev pub by-remaining : ℕ → (ℕ → Bool) → List (List Literal) → Choice
 by-remaining n unassigned [] = both-open (lowest-with unassigned n) 0
 by-remaining n unassigned (c ∷ cs) = by-left n (c ∷ cs) (stripped n (c ∷ cs) .noted) (stripped n (c ∷ cs) .left)
@@ -90,6 +89,6 @@ by-remaining n unassigned (c ∷ cs) = by-left n (c ∷ cs) (stripped n (c ∷ c
 abbrev pub unassigned-of : ℕ → List Literal → ℕ → Bool
 unassigned-of scope t v = bit scope v && not (names t v)
 
--- the choice at the node of the trail t; `scope` has the variables that a model covers
+-- S6.1: the choice at the node of the trail t; `scope` has the variables that a model covers
 unfoldable pub choice : ℕ → ℕ → List (List Literal) → List Literal → Choice
 choice n scope cs t = by-remaining n (unassigned-of scope t) (remaining t cs)

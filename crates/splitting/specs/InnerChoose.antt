@@ -113,7 +113,7 @@ reduced-at f a noted v = record { assignment = a; noted = noted; last = v; surve
 abbrev pub pure-of : Formula → Assignment → ℕ
 pure-of f a = bitXor (survey-of (node f a) .positive) (survey-of (node f a) .negative)
 
--- at most k times: the lowest variable that is clause-variables in one way only gets that value, and is noted; v is the last one noted
+-- at most k times: the lowest variable that is named one way only gets that value, and is noted; v is the last one noted
 unfoldable pub reduce-from : ℕ → Formula → Assignment → ℕ → ℕ → Reduced
 reduce-from zero f a noted v = reduced-at f a noted v
 reduce-from (suc k) f a noted v =
@@ -157,7 +157,7 @@ listed-last f a v = record {
   expansions = 0;
 }
 
--- the variables that are clause-variables at the node and were not noted
+-- the variables that are named at the node and were not noted
 abbrev pub others-of : Formula → Assignment → ℕ
 others-of f a = minus (bitOr (survey-of (node f a) .positive) (survey-of (node f a) .negative)) (reduced f a .noted)
 

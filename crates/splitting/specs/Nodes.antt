@@ -1,4 +1,4 @@
--- 01, 'Which switch is settled next': what is left of the clauses at a node (01: a place).
+-- S6.1: what remains of the clauses at a node (request: place).
 use Prim.Native.Nat.{ℕ, zero, suc}
 use mathlib.Core.Bool.{Bool, true, false, cond, _||_}
 use mathlib.Core.List.{List, [], _∷_}
@@ -10,7 +10,7 @@ unfoldable pub less : ℕ → List Literal → List Literal
 less v [] = []
 less v (l ∷ c) = cond (eqb (l .variable) v) (less v c) (l ∷ less v c)
 
--- v gets the value b: 'Rules already satisfied are gone; switches standing against a rule are gone from it.'
+-- v gets the value b: the clauses that name it so are satisfied and dropped, and the others lose v
 unfoldable pub assign : ℕ → Bool → List (List Literal) → List (List Literal)
 assign v b [] = []
 assign v b (c ∷ cs) = cond (names-as c v b) (assign v b cs) (less v c ∷ assign v b cs)

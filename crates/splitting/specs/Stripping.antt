@@ -1,4 +1,4 @@
--- 01, 'Stripping': pure literal elimination.
+-- S6.2: pure literal elimination (request: stripping).
 use Prim.Native.Nat.{ℕ, zero, suc}
 use mathlib.Core.Bool.{Bool, true, false, cond, xor}
 use mathlib.Core.List.{List, [], _∷_}
@@ -6,11 +6,11 @@ use lib.Dec.{ltb}
 use Rattle.formula.specs.Format.{Literal, names}
 use Rattle.splitting.specs.Nodes.{occurs, lowest-with}
 
--- v is named in only one way
+-- v is pure: the clauses name it as true or as false, and not both ways
 unfoldable pub pure : List (List Literal) → ℕ → Bool
 pure cs v = xor (occurs cs v true) (occurs cs v false)
 
--- 'drop the rules that name it'
+-- the clauses that do not name v
 unfoldable pub not-naming : ℕ → List (List Literal) → List (List Literal)
 not-naming v [] = []
 not-naming v (c ∷ cs) = cond (names c v) (not-naming v cs) (c ∷ not-naming v cs)
@@ -23,8 +23,8 @@ pub record Stripped : Type 0 where
 abbrev pub note : ℕ → Stripped → Stripped
 note v s = record { noted = v ∷ s .noted; left = s .left }
 
--- 'while some switch is named in only one way, take the lowest such; note it and drop the rules that name it.' No variable is
--- noted twice, so that n times are enough for n variables.
+-- While a variable is pure, the lowest pure one is noted and its clauses are dropped. No variable is noted twice, so that n times are
+-- enough for n variables.
 unfoldable pub strip : ℕ → ℕ → List (List Literal) → Stripped
 strip zero n cs = record { noted = []; left = cs }
 strip (suc k) n cs =

@@ -17,11 +17,11 @@ use Rattle.splitting.specs.Stripping.{pure, stripped}
 abbrev pub Below : ℕ → List (List Literal) → Type 0
 Below n cs = (v : ℕ) → named cs v ≡ true → v < n
 
--- no variable is named in only one way
+-- no variable is pure
 abbrev pub NonePure : List (List Literal) → Type 0
 NonePure cs = (v : ℕ) → pure cs v ≡ false
 
--- What stripping leaves is matched (source, definition 5.2: pure literal matched). This is the invariant of the walk.
+-- What stripping leaves is matched (definition 5.2 of the source: pure literal matched). This is the invariant of the walk.
 abbrev pub Sound : ℕ → List (List Literal) → Type 0
 Sound n cs = Matched (map variables (stripped n cs .left))
 
@@ -33,7 +33,7 @@ Satisfies a cs = (c : List Literal) → List·Memᴰ c cs → (v : ℕ) × (name
 abbrev pub Trail : ℕ → List Literal → Type 0
 Trail n t = ClauseOver n t
 
--- every literal of the trail stands (01: 'agrees with everything settled so far')
+-- S6.6: the assignment agrees with the trail: it gives every variable of the trail its value there
 abbrev pub Agrees : (ℕ → Bool) → List Literal → Type 0
 Agrees a t = (l : Literal) → List·Memᴰ l t → a (l .variable) ≡ l .positive
 

@@ -1,4 +1,4 @@
-// The choice of the next variable (01: 'Which switch is settled next'), over a formula in masks and the assigned variables.
+// S6: the choice of the next variable, over a formula in masks and the assigned variables.
 // A clause is gone if an assigned variable satisfies it; what is left of another are its unassigned variables. Few clauses are
 // open where a choice is made, so what is left of those is copied first, into an array for each side, and all else goes over
 // the arrays: stripping a pure literal drops the clauses that name it, in place.
@@ -368,7 +368,7 @@ fn reduce(
     }
 }
 
-// A trial of v: the clauses are matched with v false, and if that succeeds, with v true.
+// S6.3: a trial of v: the clauses are matched with v false and, unless this fails, also with v true.
 fn try_variable(
     positives: &[u64; limits::MAX_CLAUSES],
     negatives: &[u64; limits::MAX_CLAUSES],

@@ -1,4 +1,4 @@
--- Checkpoints and refusals of small walks, computed. 01's marked walks are in the table of edge cases.
+-- Checkpoints and refusals of small walks, computed. More walks are in the table of the crate edge_cases.
 use Prim.Native.Nat.{ℕ}
 use mathlib.Core.Bool.{true, false, xor}
 use mathlib.Core.List.{[], _∷_, map}
@@ -62,7 +62,7 @@ from-bytes = refl
 abbrev refusal : Result → ℕ × ℕ
 refusal r = (r .number, r .place)
 
--- (¬1): true is closed at the root, so that the end follows the undoing of false in the same-checkpoint call, and mode 2 at length 0 is never had
+-- (¬1): true is closed at the root, so that the end follows the undoing of false in the same call, and mode 2 at length 0 is never had
 pub closed-root : refusal (walk-call (1 ∷ 1 ∷ 3 ∷ 1 ∷ 4 ∷ 5 ∷ []) (checkpoint-of 2 []) 96) ≡ (11, 0)
 unfolding computing
 closed-root = refl

@@ -1,4 +1,4 @@
--- Demand 3 as one claim over a whole list of walk calls, its sentences in order; then what demands 1 and 2 ask of the walk.
+-- S10, demand 3, as one record about any list of walk calls; then what demands 1 and 2 ask of the walk.
 use Prim.Native.Nat.{ℕ, _≤_, _<_}
 use mathlib.Core.Bool.{Bool, true}
 use mathlib.Core.List.{List, [], _++_, map, List·Memᴰ}
@@ -33,29 +33,28 @@ use Rattle.walk.proofs.TaskLaws as laws
 use Rattle.walk.proofs.WholeLaws as wholes
 use Rattle.walk.proofs.RefusalLaws as refusals
 
--- 'for every readable, pairable sheet of n switches and m rules, and every list of walk calls on it, whatever their budgets, the first
--- given the start marker, each later one the marker the last call returned': s is the input, T what its walk is over, bs are the budgets.
--- n is `to-assign T`.
+-- S10, demand 3: what holds of walk calls that begin at the start checkpoint and each go on from the checkpoint of the one before: s is
+-- the input, T what its walk is over, bs are the budgets; n is `to-assign T`, m the number of clauses.
 pub record Dealt (s : List ℕ) (T : Task) (bs : List ℕ) : Type 0 where
-  -- 'no call is refused'
+  -- S10, demand 3: no call is refused
   pub unrefused : Every (λ r. r .kind ≡ says-refused → ⊥) (walk-calls s start bs)
-  -- 'and each has the answer, marker, moves and pairing steps of the plain walk in the papers.'
+  -- the results are the plain machine's (S9.4): answers, checkpoints, steps and expansions
   pub plain : walk-calls s start bs ≡ map (plain-result T) (plain-calls T 0 bs)
-  -- 'The set-ups the list brings are the first ones of the listing fixed there, in that order,'
+  -- the models brought are a beginning of the listing (S9.3)
   pub firsts : (l : List ℕ) × (listing T ≡ brought (walk-calls s start bs) ++ l)
-  -- 'and all of them once a call says ended;'
+  -- and the whole listing if some call says ended
   pub all : SaysEnded (walk-calls s start bs) → brought (walk-calls s start bs) ≡ listing T
-  -- 'the listing holds every permitted set-up exactly once and nothing else.'
+  -- the listing has the models of the task and no others, none of them twice
   pub exact : (a : ℕ) → List·Memᴰ a (listing T) ↔ ModelFor T a
   pub once : Distinct (listing T)
-  -- 'After every move the settled switches stand as in some permitted set-up.' Behind every number of entries.
+  -- behind every number of entries, some model agrees with the trail
   pub standing : (k : ℕ) → (a : ℕ) × ModelFor T a × Agrees (bit a) (behind T k .trail)
-  -- 'Over all calls together, the first set-up comes after at most n moves, the next ones at most 2 × n apart, the end at most n after
-  -- the last,' and 'Between two set-ups at most n × n × m × (m + 1) reaches are made': the exact numbers of steps are in Paced.
+  -- S9.5: the waits: n steps to the first model, at most 2 × n to each further one, n from the last to the end; n × n × m × (m + 1)
+  -- expansions at most in each. The exact numbers of steps are in Paced.
   pub paced : Paced (to-assign T) (step-bound T) (gaps (walk-calls s start bs))
-  -- 'and settling one switch takes at most n × m × (m + 1) counted pairing steps.'
+  -- S6.7: an assignment makes at most n × m × (m + 1) expansions
   pub cheap : (l : Literal) (e : ℕ) → List·Memᴰ (assigns l e) (plain-walk T) → e ≤ step-bound T
-  -- 'A call allowed 96 moves or more brings a set-up or the end.'
+  -- on a budget of at least 96, the next call brings a model or the end
   pub ample : (b : ℕ) → ample-budget ≤ b
       → (walk-call s (last-checkpoint s start bs) b .kind ≡ says-model) ⊎ (walk-call s (last-checkpoint s start bs) b .kind ≡ says-ended)
 
@@ -78,7 +77,7 @@ located-state = locating.located-stands
 
 -- An input whose walk calls are those on a task, where what stripping leaves at the first node is matched.
 module _ (s : List ℕ) (T : Task) (P : Posed T) (walks : (c : Checkpoint) (b : ℕ) → walk-call s c b ≡ task-call T c b) where
-  -- demand 3, whatever the task
+  -- S10, demand 3, whatever the task
   pub dealt : (bs : List ℕ) → Dealt s T bs
   dealt bs = record {
     unrefused = laws.calls-unrefused s T P walks bs;
@@ -93,8 +92,7 @@ module _ (s : List ℕ) (T : Task) (P : Posed T) (walks : (c : Checkpoint) (b : 
     ample = laws.calls-ample s T P walks bs;
   }
 
--- 'A sheet is readable if none of 2 to 9 is given for it, and pairable if each rule can have a switch that it names, no switch used
--- twice.'
+-- S5.6: an accepted formula: the input reads as n and cs, and vs is a matching of its clauses.
 module _ (s : List ℕ) (n : ℕ) (cs : List (List Literal)) (reads : decode s ≡ readable n cs) (vs : List ℕ) (pairs : Pairs cs vs) where
   abbrev T : Task
   T = whole n cs
@@ -111,19 +109,19 @@ module _ (s : List ℕ) (n : ℕ) (cs : List (List Literal)) (reads : decode s �
   walks : (c : Checkpoint) (b : ℕ) → walk-call s c b ≡ task-call T c b
   walks = refusals.call-accepted s n cs row accepts
 
-  -- DEMAND 3
+  -- S10, demand 3
   pub demand-3 : (bs : List ℕ) → Dealt s (whole n cs) bs
   demand-3 = dealt s T P walks
 
-  -- 'the listing holds every permitted set-up exactly once and nothing else': `exact`, over the formula itself
+  -- S10, demands 2 and 3: the listing has the models of the formula and no others: `exact`, over the formula itself
   pub listing-exact : (a : ℕ) → List·Memᴰ a (listing (whole n cs)) ↔ Model n cs a
   listing-exact a =
       let e = laws.listing-models s T P walks a in
       let w = whole-models n cs a in
       (λ m. w .0 (e .0 m), λ m. e .1 (w .1 m))
 
-  -- 'Open means that some permitted set-up agrees with everything settled so far': at every node of the walk that is not full, a value of
-  -- the chosen variable is open exactly if some model agrees with the trail and has it.
+  -- S6.6: at every node of the walk that is not full, a value of the chosen variable is open exactly if some model agrees with the trail
+  -- and has it.
   pub open-means : (k : ℕ) → length (behind (whole n cs) k .trail) < n → (b : Bool)
       → (opened (choice-at (whole n cs) (behind (whole n cs) k .trail)) b ≡ true)
       ↔ ((a : ℕ) × Model n cs a × Agrees (bit a) (behind (whole n cs) k .trail) × (bit a (choice-at (whole n cs) (behind (whole n cs) k .trail) .variable) ≡ b))
@@ -137,15 +135,15 @@ module _ (s : List ℕ) (n : ℕ) (cs : List (List Literal)) (reads : decode s �
   pub from-checkpoint : (c : Checkpoint) (w : Has (whole n cs) c) (b : ℕ) → walk-call s c b ≡ plain-result (whole n cs) (plain-call (whole n cs) b (state-after (whole n cs) 0 (w .0)))
   from-checkpoint c w b = ap (λ (x : Checkpoint). walk-call s x b) (sym (w .1)) ∙ laws.call-plain s T P walks (w .0) b
 
-  -- Demand 1, 'A marker that the sheet's walk never has is refused too': 11 exactly for the checkpoints that the walk never has
+  -- S10, demand 1: 11 exactly for the checkpoints that the walk has not (S7.4)
   pub foreign-exactly : (c : Checkpoint) (b : ℕ) → (walk-call s c b .number ≡ 11) ↔ (Has (whole n cs) c → ⊥)
   foreign-exactly c b = laws.foreign-number s T P walks c b
 
-  -- 'the marker comes back as handed in, set-up 0, moves 0, reaches 0'
+  -- S3.3: then the checkpoint is returned unchanged, and all else but the number is 0
   pub foreign-returned : (c : Checkpoint) (b : ℕ) → (Has (whole n cs) c → ⊥) → walk-call s c b ≡ refusing (ForeignCheckpoint 0) c
   foreign-returned c b f = laws.foreign s T P walks c b f
 
-  -- The checkpoints that the walk has are the start checkpoint and those that calls return.
+  -- S7.4: the checkpoints that the walk has are the start checkpoint and those that calls return.
   pub returned : (c : Checkpoint) → Has (whole n cs) c ↔ ((bs : List ℕ) × (last-checkpoint s start bs ≡ c))
   returned c = laws.has-returned s T P walks c
 
@@ -153,7 +151,7 @@ module _ (s : List ℕ) (n : ℕ) (cs : List (List Literal)) (reads : decode s �
   pub proper : (c : Checkpoint) → Has (whole n cs) c ↔ Proper (whole n cs) c
   proper c = laws.has-proper s T P walks c
 
-  -- 'Spent means that as many moves as the budget were made and neither came.'
+  -- S8.2: a call that says spent has made all the steps of its budget
   pub spent-exactly : (bs : List ℕ) (b : ℕ) → walk-call s (last-checkpoint s start bs) b .kind ≡ says-spent → walk-call s (last-checkpoint s start bs) b .steps ≡ b
   spent-exactly bs b = laws.calls-spent s T P walks bs b
 
@@ -161,24 +159,24 @@ module _ (s : List ℕ) (n : ℕ) (cs : List (List Literal)) (reads : decode s �
   pub within-budget : (bs : List ℕ) (b : ℕ) → walk-call s (last-checkpoint s start bs) b .steps ≤ b
   within-budget bs b = laws.calls-within s T P walks bs b
 
-  -- 'From mode 4 it answers ended with 0 moves, also for budget 0.'
+  -- S8.1: from the checkpoint of the end every call says ended, with no step made
   pub from-end : (b : ℕ) → walk-call s (checkpoint-of 4 []) b ≡ answered ended 0 0 (checkpoint-of 4 [])
   from-end b = laws.call-over s T P walks b
 
-  -- 'start marker, budget 0, pairable sheet: spent'
+  -- S8.2: from the start checkpoint a call on budget 0 says spent, and returns it
   pub start-zero : walk-call s start 0 ≡ answered spent 0 0 start
   start-zero = laws.start-zero s T P walks (omega (arith, whole-size n cs (omega (arith, P .most)), accepted-only s n cs reads .sized .some))
 
--- Demand 2, 'A sheet is walked exactly if its rules can be paired with switches': from the start, on any budget.
+-- S10, demand 2: an input is walked exactly if it is readable and matched: from the start, on any budget.
 pub walked-exactly : (s : List ℕ) (b : ℕ) → (walk-call s start b .kind ≡ says-refused → ⊥) ↔ Pairable s
 walked-exactly = refusals.walked-exactly
 
--- 10 before 11: whatever the checkpoint, a readable input that can't be paired is refused by 10 with the number of marks that judge gives.
+-- S3.2: 10 before 11: whatever the checkpoint, a readable, unmatched input is refused by 10 with the number of marks that judge gives.
 pub unmatched : (s buffer : List ℕ) (n : ℕ) (cs : List (List Literal)) (c : Checkpoint) (b : ℕ) → max-clauses ≤ length buffer → decode s ≡ readable n cs
     → ((vs : List ℕ) → Pairs cs vs → ⊥)
     → (k : ℕ) × (judge s buffer .answer ≡ refused-values (Unmatched k)) × (walk-call s c b ≡ refusing (Unmatched k) c)
 unmatched = refusals.call-unmatched
 
--- 2 to 9 before 10 and 11: an unreadable input gets the reader's refusal.
+-- S3.2: 2 to 9 before 10 and 11: an unreadable input gets the reader's refusal.
 pub unreadable : (s : List ℕ) (r : Refusal) (c : Checkpoint) (b : ℕ) → decode s ≡ refused r → walk-call s c b ≡ refusing r c
 unreadable = refusals.call-unreadable

@@ -1,4 +1,4 @@
--- The models in the plain walk of a node are those that agree with the node, each once. Over any tree whose choice splits the models.
+-- The models in a node's plain walk are those that agree with the node, each once. Over any tree whose choice splits the models.
 use Prim.Native.Nat.{ℕ, zero, suc, _+_, _<_}
 use mathlib.Core.Bool.{Bool, true, false, true≢false}
 use mathlib.Core.List.{List, [], _∷_, _++_, append-nil, List·Memᴰ, List·Memᴰ·head, List·Memᴰ·cases-cons, List·Memᴰ·not-nil, Memᴰ·append-left, Memᴰ·append-right, List·Memᴰ·append-cases}

@@ -137,7 +137,7 @@ module _ (K : Tree) where
     got-next p (model a) q g h = got-call 0 q (subst Attained (pass-zero p (hands a q) q (g .shows) refl) h)
     got-next p end q g h = got-call 0 q (subst Attained (pass-zero p (ends q) q (g .shows) refl) h)
 
-    -- where a variable is left to assigns a call can stop
+    -- where a variable is left to assign a call can stop
     pub down-quiet : (t : Stack) → depth t < K .size → Pauses (next K (down t))
     unfolding next
     down-quiet t h = rw (ne-eqb (depth t) (K .size) (λ e. omega arith)) (at (K .choose t .false_open))
@@ -146,7 +146,7 @@ module _ (K : Tree) where
         at true = tt
         at false = tt
 
-    -- on budget 0 nothing is done where a variable is left to assigns
+    -- on budget 0 nothing is done where a variable is left to assign
     pub down-spent : (t : Stack) → depth t < K .size → resume K 0 (down t) ≡ halted spent (down t)
     unfolding resume next
     down-spent t h = rw (ne-eqb (depth t) (K .size) (λ e. omega arith)) (at (K .choose t .false_open))

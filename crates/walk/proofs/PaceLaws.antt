@@ -1,4 +1,4 @@
--- Over all calls together: the steps and the expansions before the first model, between two, and before the end. Over any tree.
+-- The steps and the expansions before the first model, between two, and before the end, over a list of calls. Over any tree.
 use Prim.Native.Nat.{ℕ, suc, _+_, _*_, _-_, _≤_}
 use mathlib.Core.Bool.{Bool, true, false}
 use mathlib.Core.List.{List, [], _∷_}
@@ -190,6 +190,6 @@ module _ (K : Tree) (L : Live K) (B : ℕ) (cheap : (t : Stack) → K .choose t 
       (call-paces K L _ _ _ _ first-kept b p o c e i)
       (λ c′ e′ i′. first-paced bs (resume K b p .position) c′ e′ (call-effect K L b p o .fine) i′)
 
-  -- over all calls together, whatever the budgets
+  -- over a list of calls, whatever the budgets
   pub pace : (bs : List ℕ) → Paced (K .size) B (gaps (results K L (down empty) bs))
   pace bs = first-paced bs (down empty) 0 0 tt (refl, omega arith)

@@ -1,4 +1,4 @@
--- The walk calls on an input that is walked as a task: no call is refused, and the calls are those of the plain machine.
+-- The walk calls on an input that is walked as a task: none is refused, and they are those of the plain machine.
 use Prim.Native.Nat.{ℕ, _-_, _≤_, _<_}
 use mathlib.Core.Bool.{Bool, true, false, cond}
 use mathlib.Core.List.{List, [], _∷_, _++_, map, List·Memᴰ}
@@ -117,7 +117,7 @@ module _ (s : List ℕ) (T : Task) (P : Posed T) (walks : (c : Checkpoint) (b : 
 
   -- ---- a call
 
-  -- a call goes on from the checkpoint's state, or is refused by 11
+  -- a call from a checkpoint goes on from its state, or is refused by 11
   pub call-is : (c : Checkpoint) (b : ℕ) (x : Located) → located T c ≡ x → walk-call s c b ≡ by-state T c x b
   unfolding task-call
   call-is c b x e = walks c b ∙ rw e refl
@@ -133,7 +133,7 @@ module _ (s : List ℕ) (T : Task) (P : Posed T) (walks : (c : Checkpoint) (b : 
   stopped-has : (p : Position) → Reachable (tree T) p → Stops (tree T) p → Has T (shown p)
   stopped-has p o q = let g = all-got (tree T) alive p o q in (g .0, at-checkpoint T (standing-at (g .0)) ∙ ap shown (g .1))
 
-  -- from it a call goes on from the position
+  -- a call from it goes on from the position
   call-goes : (b : ℕ) (p : Position) → Reachable (tree T) p → Stops (tree T) p → walk-call s (shown p) b ≡ resumed-result (resume (tree T) b p)
   call-goes b p o q = at (located T (shown p)) refl
     where
@@ -229,7 +229,7 @@ module _ (s : List ℕ) (T : Task) (P : Posed T) (walks : (c : Checkpoint) (b : 
       let w = node-model (tree T) (ModelFor T) (splits T P) alive (to-assign T - depth (stack-of (x .0))) (stack-of (x .0)) r (omega arith) in
       (w .0, w .1, rw (at-behind T (x .1)) (agrees-trail (w .0) (stack-of (x .0)) (w .2)))
 
-  -- the pace over all calls together
+  -- the pace over a list of calls
   pub calls-paced : (bs : List ℕ) → Paced (to-assign T) (step-bound T) (gaps (walk-calls s start bs))
   calls-paced bs = rw (calls-results bs) (pace (tree T) alive (step-bound T) (cheap T P) bs)
 
@@ -264,7 +264,7 @@ module _ (s : List ℕ) (T : Task) (P : Posed T) (walks : (c : Checkpoint) (b : 
   unfolding trail-of next
   call-over b = call-goes b over tt (over-stops (tree T) alive) ∙ ap resumed-result (loop-over (tree T) b over refl)
 
-  -- a checkpoint that the walk never has is refused by 11
+  -- a checkpoint that the walk has not is refused by 11
   pub foreign : (c : Checkpoint) (b : ℕ) → (Has T c → ⊥) → walk-call s c b ≡ refusing (ForeignCheckpoint 0) c
   foreign c b f = at (located T c) refl
     where
@@ -275,7 +275,7 @@ module _ (s : List ℕ) (T : Task) (P : Posed T) (walks : (c : Checkpoint) (b : 
   has-number : (c : Checkpoint) (b : ℕ) → Has T c → walk-call s c b .number ≡ 0
   has-number c b w = ap (λ (x : Checkpoint). walk-call s x b .number) (sym (w .1)) ∙ ap (λ (r : Result). r .number) (call-plain (w .0) b)
 
-  -- 11 exactly for the checkpoints that the walk never has
+  -- 11 exactly for the checkpoints that the walk has not
   pub foreign-number : (c : Checkpoint) (b : ℕ) → (walk-call s c b .number ≡ 11) ↔ (Has T c → ⊥)
   foreign-number c b = (λ e w. let z = has-number c b w in omega arith, λ f. ap (λ (r : Result). r .number) (foreign c b f))
 

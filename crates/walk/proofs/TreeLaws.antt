@@ -31,7 +31,7 @@ use Rattle.walk.proofs.ListingLaws.{Agrees, Splits}
 use Rattle.walk.proofs.ByteLaws.{Below}
 use Rattle.walk.proofs.AssignmentLaws.{assignment-agrees, assignment-lt, assignment-none, model-lt, same-assignment}
 
--- the plain walk of a task is that of its tree
+-- a task's plain walk is that of its tree
 node-same : (T : Task) (k : ℕ) (t : Stack) → node-walk T k (T .before ++ trail-of t) ≡ entries (tree T) k t
 unfolding node-walk entries trail-of
 node-same T zero t = refl
@@ -158,7 +158,7 @@ module _ (T : Task) (P : Posed T) where
   pub trail-over : (t : Stack) → Replayed (tree T) t → Trail (T .variables) (assigned t)
   trail-over t r = node t r .trail
 
-  -- the choice-literal variable is below n and not assigned yet
+  -- the chosen variable is below n and not assigned yet
   pub choice-fresh : (t : Stack) → Replayed (tree T) t → depth t < to-assign T
       → (picked t .variable < T .variables) × (names (assigned t) (picked t .variable) ≡ false)
   choice-fresh t r h = let w = choosing t (node t r) h in (w .below, w .fresh)

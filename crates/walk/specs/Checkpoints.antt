@@ -1,4 +1,4 @@
--- 01, 'Moves and markers': the checkpoint (01: marker) for the entries behind.
+-- S7.2, S7.3: the checkpoint (request: marker) for the entries behind.
 use Prim.Native.Nat.{ℕ, _+_}
 use mathlib.Core.Bool.{Bool, true, false, cond}
 use mathlib.Core.List.{List, [], _∷_, _++_, map}
@@ -9,21 +9,21 @@ use Rattle.limits.specs.Limits.{max-variables}
 use Rattle.walk.specs.Task.{Task}
 use Rattle.walk.specs.Plain.{Entry, assigns, undoes, model, end, plain-walk}
 
--- 'A marker has a mode, a length and 48 bytes'
+-- a checkpoint: its mode, how many variables are assigned, and 48 bytes
 pub record Checkpoint : Type 0 where
   pub mode : ℕ
   pub length : ℕ
   pub bytes : List ℕ
 
--- a variable's byte: 'its number, plus 128 if on', the number from 1
+-- S7.2: a variable's byte, its number from 1, plus 128 if true
 abbrev pub byte : Literal → ℕ
 byte l = cond (l .positive) (l .variable + 1 + 128) (l .variable + 1)
 
--- 'one per settled switch in order [..], the rest 0'
+-- the checkpoint of a trail: a byte for each assigned variable in order, and zeros behind them
 unfoldable pub checkpoint-of : ℕ → List Literal → Checkpoint
 checkpoint-of mode t = record { mode = mode; length = length t; bytes = padded max-variables 0 (map byte t) }
 
--- the start checkpoint (01: start marker)
+-- S8.3: the start checkpoint (request: start marker)
 unfoldable pub start : Checkpoint
 start = checkpoint-of 0 []
 
@@ -44,13 +44,13 @@ last-value [] = false
 last-value (l ∷ []) = l .positive
 last-value (l ∷ (m ∷ t)) = last-value (m ∷ t)
 
--- '2 an off was just taken back; 3 an on was just taken back'
+-- S7.3: mode 2 where false was undone, 3 where true was
 abbrev pub undone-mode : Bool → ℕ
 undone-mode false = 2
 undone-mode true = 3
 
--- one entry more: '1 just settled', '4 ended, length 0'. A model leaves the trail as it is, and mode 1, which it has already where
--- something was assigned
+-- S7.3: one entry more: mode 1 behind an assignment, mode 4 and no trail behind the end. A model leaves the trail as it is, and mode 1,
+-- which it has already where something was assigned
 abbrev pub past : Behind → Entry → Behind
 past p (assigns l e) = record { mode = 1; trail = p .trail ++ (l ∷ []) }
 past p undoes = record { mode = undone-mode (last-value (p .trail)); trail = without-last (p .trail) }
@@ -62,10 +62,10 @@ unfoldable pub past-all : Behind → List Entry → Behind
 past-all p [] = p
 past-all p (e ∷ es) = past-all (past p e) es
 
--- behind the first k entries of the plain walk: '0 start, length 0'
+-- behind the first k entries of the plain walk: mode 0 and no trail at the start
 unfoldable pub behind : Task → ℕ → Behind
 behind T k = past-all (record { mode = 0; trail = [] }) (take k (plain-walk T))
 
--- 'The marker returned is the one described above for the entries now behind.'
+-- the checkpoint behind the first k entries, which a call that stops there returns
 unfoldable pub checkpoint-after : Task → ℕ → Checkpoint
 checkpoint-after T k = checkpoint-of (behind T k .mode) (behind T k .trail)

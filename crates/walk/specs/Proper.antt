@@ -1,4 +1,4 @@
--- 01, 'Moves and markers': which checkpoints a walk has, told by themselves.
+-- S7.4: which checkpoints a walk has, told by themselves.
 use Prim.Native.Nat.{ℕ, zero, suc, _<_, _≤_}
 use mathlib.Core.Bool.{true}
 use mathlib.Core.List.{List, [], _∷_, _++_}
@@ -16,9 +16,9 @@ module _ (T : Task) where
   ByChoice u [] = Unit {0}
   ByChoice u (l ∷ t) = (l .variable ≡ choice-at T u .variable) × (opened (choice-at T u) (l .positive) ≡ true) × ByChoice (u ++ (l ∷ [])) t
 
-  -- '0 start, length 0; 1 just settled; 2 an off was just taken back; 3 an on was just taken back; 4 ended, length 0'. Mode 1 is had at
-  -- length 0 only where nothing is to be assigned. A value was undone only where it is open, at a node that is not full. At length 0
-  -- mode 3 is never had, and mode 2 only where true is open: else the end follows in the same call.
+  -- S7.3, S7.4: the condition of each mode. Modes 0 (start) and 4 (end) have no trail. Mode 1 (assigned) is had at length 0 only where
+  -- nothing is to be assigned. A value was undone (2: false, 3: true) only where it is open, at a node that is not full. At length 0 mode 3
+  -- is never had, and mode 2 only where true is open: else the end follows in the same call.
   abbrev pub ModeFits : ℕ → List Literal → Type 0
   ModeFits zero t = length t ≡ 0
   ModeFits (suc zero) t = (0 < length t) ⊎ (to-assign T ≡ 0)

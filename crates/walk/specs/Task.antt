@@ -1,4 +1,4 @@
--- What a walk is over: the one parameter of the plain walk, its machine and its checkpoints.
+-- S9.1: what a walk is over: the one parameter of the plain walk, its machine and its checkpoints.
 use Prim.Native.Nat.{ℕ, _^_, _≤_, _<_}
 use mathlib.Core.Bool.{true, false}
 use mathlib.Core.List.{List, [], _++_}
@@ -19,7 +19,7 @@ pub record Task : Type 0 where
   pub scope : ℕ
   pub before : List Literal
 
--- the task of a formula: 'A set-up covers all n switches', and none is assigned before
+-- the task of a formula: all n variables are to be assigned, also those that no clause names, and none is assigned before
 abbrev pub whole : ℕ → List (List Literal) → Task
 whole n cs = record { variables = n; clauses = cs; scope = full n; before = [] }
 

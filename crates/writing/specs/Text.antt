@@ -32,11 +32,11 @@ decimal x = decimal-within (suc x) x
 abbrev pub digit : ℕ → ℕ → ℕ
 digit a i = cond (bit a i) digit-one digit-zero
 
--- the first n bits of a mask (01, 'The printed walk': 'n digits, switch 1 first')
+-- S12.1: the first n bits of a mask, from bit 0 on
 abbrev pub digits : ℕ → ℕ → List ℕ
 digits n a = tabulated (digit a) n
 
--- a line of words (01, 'The printed walk': 'One blank between words, and each line ends with a line feed (0A).')
+-- S12.1: a line of words: a blank between two, and a line feed at the end
 abbrev pub line-of : List (List ℕ) → List ℕ
 line-of [] = line-feed ∷ []
 line-of (w ∷ []) = w ++ (line-feed ∷ [])
