@@ -1,1 +1,3 @@
-// Theory only: the cases at the edges that document 01 marks to be proved. See specs/MarkedCases.antt.
+// Theory only: the cases at the edges that are proved, as one table.
+//
+// The table is in specs/MarkedCases.antt.

@@ -1,4 +1,6 @@
-// Reads an encoded formula from standard input, as much of it as is printed, and prints its walk (01) or its refusal.
+// Program: prints the walk of the encoded formula on standard input, or its refusal.
+//
+// It reads as much of the input as is printed.
 fn main() {
     let mut input = [0u8; printing::MAX_INPUT];
     let n = io::read_full(0, &mut input);

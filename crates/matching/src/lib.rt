@@ -1,5 +1,6 @@
-// Matching clauses to variables by breadth-first augmenting search (01: 'Pairing, and the reaches it costs').
-// A clause is the mask of its variables; clauses and variables count from 0.
+// Matching clauses to variables by breadth-first augmenting search, over masks.
+//
+// It knows no signs and no bytes: a clause is the mask of its variables, and clauses and variables count from 0.
 use limits::MAX_CLAUSES;
 ghost use mathlib.Core.Path.{_≡_};
 ghost use mathlib.Core.Bool.{false};
