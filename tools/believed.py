@@ -194,7 +194,7 @@ def rows():
         elif not line.startswith('|---'):
             files = []
             for word in re.findall(r'(?:crates/\w+/\w+/)?\w+\.antt', header + line):
-                last = ROOT / word if word.startswith('crates/') else last.parent / word
+                last = ROOT / word if word.startswith('crates/') or last is None else last.parent / word
                 files.append(last)
             if '| same |' in line:
                 files.append(last)
