@@ -1,5 +1,6 @@
-// S13.1: the functions exported to C and Rust. Each is lent its buffers as slices: a pointer and a length. Results go out as six
-// numbers, a checkpoint as 50 bytes.
+// The functions exported to C and Rust, each over slices of numbers (S13.1).
+//
+// A slice is lent as a pointer and a length. Results go out as six numbers, a checkpoint as 50 bytes.
 ghost use mathlib.Core.Path.{_≡_};
 ghost use lib.ListN.{length, drop};
 ghost use Rattle.formula.specs.Check as check;

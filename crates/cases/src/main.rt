@@ -1,5 +1,7 @@
-// Runs the corpus in data/ against the library. For each act it prints how many vectors there are and how many differ
-// from what they expect, after lines for each difference, each file that cannot be opened and each that breaks off.
+// Program: runs the corpus in data/ against the library, and counts what differs.
+//
+// For each act it prints how many vectors there are and how many differ from what they expect, after lines for each difference, each
+// file that cannot be opened and each that breaks off.
 //
 // A file holds vectors of one act, at most 65,536 bytes of them. Numbers are little-endian. A vector is its number
 // (2 bytes), the length of its input (2 bytes), its input, the expected answer and the act's own fields. An answer is what it

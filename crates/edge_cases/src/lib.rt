@@ -1,1 +1,3 @@
-// Theory only: cases at the edges, computed from the definitions. The table of them is specs/MarkedCases.antt.
+// Theory only: the cases at the edges that are proved, as one table.
+//
+// The table is in specs/MarkedCases.antt.

@@ -1,4 +1,6 @@
-// S12: reads an encoded formula from standard input, as much of it as is printed, and prints its walk or its refusal.
+// Program: prints the walk of the encoded formula on standard input, or its refusal (S12).
+//
+// It reads as much of the input as is printed.
 fn main() {
     let mut input = [0u8; printing::MAX_INPUT];
     let n = io::read_full(0, &mut input);

@@ -1,5 +1,6 @@
-// S5.6, S5.7: what comes of an encoded formula: whether it is matched, and the matching or a violator. The act judge, which writes these
-// into a lent buffer.
+// Which inputs are accepted, each with its matching or a violator, and the act judge (S5.6, S5.7).
+//
+// `accept` gives what comes of an encoded formula to every act that asks for a matched one; judge writes it into a lent buffer.
 ghost use mathlib.Core.List.{List, map};
 ghost use mathlib.Core.Path.{_≡_};
 ghost use Prim.Native.Nat.{ℕ, suc, _<_, _≤_};

@@ -1,5 +1,6 @@
-// S5: matching clauses to variables by breadth-first augmenting search.
-// A clause is the mask of its variables; clauses and variables count from 0.
+// Matching clauses to variables by breadth-first augmenting search, over masks (S5).
+//
+// It knows no signs and no bytes: a clause is the mask of its variables, and clauses and variables count from 0.
 use limits::MAX_CLAUSES;
 ghost use mathlib.Core.Path.{_≡_};
 ghost use mathlib.Core.Bool.{false};

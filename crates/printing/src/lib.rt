@@ -1,4 +1,4 @@
-// S12: the printed walk: its lines as bytes, written into a lent buffer.
+// The printed walk: its lines as bytes, written into a lent buffer (S12).
 ghost use mathlib.Core.Path.{_≡_};
 ghost use mathlib.Core.List.{List};
 ghost use Prim.Native.Nat.{ℕ, _≤_};

@@ -1,7 +1,8 @@
-// S6: the choice of the next variable, over a formula in masks and the assigned variables.
-// A clause is gone if an assigned variable satisfies it; what is left of another are its unassigned variables. Few clauses are
-// open where a choice is made, so what is left of those is copied first, into an array for each side, and all else goes over
-// the arrays: stripping a pure literal drops the clauses that name it, in place.
+// The choice of the next variable: pure literals, trials, and which values are open (S6).
+//
+// It is made over a formula in masks and the assigned variables. A clause is gone if an assigned variable satisfies it; what is left of
+// another are its unassigned variables. Few clauses are open where a choice is made, so what is left of those is copied first, into an
+// array for each side, and all else goes over the arrays: stripping a pure literal drops the clauses that name it, in place.
 ghost use mathlib.Core.Path.{_≡_};
 ghost use mathlib.Core.Bool.{true};
 ghost use mathlib.Core.List.{map};

@@ -1,1 +1,1 @@
-// Theory only: the plain walk, the plain machine, checkpoints, and the walk call on bytes.
+// Theory only: the plain walk over a task, its machine, checkpoints, and the walk call on bytes.

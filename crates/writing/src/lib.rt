@@ -1,5 +1,7 @@
-// Text written into a lent buffer. A writer is given the offset at which it starts, and answers with the one behind what it wrote. Its
-// callers show that the buffer has room.
+// Text written into a lent buffer: words, numbers in decimal, the digits of a mask.
+//
+// A writer is given the offset at which it starts, and answers with the one behind what it wrote. Its callers show that the buffer has
+// room.
 ghost use mathlib.Core.Path.{_≡_};
 ghost use mathlib.Core.List.{[], _∷_};
 ghost use Prim.Native.Nat.{_+_, _<_, _≤_};
