@@ -20,7 +20,8 @@ Where it begins:
 
 A public function with a `requires` is for our own crates, which are proved to meet it: what only these reach is listed apart and not
 counted. The crates named in APART are left out. A file specs/Inner*.antt is not to be believed: a statement or a contract that
-reaches one is a finding, and is not followed further. So is a statement that rests on a definition in proofs/.
+reaches one is a finding, and is not followed further, unless docs/PROOFS.md has it in its table 'Fixed by statements'. A statement that
+rests on a definition in proofs/ is a finding too.
 """
 import pathlib
 import re
@@ -31,6 +32,7 @@ CRATES = ROOT / 'crates'
 PROOFS = ROOT / 'docs' / 'PROOFS.md'
 STATEMENTS = ('Demands', 'Theorems', 'ListTheorems', 'MarkedCases')
 APART = ('exhaustive',)  # compares the walk with a second lister: no statement rests on it
+OURS = ('enumeration::root', 'matched::accept', 'splitting::choose_free')  # ask nothing, and are for our own crates all the same
 
 USE = re.compile(r'Rattle·(\w+?)(?:·\w+)?\.(specs|proofs)\.([\w.-]+?)(?:\.\{(.*)\}|\s+as\s+(\S+?))?;?$')
 MODIFIERS = ('pub', 'abbrev', 'unfoldable')
@@ -162,6 +164,7 @@ class Reader:
     def follow(self, roots):
         """From roots (what, its scope, its words): the definitions reached, by file; the types of the code; the findings."""
         reached, types, findings = {}, set(), set()
+        fixed = {(path, name) for heading, _, files, names in rows() if heading == 'Fixed by statements' for path in files for name in names}
         work = list(roots)
         while work:
             root, scope, words = work.pop()
@@ -173,7 +176,8 @@ class Reader:
                 definition = self.file(path).definitions.get(name) if path else None
                 if definition is None or definition in reached.get(path, ()):
                     continue
-                if path.stem.startswith('Inner') or path.parent.name == 'proofs' and path.stem not in STATEMENTS:
+                inner = path.stem.startswith('Inner') and (path, name) not in fixed
+                if inner or path.parent.name == 'proofs' and path.stem not in STATEMENTS:
                     findings.add(f'{root} rests on {name} in {path.relative_to(ROOT)}')
                 if not path.stem.startswith('Inner'):
                     reached.setdefault(path, []).append(definition)
@@ -229,8 +233,9 @@ def contracts(asking):
                 if found and (path == lib or (path.stem, found.group(1)) in handed_on):
                     head = '\n'.join(lines[at:lines.index('{', at)])
                     contract = head[re.search(r'\n +(requires|ensures)|$', head).start():]
-                    if asking == ('requires' in contract):
-                        yield f'{crate}::{found.group(1)}', scope, words_of([contract])
+                    name = f'{crate}::{found.group(1)}'
+                    if asking == ('requires' in contract or name in OURS):
+                        yield name, scope, words_of([contract])
 
 
 def believed(reached):

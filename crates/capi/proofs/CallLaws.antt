@@ -9,7 +9,8 @@ use Rattle.formula.specs.Check.{checked}
 use Rattle.matched.specs.Judge as judging
 use Rattle.matched.specs.Judge.{judge}
 use Rattle.walk.specs.Checkpoints.{Checkpoint, start}
-use Rattle.walk.specs.WalkCall.{Result, walk-call}
+use Rattle.walk.specs.WalkCall.{walk-call}
+use Rattle.walk.specs.Results.{Result}
 use Rattle.enumeration.specs.declared.listing.Listed.{Listed}
 use Rattle.enumeration.specs.declared.calls.Walked.{Walked}
 use Rattle.enumeration.specs.Values.{checkpoint-values, walked-values, listed-values}

@@ -10,7 +10,8 @@ use Rattle.limits.specs.Limits.{max-variables}
 use Rattle.lists.specs.Over.{over}
 use Rattle.lists.proofs.PaddedLaws.{padded-none}
 use Rattle.walk.specs.Checkpoints.{Checkpoint, checkpoint-of, start}
-use Rattle.walk.specs.WalkCall.{AnswerKind, says-model, says-spent, says-ended, says-refused, Result, walk-call, walk-calls}
+use Rattle.walk.specs.WalkCall.{walk-call, walk-calls}
+use Rattle.walk.specs.Results.{AnswerKind, says-model, says-spent, says-ended, says-refused, Result}
 use Rattle.walk.proofs.ResumedLaws.{call-bytes}
 use Rattle.enumeration.proofs.RefusedLaws.{refuses-or-goes}
 use Rattle.enumeration.proofs.ListTheorems.{next-refused}

@@ -11,7 +11,8 @@ use Rattle.formula.specs.Check.{Said, said-yes, said-no, said-neither, checked}
 use Rattle.matched.specs.Judge as judging
 use Rattle.matched.specs.Judge.{judge}
 use Rattle.walk.specs.Checkpoints.{Checkpoint, start}
-use Rattle.walk.specs.WalkCall.{AnswerKind, says-model, says-spent, says-ended, says-refused, Result, walk-call}
+use Rattle.walk.specs.WalkCall.{walk-call}
+use Rattle.walk.specs.Results.{AnswerKind, says-model, says-spent, says-ended, says-refused, Result}
 use Rattle.enumeration.specs.Lists.{Delivery, next-models}
 
 -- ---- results: six numbers, of which the first says the answer, and the third and fourth are the refusal's number and place

@@ -8,7 +8,6 @@ use Rattle.formula.specs.declared.Refusal.{Refusal}
 use Rattle.formula.specs.declared.Refusal.the-variants.{ShortBuffer, Truncated, UnknownKind, Misplaced, BadVariableCount, NoSuchVariable, RepeatedVariable, TooManyClauses, TrailingByte, Unmatched, ForeignCheckpoint, StrayVariable}
 use Rattle.formula.specs.Refusals.{table-row}
 use Rattle.matched.specs.Judge.{judge}
-use Rattle.matched.specs.Judge.{JudgementValues as Values}
 use Rattle.cases.specs.declared.answers.Answer.{Answer}
 use Rattle.cases.specs.declared.corpus.Vector.{Vector}
 use Rattle.cases.specs.declared.judging.Judged.{Judged}

@@ -4,7 +4,6 @@ use mathlib.Core.Bool.{Bool}
 use mathlib.Core.List.{List}
 use lib.ListN.{take, drop}
 use Rattle.formula.specs.Check.{Said, said-yes, said-no, said-neither, checked}
-use Rattle.formula.specs.Check.{VerdictValues as Values}
 use Rattle.cases.specs.declared.answers.Answer.{Answer}
 use Rattle.cases.specs.declared.corpus.Vector.{Vector}
 use Rattle.cases.specs.Answers.{plain, expected, same-answer}

@@ -6,7 +6,6 @@ use lib.Dec.{eqb}
 use lib.ListN.{getD, take, drop, replicate}
 use Rattle.limits.specs.Limits.{max-clauses}
 use Rattle.matched.specs.Judge.{judge}
-use Rattle.matched.specs.Judge.{JudgementValues as Values}
 use Rattle.cases.specs.declared.answers.Answer.{Answer}
 use Rattle.cases.specs.declared.corpus.Vector.{Vector}
 use Rattle.cases.specs.declared.judging.Judged.{Judged}

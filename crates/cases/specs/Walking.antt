@@ -7,7 +7,8 @@ use lib.Dec.{eqb}
 use lib.ListN.{getD, take, drop}
 use Rattle.limits.specs.Limits.{max-variables}
 use Rattle.walk.specs.Checkpoints.{Checkpoint, start}
-use Rattle.walk.specs.WalkCall.{AnswerKind, says-model, says-spent, says-ended, says-refused, Result, walk-call}
+use Rattle.walk.specs.WalkCall.{walk-call}
+use Rattle.walk.specs.Results.{AnswerKind, says-model, says-spent, says-ended, says-refused, Result}
 use Rattle.enumeration.specs.Values.{checkpoint-values}
 use Rattle.cases.specs.declared.corpus.Vector.{Vector}
 use Rattle.cases.specs.declared.walking.Compared.{Compared}

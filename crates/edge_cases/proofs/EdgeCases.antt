@@ -9,7 +9,7 @@ use Rattle.limits.specs.Limits.{max-clauses}
 use Rattle.lists.specs.Tabulated.{tabulated}
 use Rattle.masks.specs.Mask.{bit, members}
 use Rattle.writing.specs.Text.{line-feed, blank, decimal-within, decimal}
-use Rattle.formula.specs.Decode.{decode, records, read-record}
+use Rattle.formula.specs.InnerDecode.{decode, records, read-record}
 use Rattle.formula.specs.Format.{Literal, names, names-as, literal-bytes, literals-bytes, clause-bytes, clauses-bytes, formula-bytes}
 use Rattle.formula.specs.Masked.{variables}
 use Rattle.matching.specs.Search.{owner, no-links, begin, see, scan, take-front, expand, search-from, rematch-from, match-rest, outcome, marks}
@@ -22,7 +22,7 @@ use Rattle.walk.specs.Task.{whole}
 use Rattle.walk.specs.Plain.{assignment, node-walk, plain-walk}
 use Rattle.walk.specs.Gaps.{ample-budget}
 use Rattle.walk.specs.PlainMachine.{go-on, plain-call, plain-calls}
-use Rattle.walk.specs.WalkCall.{plain-result}
+use Rattle.walk.specs.Results.{plain-result}
 use Rattle.walk.proofs.Demands.{start-zero}
 use Rattle.walk.proofs.TaskLaws.{calls-plain}
 use Rattle.walk.proofs.RefusalLaws.{accepted-posed, call-accepted}

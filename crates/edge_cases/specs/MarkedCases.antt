@@ -7,7 +7,8 @@ use mathlib.Core.Path.{_≡_}
 use lib.ListN.{length, drop, replicate}
 use Rattle.limits.specs.Limits.{max-clauses}
 use Rattle.writing.specs.Text.{line-feed, blank}
-use Rattle.formula.specs.Decode.{Decoding, readable, refused, decode}
+use Rattle.formula.specs.InnerDecode.{decode}
+use Rattle.formula.specs.Decoding.{Decoding, readable, refused}
 use Rattle.formula.specs.Format.{Literal, formula-bytes}
 use Rattle.formula.specs.Refusals.{TableRow, table-row}
 use Rattle.matched.specs.Judge.{accepted-values, judge}
@@ -15,7 +16,8 @@ use Rattle.matched.specs.Pairing.{Pairs}
 use Rattle.walk.specs.Gaps.{ample-budget}
 use Rattle.walk.specs.Checkpoints.{start}
 use Rattle.walk.specs.PlainMachine.{spent}
-use Rattle.walk.specs.WalkCall.{AnswerKind, says-model, says-ended, Result, answered, walk-call, walk-calls}
+use Rattle.walk.specs.WalkCall.{walk-call, walk-calls}
+use Rattle.walk.specs.Results.{AnswerKind, says-model, says-ended, Result, answered}
 use Rattle.printing.specs.Printed.{switches-word, rules-word, end-word, printed}
 
 -- ---- how the cases are written

@@ -13,7 +13,8 @@ use Rattle.walk.specs.Task.{whole}
 use Rattle.walk.specs.Checkpoints.{Checkpoint}
 use Rattle.walk.specs.InnerStack.{Tree, tree}
 use Rattle.walk.specs.InnerTest.{accepts, read, position-of}
-use Rattle.walk.specs.WalkCall.{refusing, walk-call}
+use Rattle.walk.specs.WalkCall.{walk-call}
+use Rattle.walk.specs.Results.{refusing}
 use Rattle.walk.proofs.ResumedLaws.{call-resumed}
 use Rattle.enumeration.specs.declared.entering.Entered.{Entered}
 use Rattle.enumeration.specs.InnerState.{position-in, Follows, Holds}

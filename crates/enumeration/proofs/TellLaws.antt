@@ -15,7 +15,7 @@ use Rattle.walk.specs.InnerStack.{Stack, empty, push, depth, trail-of, Tree}
 use Rattle.walk.specs.InnerMachine.{Position, down, full, back, over, Resumed}
 use Rattle.walk.specs.InnerTest.{mode-of, stack-of, shown}
 use Rattle.walk.specs.InnerCall.{resumed-result}
-use Rattle.walk.specs.WalkCall.{answered}
+use Rattle.walk.specs.Results.{answered}
 use Rattle.walk.proofs.PositionLaws.{length-trail}
 use Rattle.enumeration.specs.declared.calls.Answer.{Answer}
 use Rattle.enumeration.specs.declared.state.State.{State}

@@ -7,13 +7,14 @@ use Rattle.formula.specs.declared.Formula.{Formula}
 use Rattle.formula.specs.declared.Outcome.the-variants as outcomes
 use Rattle.formula.specs.declared.Refusal.{Refusal}
 use Rattle.formula.specs.declared.Refusal.the-variants.{ForeignCheckpoint}
-use Rattle.formula.specs.Masked.{FormulaFits}
+use Rattle.formula.specs.InnerFits.{FormulaFits}
 use Rattle.walk.specs.Checkpoints.{Checkpoint}
 use Rattle.walk.specs.InnerStack.{Tree}
 use Rattle.walk.specs.InnerMachine.{resume}
 use Rattle.walk.specs.InnerTest.{read, position-of, accepts}
 use Rattle.walk.specs.InnerCall.{resumed-result}
-use Rattle.walk.specs.WalkCall.{refusing, walk-call}
+use Rattle.walk.specs.WalkCall.{walk-call}
+use Rattle.walk.specs.Results.{refusing}
 use Rattle.enumeration.specs.declared.entering.Entered.{Entered}
 use Rattle.enumeration.specs.InnerState.{position-in, Follows, Holds}
 use Rattle.enumeration.specs.InnerLists.{filling}

@@ -2,7 +2,7 @@
 use Prim.Native.Nat.{ℕ}
 use Rattle.formula.specs.Refusals.{table-row}
 use Rattle.walk.specs.Checkpoints as walk
-use Rattle.walk.specs.WalkCall.{says-model, says-spent, says-ended, says-refused, Result}
+use Rattle.walk.specs.Results.{says-model, says-spent, says-ended, says-refused, Result}
 use Rattle.enumeration.specs.declared.calls.Answer.{Answer}
 use Rattle.enumeration.specs.declared.calls.Answer.the-variants.{Model, Spent, Ended, Refused}
 use Rattle.enumeration.specs.declared.checkpoint.Checkpoint.{Checkpoint}

@@ -1,5 +1,5 @@
 // Where a call on an input begins: the one way in of walk and list.
-ghost use Rattle.formula.specs.Masked.{FormulaFits};
+ghost use Rattle.formula.specs.InnerFits.{FormulaFits};
 ghost use Rattle.walk.specs.InnerStack.{Tree};
 ghost use Rattle.enumeration.specs.InnerState.{Follows};
 ghost use Rattle.enumeration.specs.InnerRead.{HasTree};

@@ -4,7 +4,7 @@ ghost use Prim.Native.Nat.{_-_, _≤_};
 ghost use mathlib.Core.Bool.{true, false};
 ghost use lib.ListN.{length};
 ghost use Rattle.limits.specs.Limits.{max-variables};
-ghost use Rattle.formula.specs.Masked.{FormulaFits};
+ghost use Rattle.formula.specs.InnerFits.{FormulaFits};
 ghost use Rattle.walk.specs.Checkpoints.{undone-mode};
 ghost use Rattle.walk.specs.InnerStack.{push, Tree};
 ghost use Rattle.walk.specs.InnerTest.{byte-number, byte-value, formed, read, fits, accepts};

@@ -8,8 +8,9 @@ use lib.Dec.{ltb}
 use lib.ListN.{length}
 use Rattle.limits.specs.Limits.{max-variables, max-clauses}
 use Rattle.formula.specs.Format.{names}
-use Rattle.formula.specs.Decode.{Decoding, Kind, variable-count, literal, clause-end, formula-end, unknown, kind-of, known, allowed, one-to, Reading, Step, next, stop, after-kind, read-record, records}
-use Rattle.formula.proofs.DecodeLaws.{gives-next}
+use Rattle.formula.specs.InnerDecode.{Kind, variable-count, literal, clause-end, formula-end, unknown, kind-of, known, allowed, one-to, Reading, Step, next, stop, after-kind, read-record, records}
+use Rattle.formula.specs.Decoding.{Decoding}
+use Rattle.formula.proofs.DecodeLaws.{gives-next, gives-stop}
 
 -- where reading goes on, fewer bytes than those of s are left
 data Shorter (s : List ℕ) : Step → Type 0 where
@@ -37,7 +38,7 @@ module _ (len : ℕ) (r : Reading) where
   record-shorter (b ∷ s) = by-test (known (kind-of b)) (by-test (allowed r (kind-of b)) (kind-shorter b (kind-of b) s) stops) stops
 
 -- two bounds that are at least the bytes that are left
-pub records-same : (j k len : ℕ) (r : Reading) (s : List ℕ) → length s ≤ j → length s ≤ k → records j len r s ≡ records k len r s
+records-same : (j k len : ℕ) (r : Reading) (s : List ℕ) → length s ≤ j → length s ≤ k → records j len r s ≡ records k len r s
 unfolding records read-record
 records-same zero zero len r s a b = refl
 records-same zero (suc k) len r [] a b = refl
@@ -52,9 +53,19 @@ records-same (suc j) (suc k) len r s a b =
     go (next r′ s′) (fewer h) again = again r′ s′ h
     go (stop d) stops again = refl
 
-pub records-on : (len : ℕ) (r r′ : Reading) (s s′ : List ℕ) → read-record len r s ≡ next r′ s′ → records (length s) len r s ≡ records (length s′) len r′ s′
-records-on len r r′ s s′ e =
+-- S3.2: the bound in the definition of `records` is never what stops it. Wherever reading stands and s is left, any larger bound gives
+-- the same,
+pub records-unbounded : (len : ℕ) (r : Reading) (s : List ℕ) (k : ℕ) → length s ≤ k → records k len r s ≡ records (length s) len r s
+records-unbounded len r s k h = records-same k (length s) len r s h (omega arith)
+
+-- a record after which reading goes on is followed by the next
+pub records-next : (len : ℕ) (r r′ : Reading) (s s′ : List ℕ) → read-record len r s ≡ next r′ s′ → records (length s) len r s ≡ records (length s′) len r′ s′
+records-next len r r′ s s′ e =
     gives-next e (less (rw e at (record-shorter len r s))) (record { runs = λ k h. records-same k (length s′) len r′ s′ h (omega arith) }) .runs (length s) (omega arith)
   where
     less : Shorter s (next r′ s′) → length s′ < length s
     less (fewer h) = h
+
+-- and one that stops it gives what it stops with
+pub records-stop : (len : ℕ) (r : Reading) (s : List ℕ) (d : Decoding) → read-record len r s ≡ stop d → records (length s) len r s ≡ d
+records-stop len r s d e = gives-stop e .runs (length s) (omega arith)

@@ -23,11 +23,12 @@ use Rattle.formula.specs.declared.Formula.{Formula}
 use Rattle.formula.specs.declared.Refusal.{Refusal}
 use Rattle.formula.specs.declared.Refusal.the-variants.{StrayVariable}
 use Rattle.formula.specs.Check.{said-yes, said-no, verdict-said, verdict-refused, checked}
-use Rattle.formula.specs.Decode.{refused, decode}
+use Rattle.formula.specs.InnerDecode.{decode}
+use Rattle.formula.specs.Decoding.{refused}
 use Rattle.formula.specs.Format.{Literal}
 use Rattle.formula.specs.InnerCheck.{clause-holds, all-first, clauses-hold}
 use Rattle.formula.specs.Masked.{no-clause, with-literal, with-literals, clause-of}
-use Rattle.formula.specs.Models.{stands, holds, satisfied, stray}
+use Rattle.formula.specs.InnerModels.{stands, holds, satisfied, stray}
 use Rattle.formula.proofs.MaskedLaws.{Accepts}
 
 -- ---- a clause of masks, a literal more

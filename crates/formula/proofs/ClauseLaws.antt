@@ -14,9 +14,10 @@ use Rattle.masks.proofs.BitLaws.{bit-or, bit-pow, bit-with, bit-none, with-lt}
 use Rattle.masks.proofs.MeetLaws.{apart-of}
 use Rattle.masks.proofs.MembersLaws.{mask-same, member-some}
 use Rattle.formula.specs.declared.Clause.{Clause}
-use Rattle.formula.specs.Decode.{none-yet}
+use Rattle.formula.specs.InnerDecode.{none-yet}
 use Rattle.formula.specs.Format.{Literal, names, names-as, distinct, ClauseOver}
-use Rattle.formula.specs.Masked.{no-clause, clause-variables, with-literal, with-literals, variables, clause-of, side, ClauseFits}
+use Rattle.formula.specs.Masked.{no-clause, with-literal, with-literals, variables, clause-of}
+use Rattle.formula.specs.InnerFits.{clause-variables, side, ClauseFits}
 use Rattle.formula.proofs.FormatLaws.{distinct-rest}
 
 -- ---- what the masks name

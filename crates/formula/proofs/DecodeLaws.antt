@@ -10,7 +10,8 @@ use lib.Seq.{append-snoc}
 use Rattle.limits.specs.Limits.{max-variables, max-clauses}
 use Rattle.lists.specs.Every.{Every}
 use Rattle.formula.specs.Format.{Literal, literal-kind, literal-bytes, literals-bytes, clause-bytes, clauses-bytes, names, distinct, ClauseOver}
-use Rattle.formula.specs.Decode.{Decoding, readable, Reading, reading-start, next, stop, read-record, records, decode}
+use Rattle.formula.specs.InnerDecode.{Reading, reading-start, next, stop, read-record, records, decode}
+use Rattle.formula.specs.Decoding.{Decoding, readable}
 use Rattle.formula.specs.Table.{Beginning, nothing, inside, written, Begins}
 use Rattle.formula.proofs.ExtendsLaws.{Extends, count, literal, clause-end, extends-length, extends-longer}
 use Rattle.formula.proofs.FormatLaws.{distinct-fresh}

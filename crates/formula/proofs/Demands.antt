@@ -4,23 +4,19 @@ use Prim.Native.Nat.{ℕ, _≤_}
 use mathlib.Core.List.{List}
 use mathlib.Core.Logic.{_↔_}
 use mathlib.Core.Path.{_≡_, refl, sym, ap, _∙_}
-use native.Mathlib.Omega.{arith}
 use lib.ListN.{length}
 use Rattle.limits.specs.Limits.{max-variables}
 use Rattle.formula.specs.declared.Refusal.{Refusal}
 use Rattle.formula.specs.Format.{Literal, formula-bytes, max-bytes, Encodes}
-use Rattle.formula.specs.Decode.{Decoding, Reading, next, stop, read-record, records, readable, refused, decode}
+use Rattle.formula.specs.InnerDecode.{decode}
+use Rattle.formula.specs.Decoding.{readable, refused}
 use Rattle.formula.specs.Refusals.{table-row}
 use Rattle.formula.specs.Table.{Refuses}
 use Rattle.formula.specs.declared.Refusal.the-variants.{StrayVariable}
 use Rattle.formula.specs.Check.{VerdictValues, said-yes, said-no, verdict-refused, checked}
-use Rattle.formula.specs.Masked.{formula-of, FormulaFits}
 use Rattle.formula.specs.Models.{ModelOf, NoModelOf, StrayOf}
-use Rattle.formula.proofs.BoundLaws.{records-same, records-on}
 use Rattle.formula.proofs.CheckLaws.{checked-refused}
-use Rattle.formula.proofs.DecodeLaws.{gives-stop}
 use Rattle.formula.proofs.LengthLaws.{formula-le, fullest, fullest-length, fullest-encoded}
-use Rattle.formula.proofs.MaskedLaws.{formula-fits}
 use Rattle.formula.proofs.OutcomeLaws.{decode-gives, decode-means}
 use Rattle.formula.proofs.RefusalLaws.{given-number}
 use Rattle.formula.proofs.VerdictLaws.{says, says-yes, says-no, says-stray, checked-model, checked-no-model, checked-stray}
@@ -53,19 +49,6 @@ longest s n cs e = formula-le (accepted-only s n cs e)
 pub longest-exists : (s : List ℕ) × (cs : List (List Literal)) × (length s ≡ max-bytes) × (decode s ≡ readable max-variables cs)
 longest-exists = (formula-bytes max-variables fullest, fullest, fullest-length, accepted-all (formula-bytes max-variables fullest) max-variables fullest fullest-encoded)
 
--- S3.2: the bound in the definition of `records` is never what stops it. Wherever reading stands and s is left, any larger bound gives
--- the same,
-pub records-unbounded : (len : ℕ) (r : Reading) (s : List ℕ) (k : ℕ) → length s ≤ k → records k len r s ≡ records (length s) len r s
-records-unbounded len r s k h = records-same k (length s) len r s h (omega arith)
-
--- a record after which reading goes on is followed by the next
-pub records-next : (len : ℕ) (r r′ : Reading) (s s′ : List ℕ) → read-record len r s ≡ next r′ s′ → records (length s) len r s ≡ records (length s′) len r′ s′
-records-next len r r′ s s′ e = records-on len r r′ s s′ e
-
--- and one that stops it gives what it stops with
-pub records-stop : (len : ℕ) (r : Reading) (s : List ℕ) (d : Decoding) → read-record len r s ≡ stop d → records (length s) len r s ≡ d
-records-stop len r s d e = gives-stop e .runs (length s) (omega arith)
-
 -- S2: bytes encode one formula at most
 pub unique : (s : List ℕ) (n n′ : ℕ) (cs cs′ : List (List Literal)) → Encodes s n cs → Encodes s n′ cs′ → (n ≡ n′) × (cs ≡ cs′)
 unique s n n′ cs cs′ e e′ = let q : readable n cs ≡ readable n′ cs′ = sym (accepted-all s n cs e) ∙ accepted-all s n′ cs′ e′ in (cc, cc)
@@ -73,10 +56,6 @@ unique s n n′ cs cs′ e e′ = let q : readable n cs ≡ readable n′ cs′ 
 -- S3.2: reading gives the refusals 2 to 9 only
 pub numbers : (s : List ℕ) (r : Refusal) → decode s ≡ refused r → (2 ≤ table-row r .number) × (table-row r .number ≤ 9)
 numbers s r e = given-number (refused-only s r e .given)
-
--- S2.3: an accepted formula keeps the limits, its masks are below 2 ^ n and no variable is in both masks of a clause
-pub accepted-fits : (s : List ℕ) (n : ℕ) (cs : List (List Literal)) → decode s ≡ readable n cs → FormulaFits (formula-of n cs)
-accepted-fits s n cs e = formula-fits (accepted-only s n cs e .sized)
 
 -- S10, demand 2: check says yes exactly of the models of a readable input, whether or not its clauses can be matched (S4.3)
 pub check-yes : (s : List ℕ) (a : ℕ) → (checked s a .said ≡ said-yes) ↔ ModelOf s a

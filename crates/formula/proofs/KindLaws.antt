@@ -5,7 +5,7 @@ use mathlib.Core.Path.{_≡_, refl}
 use native.Mathlib.Omega.{arith}
 use lib.Dec.{eqb}
 use borrow.Author.Tests.{ne-eqb}
-use Rattle.formula.specs.Decode.{kind-of, unknown}
+use Rattle.formula.specs.InnerDecode.{kind-of, unknown}
 
 -- a byte that is none of 1 to 5 is of no known kind
 pub kind-of-other : (k : ℕ) → (k ≡ 1 → ⊥) → (k ≡ 2 → ⊥) → (k ≡ 3 → ⊥) → (k ≡ 4 → ⊥) → (k ≡ 5 → ⊥) → kind-of k ≡ unknown

@@ -13,9 +13,9 @@ use Rattle.lists.proofs.TestLaws.{and-left, and-right, or-cases}
 use Rattle.masks.specs.Mask.{bit}
 use Rattle.formula.specs.declared.Event.the-variants.{Next}
 use Rattle.formula.specs.declared.Reader.{Reader}
-use Rattle.formula.specs.Decode.{one-to}
+use Rattle.formula.specs.InnerDecode.{one-to}
 use Rattle.formula.specs.InnerReader.{variable-event, literal-event, record-event, literal-stands, literal-read, Passes}
-use Rattle.formula.specs.Masked.{clause-variables}
+use Rattle.formula.specs.InnerFits.{clause-variables}
 use Rattle.formula.proofs.OneTo.{one-to-least, one-to-most}
 use Rattle.formula.proofs.ReaderLaws.{whole, turn-next}
 

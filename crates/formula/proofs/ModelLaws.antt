@@ -12,7 +12,8 @@ use Rattle.masks.specs.Mask.{bit}
 use Rattle.masks.proofs.BitLaws.{bit-shift}
 use Rattle.masks.proofs.MembersLaws.{some-member, member-some}
 use Rattle.formula.specs.Format.{Literal}
-use Rattle.formula.specs.Models.{Model, stands, holds, satisfied, stray}
+use Rattle.formula.specs.Models.{Model}
+use Rattle.formula.specs.InnerModels.{stands, holds, satisfied, stray}
 
 same-of : (b c : Bool) → Bool·beq b c ≡ true → b ≡ c
 same-of true true e = refl

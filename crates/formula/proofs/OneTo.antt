@@ -6,7 +6,7 @@ use native.Mathlib.Omega.{arith}
 use borrow.Author.Tests.{le-ltb, lt-ltb, le-leb, lt-leb, ltb-true, leb-true}
 use lib.Dec.{ltb, leb}
 use Rattle.lists.proofs.TestLaws.{and-left, and-right}
-use Rattle.formula.specs.Decode.{one-to}
+use Rattle.formula.specs.InnerDecode.{one-to}
 
 -- 0 is not 1 to m
 pub one-to-zero : (m b : ℕ) → b ≡ 0 → one-to m b ≡ false

@@ -11,7 +11,8 @@ use Rattle.limits.specs.Limits.{max-variables, max-clauses}
 use Rattle.formula.specs.declared.Refusal.{Refusal}
 use Rattle.formula.specs.declared.Refusal.the-variants.{Truncated, UnknownKind, Misplaced, BadVariableCount, NoSuchVariable, RepeatedVariable, TooManyClauses, TrailingByte}
 use Rattle.formula.specs.Format.{Literal, literal-kind, literal-bytes, names, distinct, Sized, Encodes}
-use Rattle.formula.specs.Decode.{Decoding, readable, refused, decode}
+use Rattle.formula.specs.InnerDecode.{decode}
+use Rattle.formula.specs.Decoding.{Decoding, readable, refused}
 use Rattle.formula.specs.Table.{Beginning, nothing, inside, written, Begins, MayStand, Given, no-kind, kind-unknown, kind-misplaced, no-body, count-bad, variable-unknown, variable-repeated, clause-extra, byte-extra, Refuses}
 use Rattle.formula.proofs.ExtendsLaws.{formula-written, Extends, count, literal, clause-end, extends-begins, extends-written, extends-longer}
 use Rattle.formula.proofs.DecodeLaws.{gives-stop, gives-formula, decode-after}

@@ -16,7 +16,8 @@ use Rattle.formula.specs.declared.Event.the-variants.{Next, Finished, St
 use Rattle.formula.specs.declared.Reader.{Reader}
 use Rattle.formula.specs.declared.Refusal.{Refusal}
 use Rattle.formula.specs.declared.Refusal.the-variants.{Truncated, UnknownKind, Misplaced, BadVariableCount, NoSuchVariable, RepeatedVariable, TooManyClauses, TrailingByte}
-use Rattle.formula.specs.Decode.{readable, refused, Kind, variable-count, literal, clause-end, formula-end, unknown, kind-of, known, allowed, Reading, reading-start, Step, next, stop, refuse, none-yet, one-to, after-kind, variable-count-body, literal-body, clause-ends, formula-ends, read-record, records, decode}
+use Rattle.formula.specs.InnerDecode.{Kind, variable-count, literal, clause-end, formula-end, unknown, kind-of, known, allowed, Reading, reading-start, Step, next, stop, refuse, none-yet, one-to, after-kind, variable-count-body, literal-body, clause-ends, formula-ends, read-record, records, decode}
+use Rattle.formula.specs.Decoding.{readable, refused}
 use Rattle.formula.specs.Format.{Literal, names}
 use Rattle.formula.specs.InnerReader.{count-event, variable-event, literal-event, end-event, finish-event, kind-event, record-event, reader-of, Reads}
 use Rattle.formula.proofs.ClauseLaws.{with-literals-last, clause-names, clause-empty}

@@ -12,7 +12,7 @@ use Rattle.limits.specs.Limits.{max-variables, max-clauses}
 use Rattle.formula.specs.declared.Refusal.{Refusal}
 use Rattle.formula.specs.declared.Refusal.the-variants.{Truncated, UnknownKind, Misplaced, NoSuchVariable, RepeatedVariable}
 use Rattle.formula.specs.Format.{Literal, literal-kind, names}
-use Rattle.formula.specs.Decode.{Reading, reading-start, refuse, read-record}
+use Rattle.formula.specs.InnerDecode.{Reading, reading-start, refuse, read-record}
 use Rattle.formula.specs.Refusals.{table-row}
 use Rattle.formula.specs.Table.{Beginning, nothing, inside, written, MayStand, Given, no-kind, kind-unknown, kind-misplaced, no-body, count-bad, variable-unknown, variable-repeated, clause-extra, byte-extra}
 use Rattle.formula.proofs.DecodeLaws.{reading-of, reading-at}

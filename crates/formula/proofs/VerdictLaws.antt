@@ -8,8 +8,10 @@ use Rattle.masks.specs.Mask.{bit}
 use Rattle.formula.specs.declared.Refusal.{Refusal}
 use Rattle.formula.specs.declared.Refusal.the-variants.{StrayVariable}
 use Rattle.formula.specs.Check.{VerdictValues, said-yes, said-no, verdict-said, verdict-refused, verdict-on, checked}
-use Rattle.formula.specs.Decode.{Decoding, readable, refused, decode}
-use Rattle.formula.specs.Models.{ModelOf, NoModelOf, StrayOf, satisfied, stray}
+use Rattle.formula.specs.InnerDecode.{decode}
+use Rattle.formula.specs.Decoding.{Decoding, readable, refused}
+use Rattle.formula.specs.Models.{ModelOf, NoModelOf, StrayOf}
+use Rattle.formula.specs.InnerModels.{satisfied, stray}
 use Rattle.formula.specs.Table.{Refuses}
 use Rattle.formula.proofs.ModelLaws.{stray-some, some-stray, model-tests, tests-model}
 use Rattle.formula.proofs.OutcomeLaws.{decode-means}

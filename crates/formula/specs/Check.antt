@@ -6,8 +6,9 @@ use Rattle.formula.specs.declared.Refusal.{Refusal}
 use Rattle.formula.specs.declared.Refusal.the-variants.{StrayVariable}
 use Rattle.formula.specs.declared.Verdict.{Verdict}
 use Rattle.formula.specs.declared.Verdict.the-variants.{Model, NotModel, Refused}
-use Rattle.formula.specs.Decode.{Decoding, readable, refused, decode}
-use Rattle.formula.specs.Models.{satisfied, stray}
+use Rattle.formula.specs.InnerDecode.{decode}
+use Rattle.formula.specs.Decoding.{Decoding, readable, refused}
+use Rattle.formula.specs.InnerModels.{satisfied, stray}
 use Rattle.formula.specs.Refusals.{table-row}
 
 -- check says yes, no, or neither

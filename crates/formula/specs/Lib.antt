@@ -1,9 +1,12 @@
 pub mod Check
-pub mod Decode
+pub mod Decoding
+pub mod InnerDecode
 pub mod Format
 pub mod InnerCheck
 pub mod InnerReader
 pub mod Masked
+pub mod InnerFits
 pub mod Models
+pub mod InnerModels
 pub mod Refusals
 pub mod Table

@@ -1,27 +1,22 @@
 -- A formula (S2.4) as the code holds it: a clause is two masks, the clauses an array of 96.
-use Prim.Native.Nat.{ℕ, _^_, _<_, _≤_}
+use Prim.Native.Nat.{ℕ}
 use mathlib.Core.Bool.{Bool, true, false}
 use mathlib.Core.List.{List, [], _∷_, map}
-use mathlib.Core.Path.{_≡_}
-use lib.Bits.{bitOr}
-use lib.ListN.{length, getD}
-use Rattle.limits.specs.Limits.{max-variables, max-clauses}
+use lib.ListN.{length}
+use Rattle.limits.specs.Limits.{max-clauses}
 use Rattle.lists.specs.Padded.{padded}
-use Rattle.masks.specs.Mask.{with, meets}
+use Rattle.masks.specs.Mask.{with}
 use Rattle.formula.specs.declared.Clause.{Clause}
 use Rattle.formula.specs.declared.Decoded.{Decoded}
 use Rattle.formula.specs.declared.Formula.{Formula}
 use Rattle.formula.specs.declared.Outcome.the-variants.{Accepted, Refused}
-use Rattle.formula.specs.Decode.{Decoding, readable, refused, decode}
+use Rattle.formula.specs.InnerDecode.{decode}
+use Rattle.formula.specs.Decoding.{Decoding, readable, refused}
 use Rattle.formula.specs.Format.{Literal}
 
 -- the clause that names nothing
 abbrev pub no-clause : Clause
 no-clause = record { positive = 0; negative = 0 }
-
--- the variables that the clause names
-abbrev pub clause-variables : Clause → ℕ
-clause-variables c = bitOr (c .positive) (c .negative)
 
 -- the clause that names v as well, as true or as false
 abbrev pub with-literal : Clause → ℕ → Bool → Clause
@@ -32,11 +27,6 @@ with-literal c v false = record { positive = c .positive; negative = with (c .ne
 unfoldable pub with-literals : Clause → List Literal → Clause
 with-literals c [] = c
 with-literals c (l ∷ ls) = with-literals (with-literal c (l .variable) (l .positive)) ls
-
--- the variables that the clause names as true, or as false
-abbrev pub side : Clause → Bool → ℕ
-side c true = c .positive
-side c false = c .negative
 
 -- all variables that a clause names, as a mask
 unfoldable pub variables : List Literal → ℕ
@@ -57,15 +47,3 @@ held (refused r) = record { outcome = Refused r; formula = formula-of 0 [] }
 
 unfoldable pub decoded : List ℕ → Decoded
 decoded s = held (decode s)
-
--- a clause over the variables below n, none of them named both ways
-pub record ClauseFits (n : ℕ) (c : Clause) : Type 0 where
-  pub below : (sign : Bool) → side c sign < 2 ^ n
-  pub apart : meets (c .positive) (c .negative) ≡ false
-
--- a formula of 1 to 48 variables and at most 96 clauses over them
-pub record FormulaFits (f : Formula) : Type 0 where
-  pub some : 1 ≤ f .variables
-  pub most : f .variables ≤ max-variables
-  pub few : f .count ≤ max-clauses
-  pub clauses : (i : ℕ) → i < f .count → ClauseFits (f .variables) (getD (f .clauses) i no-clause)

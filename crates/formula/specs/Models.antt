@@ -1,11 +1,11 @@
 -- S4: assignments and models. An assignment (request: set-up) is a 64-bit mask: variable v is true if bit v is set.
-use Prim.Native.Nat.{ℕ, _/_, _^_, _≤_}
-use mathlib.Core.Bool.{Bool, true, false, not, _&&_, _||_, Bool·beq}
-use mathlib.Core.List.{List, [], _∷_, List·Memᴰ}
+use Prim.Native.Nat.{ℕ, _≤_}
+use mathlib.Core.Bool.{true, false}
+use mathlib.Core.List.{List, List·Memᴰ}
 use mathlib.Core.Path.{_≡_}
-use lib.Dec.{eqb}
 use Rattle.masks.specs.Mask.{bit}
-use Rattle.formula.specs.Decode.{readable, decode}
+use Rattle.formula.specs.InnerDecode.{decode}
+use Rattle.formula.specs.Decoding.{readable}
 use Rattle.formula.specs.Format.{Literal}
 
 -- S4.2: a model (request: permitted set-up): of every clause some literal is true, and no variable from n on is
@@ -36,21 +36,3 @@ pub record StrayOf (s : List ℕ) (a : ℕ) : Type 0 where
   pub variable : ℕ
   pub above : variables ≤ variable
   pub is-true : bit a variable ≡ true
-
--- the same as tests: the variable stands the way that the literal names it
-abbrev pub stands : ℕ → Literal → Bool
-stands a l = Bool·beq (bit a (l .variable)) (l .positive)
-
--- some literal of the clause stands
-unfoldable pub holds : ℕ → List Literal → Bool
-holds a [] = false
-holds a (l ∷ c) = stands a l || holds a c
-
--- every clause holds
-unfoldable pub satisfied : ℕ → List (List Literal) → Bool
-satisfied a [] = true
-satisfied a (c ∷ cs) = holds a c && satisfied a cs
-
--- some variable from n on is true
-abbrev pub stray : ℕ → ℕ → Bool
-stray n a = not (eqb (a / 2 ^ n) 0)

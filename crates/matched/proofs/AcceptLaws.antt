@@ -13,9 +13,11 @@ use Rattle.formula.specs.declared.Formula.{Formula}
 use Rattle.formula.specs.declared.Outcome.the-variants as outcomes
 use Rattle.formula.specs.declared.Refusal.{Refusal}
 use Rattle.formula.specs.declared.Refusal.the-variants.{Unmatched}
-use Rattle.formula.specs.Decode.{readable, refused, decode}
+use Rattle.formula.specs.InnerDecode.{decode}
+use Rattle.formula.specs.Decoding.{readable, refused}
 use Rattle.formula.specs.Format.{Literal, Sized}
-use Rattle.formula.specs.Masked.{variables, formula-of, FormulaFits}
+use Rattle.formula.specs.Masked.{variables, formula-of}
+use Rattle.formula.specs.InnerFits.{FormulaFits}
 use Rattle.formula.proofs.MaskedLaws.{formula-fits}
 use Rattle.matching.specs.declared.Matching.{Matching}
 use Rattle.matching.specs.Result.{packed}

@@ -9,7 +9,8 @@ use Rattle.limits.specs.Limits.{max-clauses}
 use Rattle.masks.specs.Mask.{size}
 use Rattle.formula.specs.declared.Refusal.{Refusal}
 use Rattle.formula.specs.declared.Refusal.the-variants.{Unmatched}
-use Rattle.formula.specs.Decode.{Decoding, readable, refused, decode}
+use Rattle.formula.specs.InnerDecode.{decode}
+use Rattle.formula.specs.Decoding.{Decoding, readable, refused}
 use Rattle.formula.specs.Format.{Literal, Sized}
 use Rattle.formula.specs.Masked.{variables}
 use Rattle.formula.specs.Refusals.{table-row}

@@ -9,7 +9,8 @@ use Rattle.limits.specs.Limits.{max-clauses}
 use Rattle.lists.specs.Over.{over}
 use Rattle.formula.specs.declared.Refusal.{Refusal}
 use Rattle.formula.specs.declared.Refusal.the-variants.{ShortBuffer, Unmatched}
-use Rattle.formula.specs.Decode.{readable, refused, decode}
+use Rattle.formula.specs.InnerDecode.{decode}
+use Rattle.formula.specs.Decoding.{readable, refused}
 use Rattle.formula.specs.Format.{Literal, Sized}
 use Rattle.matched.specs.Acceptance.{accepted, acceptance}
 use Rattle.matched.specs.Judge.{Judged, accepted-values, refused-values, judge}

@@ -11,7 +11,8 @@ use Rattle.lists.proofs.PaddedLaws.{take-padded}
 use Rattle.formula.specs.declared.Outcome.the-variants as outcomes
 use Rattle.formula.specs.declared.Refusal.{Refusal}
 use Rattle.formula.specs.declared.Refusal.the-variants.{ShortBuffer, Unmatched}
-use Rattle.formula.specs.Decode.{readable, decode}
+use Rattle.formula.specs.InnerDecode.{decode}
+use Rattle.formula.specs.Decoding.{readable}
 use Rattle.formula.specs.Format.{Literal}
 use Rattle.matched.specs.declared.Accepted.{Accepted}
 use Rattle.matched.specs.Acceptance.{Acceptance, accepted, declined, acceptance}

@@ -8,9 +8,11 @@ use Rattle.lists.specs.Padded.{padded}
 use Rattle.formula.specs.declared.Formula.{Formula}
 use Rattle.formula.specs.declared.Outcome.{Outcome}
 use Rattle.formula.specs.declared.Outcome.the-variants as outcomes
-use Rattle.formula.specs.Decode.{readable, decode}
+use Rattle.formula.specs.InnerDecode.{decode}
+use Rattle.formula.specs.Decoding.{readable}
 use Rattle.formula.specs.Format.{Literal, Sized}
-use Rattle.formula.specs.Masked.{formula-of, FormulaFits}
+use Rattle.formula.specs.Masked.{formula-of}
+use Rattle.formula.specs.InnerFits.{FormulaFits}
 use Rattle.matched.specs.declared.Accepted.{Accepted}
 use Rattle.matched.specs.Acceptance.{Acceptance, accepted, declined, acceptance}
 

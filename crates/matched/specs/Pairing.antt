@@ -5,7 +5,8 @@ use mathlib.Core.Bool.{true}
 use mathlib.Core.List.{List, [], map}
 use mathlib.Core.Path.{_≡_}
 use lib.ListN.{length, getD}
-use Rattle.formula.specs.Decode.{readable, decode}
+use Rattle.formula.specs.InnerDecode.{decode}
+use Rattle.formula.specs.Decoding.{readable}
 use Rattle.formula.specs.Format.{Literal, names}
 use Rattle.formula.specs.Masked.{variables}
 use Rattle.masks.specs.Mask.{size}

@@ -13,7 +13,8 @@ use Rattle.lists.proofs.EveryLaws.{every-getD}
 use Rattle.masks.proofs.SizeLaws.{size-le}
 use Rattle.formula.specs.declared.Refusal.{Refusal}
 use Rattle.formula.specs.declared.Refusal.the-variants.{Unmatched}
-use Rattle.formula.specs.Decode.{readable, refused, decode}
+use Rattle.formula.specs.InnerDecode.{decode}
+use Rattle.formula.specs.Decoding.{readable, refused}
 use Rattle.formula.specs.Format.{Literal, ClauseOver, Sized}
 use Rattle.formula.specs.Masked.{variables}
 use Rattle.formula.specs.Refusals.{table-row}
@@ -30,7 +31,9 @@ use Rattle.matched.proofs.PairingLaws.{masks-words, pairs-matches}
 use Rattle.walk.specs.Task.{Task, whole, to-assign, Posed}
 use Rattle.walk.specs.Checkpoints.{Checkpoint}
 use Rattle.walk.specs.PlainMachine.{Answer, found, spent, ended, plain-call, plain-calls, state-after}
-use Rattle.walk.specs.WalkCall.{says-model, says-ended, answer-kind, plain-result, task-call, walk-call}
+use Rattle.walk.specs.WalkCall.{walk-call}
+use Rattle.walk.specs.InnerLocate.{task-call}
+use Rattle.walk.specs.Results.{says-model, says-ended, answer-kind, plain-result}
 use Rattle.walk.specs.Gaps.{ample-budget, step-bound, gap-after, gaps-from, gaps, PacedLater, Paced}
 use Rattle.walk.proofs.Demands.{whole-size, demand-3}
 use Rattle.walk.proofs.TaskLaws.{call-plain, last-plain}

@@ -12,7 +12,9 @@ use Rattle.walk.specs.PlainMachine.{Answer, found, spent, ended, plain-call, pl
 use Rattle.walk.specs.InnerStack.{empty, Tree, tree}
 use Rattle.walk.specs.InnerMachine.{Position, down, resume}
 use Rattle.walk.specs.InnerTest.{shown}
-use Rattle.walk.specs.WalkCall.{answered, plain-result, task-call, walk-call, walk-calls}
+use Rattle.walk.specs.WalkCall.{walk-call, walk-calls}
+use Rattle.walk.specs.InnerLocate.{task-call}
+use Rattle.walk.specs.Results.{answered, plain-result}
 use Rattle.walk.proofs.RestLaws.{Live}
 use Rattle.walk.proofs.CallLaws.{resumes, results}
 use Rattle.walk.proofs.TreeLaws.{live}

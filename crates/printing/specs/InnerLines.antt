@@ -4,9 +4,9 @@ use mathlib.Core.List.{List, [], _∷_, _++_}
 use Rattle.walk.specs.Gaps.{ample-budget}
 use Rattle.walk.specs.InnerStack.{empty, Tree}
 use Rattle.walk.specs.InnerMachine.{Position, down, resume}
-use Rattle.walk.specs.WalkCall.{AnswerKind, says-model, says-spent, says-ended, says-refused, Result}
+use Rattle.walk.specs.Results.{AnswerKind, says-model, says-spent, says-ended, says-refused, Result}
 use Rattle.formula.specs.declared.Formula.{Formula}
-use Rattle.formula.specs.Masked.{FormulaFits}
+use Rattle.formula.specs.InnerFits.{FormulaFits}
 use Rattle.matched.specs.InnerAccept.{Takes}
 use Rattle.enumeration.specs.InnerState.{Follows}
 use Rattle.writing.specs.Placed.{Room}

@@ -24,7 +24,8 @@ use Rattle.masks.proofs.MembersLaws.{members-are}
 use Rattle.matching.specs.Search.{outcome, succeeds, expansions}
 use Rattle.formula.specs.declared.Clause.{Clause}
 use Rattle.formula.specs.declared.Formula.{Formula}
-use Rattle.formula.specs.Masked.{no-clause, side, clause-variables}
+use Rattle.formula.specs.Masked.{no-clause}
+use Rattle.formula.specs.InnerFits.{side, clause-variables}
 use Rattle.splitting.specs.declared.Assignment.{Assignment}
 use Rattle.splitting.specs.declared.Choice.{Choice}
 use Rattle.splitting.specs.declared.Reduced.{Reduced}

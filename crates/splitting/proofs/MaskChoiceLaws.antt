@@ -15,7 +15,8 @@ use Rattle.matching.specs.Search.{Outcome, outcome, succeeds, expansions}
 use Rattle.formula.specs.declared.Clause.{Clause}
 use Rattle.formula.specs.declared.Formula.{Formula}
 use Rattle.formula.specs.Format.{Literal, names}
-use Rattle.formula.specs.Masked.{clause-variables, clause-of, formula-of}
+use Rattle.formula.specs.Masked.{clause-of, formula-of}
+use Rattle.formula.specs.InnerFits.{clause-variables}
 use Rattle.formula.proofs.FormatLaws.{clause-more}
 use Rattle.splitting.specs.declared.Assignment.{Assignment}
 use Rattle.splitting.specs.declared.Choice.{Choice}

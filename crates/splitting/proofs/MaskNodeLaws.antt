@@ -19,7 +19,8 @@ use Rattle.masks.proofs.MeetLaws.{meets-with}
 use Rattle.masks.proofs.MembersLaws.{mask-same}
 use Rattle.formula.specs.declared.Clause.{Clause}
 use Rattle.formula.specs.Format.{Literal, names, names-as, distinct}
-use Rattle.formula.specs.Masked.{no-clause, side, clause-of, formula-of}
+use Rattle.formula.specs.Masked.{no-clause, clause-of, formula-of}
+use Rattle.formula.specs.InnerFits.{side}
 use Rattle.formula.proofs.ClauseLaws.{clause-side}
 use Rattle.formula.proofs.FormatLaws.{distinct-rest}
 use Rattle.splitting.specs.declared.Assignment.{Assignment}

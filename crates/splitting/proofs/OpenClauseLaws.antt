@@ -20,7 +20,8 @@ use Rattle.masks.specs.Mask.{bit}
 use Rattle.masks.proofs.BitLaws.{bit-or}
 use Rattle.masks.proofs.MembersLaws.{some-member, member-some}
 use Rattle.formula.specs.declared.Clause.{Clause}
-use Rattle.formula.specs.Masked.{no-clause, clause-variables}
+use Rattle.formula.specs.Masked.{no-clause}
+use Rattle.formula.specs.InnerFits.{clause-variables}
 use Rattle.splitting.specs.declared.Assignment.{Assignment}
 use Rattle.splitting.specs.declared.Survey.{Survey}
 use Rattle.splitting.specs.InnerChoose.{satisfied-under, left-under, open-clauses, unnamed, clause-in, clauses-in, formula-in, surveys, survey-from, survey-of, some-empty}

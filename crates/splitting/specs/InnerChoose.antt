@@ -15,7 +15,8 @@ use Rattle.formula.specs.declared.Clause.{Clause}
 use Rattle.formula.specs.declared.Formula.{Formula}
 use Rattle.formula.specs.Format.{Literal}
 use Rattle.formula.specs.InnerCheck.{all-first}
-use Rattle.formula.specs.Masked.{no-clause, side, clause-variables}
+use Rattle.formula.specs.Masked.{no-clause}
+use Rattle.formula.specs.InnerFits.{side, clause-variables}
 use Rattle.splitting.specs.declared.Assignment.{Assignment}
 use Rattle.splitting.specs.declared.Choice.{Choice}
 use Rattle.splitting.specs.declared.Reduced.{Reduced}

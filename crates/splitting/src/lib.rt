@@ -11,7 +11,7 @@ ghost use lib.ListN.{length};
 ghost use Rattle.limits.specs.Limits.{max-clauses};
 ghost use Rattle.lists.specs.Over.{over};
 ghost use Rattle.masks.specs.Mask.{bit, members};
-ghost use Rattle.formula.specs.Masked.{FormulaFits, clause-variables};
+ghost use Rattle.formula.specs.InnerFits.{FormulaFits, clause-variables};
 ghost use Rattle.splitting.specs.Choosing.{both-open};
 ghost use Rattle.splitting.specs.InnerChoose.{set-to, satisfied-under, left-under, node, unnamed, survey-of, some-empty, matching-at, unassigned, clause-in, clauses-in, formula-in, formula-at, Small, reduce-from, tried, passing, greatest, listed-last, all-satisfied, free-choice, mask-choice};
 use formula::Clause;

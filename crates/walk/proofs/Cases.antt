@@ -9,14 +9,16 @@ use Rattle.masks.specs.Mask.{bit, members}
 use Rattle.matching.specs.Search.{owner, no-links, begin, see, scan, take-front, expand, search-from, rematch-from, match-rest, outcome}
 use Rattle.formula.specs.Format.{Literal, names, names-as}
 use Rattle.formula.specs.Masked.{variables}
-use Rattle.formula.specs.Decode.{read-record, records, decode}
+use Rattle.formula.specs.InnerDecode.{read-record, records, decode}
 use Rattle.splitting.specs.Nodes.{less, assign, remaining, occurs, named, first-from, upward-from}
 use Rattle.splitting.specs.Stripping.{pure, not-naming, strip}
 use Rattle.splitting.specs.Choosing.{matching-of, trial, first-passing, candidates, among, listed, last, emptied, last-listed, choice}
 use Rattle.matched.specs.Acceptance.{acceptance}
 use Rattle.walk.specs.Task.{whole}
 use Rattle.walk.specs.Plain.{assignment, node-walk, plain-walk}
-use Rattle.walk.specs.WalkCall.{AnswerKind, says-model, says-spent, says-ended, Result, same-bytes, same-checkpoint, locate-from, located, task-call, walk-call, walk-calls}
+use Rattle.walk.specs.WalkCall.{walk-call, walk-calls}
+use Rattle.walk.specs.InnerLocate.{same-bytes, same-checkpoint, locate-from, located, task-call}
+use Rattle.walk.specs.Results.{AnswerKind, says-model, says-spent, says-ended, Result}
 use Rattle.walk.specs.Checkpoints.{start, Checkpoint, checkpoint-of, without-last, last-value, past-all, behind, checkpoint-after}
 use Rattle.walk.specs.PlainMachine.{Answer, found, spent, ended, Call, go-on, plain-call, plain-calls}
 

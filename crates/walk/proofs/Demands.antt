@@ -12,7 +12,8 @@ use Rattle.lists.specs.Every.{Every}
 use Rattle.masks.specs.Mask.{bit}
 use Rattle.formula.specs.declared.Refusal.{Refusal}
 use Rattle.formula.specs.declared.Refusal.the-variants.{Unmatched, ForeignCheckpoint}
-use Rattle.formula.specs.Decode.{readable, refused, decode}
+use Rattle.formula.specs.InnerDecode.{decode}
+use Rattle.formula.specs.Decoding.{readable, refused}
 use Rattle.formula.specs.Format.{Literal}
 use Rattle.formula.specs.Models.{Model}
 use Rattle.formula.proofs.Demands.{accepted-only}
@@ -23,12 +24,13 @@ use Rattle.matched.proofs.AcceptanceLaws.{pairs-accepted}
 use Rattle.splitting.specs.Terms.{Agrees, opened}
 use Rattle.walk.specs.Task.{Task, whole, to-assign, choice-at, ModelFor, Posed}
 use Rattle.walk.specs.Plain.{assigns, plain-walk, listing}
-use Rattle.walk.specs.Checkpoints.{Checkpoint, checkpoint-of, start, behind, checkpoint-after}
+use Rattle.walk.specs.Checkpoints.{Checkpoint, checkpoint-of, start, behind}
 use Rattle.walk.specs.PlainMachine.{spent, ended, plain-call, plain-calls, state-after, Has}
-use Rattle.walk.specs.WalkCall.{says-model, says-spent, says-ended, says-refused, answered, refusing, plain-result, at-state, nowhere, located, task-call, walk-call, walk-calls, last-checkpoint}
+use Rattle.walk.specs.WalkCall.{walk-call, walk-calls, last-checkpoint}
+use Rattle.walk.specs.InnerLocate.{task-call}
+use Rattle.walk.specs.Results.{says-model, says-spent, says-ended, says-refused, answered, refusing, plain-result}
 use Rattle.walk.specs.Gaps.{brought, SaysEnded, gaps, Paced, step-bound, ample-budget}
 use Rattle.walk.specs.Proper.{Proper}
-use Rattle.walk.proofs.LocateLaws as locating
 use Rattle.walk.proofs.TaskLaws as laws
 use Rattle.walk.proofs.WholeLaws as wholes
 use Rattle.walk.proofs.RefusalLaws as refusals
@@ -65,15 +67,6 @@ whole-size = wholes.whole-size
 -- and what is listed are its models.
 pub whole-models : (n : ℕ) (cs : List (List Literal)) (a : ℕ) → ModelFor (whole n cs) a ↔ Model n cs a
 whole-models = wholes.whole-models
-
--- `located` looks for a checkpoint's state by as many calls of budget 1 as the walk has entries. That bound is never what stops it: it
--- finds every checkpoint that some list of budgets returns,
-pub located-all : (T : Task) (c : Checkpoint) → Has T c → located T c ≡ nowhere → ⊥
-located-all = locating.has-located
-
--- and a state that it finds is one that a list of budgets reaches and has this checkpoint.
-pub located-state : (T : Task) (c : Checkpoint) (k : ℕ) → located T c ≡ at-state k → (bs : List ℕ) × (state-after T 0 bs ≡ k) × (checkpoint-after T k ≡ c)
-located-state = locating.located-stands
 
 -- An input whose walk calls are those on a task, where what stripping leaves at the first node is matched.
 module _ (s : List ℕ) (T : Task) (P : Posed T) (walks : (c : Checkpoint) (b : ℕ) → walk-call s c b ≡ task-call T c b) where

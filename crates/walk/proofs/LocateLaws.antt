@@ -14,7 +14,7 @@ use Rattle.walk.specs.Task.{Task}
 use Rattle.walk.specs.Plain.{Entry, assigns, undoes, model, end, plain-walk}
 use Rattle.walk.specs.Checkpoints.{Checkpoint, checkpoint-after}
 use Rattle.walk.specs.PlainMachine.{go-on, plain-call, state-after, Has}
-use Rattle.walk.specs.WalkCall.{same-bytes, same-checkpoint, at-state, nowhere, locate-from, located}
+use Rattle.walk.specs.InnerLocate.{same-bytes, same-checkpoint, at-state, nowhere, locate-from, located}
 
 -- ---- the test of checkpoints
 

@@ -8,7 +8,7 @@ use native.Mathlib.Omega.{arith}
 use Rattle.walk.specs.Plain.{Entry, model, end}
 use Rattle.walk.specs.PlainMachine.{Answer, found, spent, ended}
 use Rattle.walk.specs.Checkpoints.{checkpoint-of}
-use Rattle.walk.specs.WalkCall.{answer-kind}
+use Rattle.walk.specs.Results.{answer-kind}
 use Rattle.walk.specs.Gaps.{gap-after, gaps-from, gaps, common, PacedLater, Paced}
 use Rattle.walk.specs.InnerStack.{Stack, empty, push, depth, Tree}
 use Rattle.walk.specs.InnerMachine.{Position, down, full, back, over, Resumed, resume}

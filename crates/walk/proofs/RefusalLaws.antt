@@ -7,7 +7,8 @@ use lib.ListN.{length}
 use Rattle.limits.specs.Limits.{max-clauses}
 use Rattle.formula.specs.declared.Refusal.{Refusal}
 use Rattle.formula.specs.declared.Refusal.the-variants.{Unmatched}
-use Rattle.formula.specs.Decode.{readable, refused, decode}
+use Rattle.formula.specs.InnerDecode.{decode}
+use Rattle.formula.specs.Decoding.{readable, refused}
 use Rattle.formula.specs.Format.{Literal}
 use Rattle.matched.specs.Acceptance.{Acceptance, accepted, declined, acceptance}
 use Rattle.matched.specs.Judge.{Judged, refused-values, judge}
@@ -16,7 +17,9 @@ use Rattle.matched.proofs.JudgeLaws.{judge-declined}
 use Rattle.matched.proofs.AcceptanceLaws.{accepted-is, pairs-accepted, unpaired-declined, unreadable-declined}
 use Rattle.walk.specs.Task.{whole, Posed}
 use Rattle.walk.specs.Checkpoints.{Checkpoint, start}
-use Rattle.walk.specs.WalkCall.{says-refused, Result, refusing, task-call, walk-call, walk-calls}
+use Rattle.walk.specs.WalkCall.{walk-call, walk-calls}
+use Rattle.walk.specs.InnerLocate.{task-call}
+use Rattle.walk.specs.Results.{says-refused, Result, refusing}
 use Rattle.walk.proofs.TaskLaws.{calls-unrefused}
 use Rattle.walk.proofs.WholeLaws.{whole-posed}
 

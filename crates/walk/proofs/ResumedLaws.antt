@@ -9,7 +9,9 @@ use Rattle.matched.specs.Acceptance.{Acceptance, accepted, declined, acceptance
 use Rattle.walk.specs.Task.{whole}
 use Rattle.walk.specs.Checkpoints.{Checkpoint}
 use Rattle.walk.specs.PlainMachine.{plain-call}
-use Rattle.walk.specs.WalkCall.{Result, Located, at-state, nowhere, located, walk-call}
+use Rattle.walk.specs.WalkCall.{walk-call}
+use Rattle.walk.specs.InnerLocate.{Located, at-state, nowhere, located}
+use Rattle.walk.specs.Results.{Result}
 use Rattle.walk.specs.InnerStack.{tree}
 use Rattle.walk.specs.InnerCall.{resumed-call}
 use Rattle.walk.proofs.TaskLaws.{call-is, call-tested, after-bytes}

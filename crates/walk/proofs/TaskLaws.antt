@@ -22,7 +22,9 @@ use Rattle.walk.specs.Task.{Task, to-assign, choice-at, ModelFor, Posed}
 use Rattle.walk.specs.Plain.{Entry, assigns, plain-walk, models-of, listing}
 use Rattle.walk.specs.Checkpoints.{Checkpoint, Behind, byte, checkpoint-of, start, past-all, behind, checkpoint-after}
 use Rattle.walk.specs.PlainMachine.{Answer, found, spent, ended, Call, plain-call, plain-calls, state-after, Has}
-use Rattle.walk.specs.WalkCall.{says-model, says-spent, says-ended, says-refused, Result, answer-kind, answered, refusing, plain-result, Located, at-state, nowhere, located, by-state, task-call, walk-call, walk-calls, last-checkpoint}
+use Rattle.walk.specs.WalkCall.{walk-call, walk-calls, last-checkpoint}
+use Rattle.walk.specs.InnerLocate.{Located, at-state, nowhere, located, by-state, task-call}
+use Rattle.walk.specs.Results.{says-model, says-spent, says-ended, says-refused, Result, answer-kind, answered, refusing, plain-result}
 use Rattle.walk.specs.Gaps.{brought, SaysEnded, gaps, Paced, step-bound, ample-budget}
 use Rattle.walk.specs.Proper.{Proper}
 use Rattle.walk.specs.InnerStack.{Stack, empty, depth, trail-of, tree}

@@ -6,7 +6,7 @@ use Rattle.walk.specs.Checkpoints.{Checkpoint}
 use Rattle.walk.specs.InnerStack.{Tree}
 use Rattle.walk.specs.InnerMachine.{Resumed, resume}
 use Rattle.walk.specs.InnerTest.{shown, read, position-of, accepts}
-use Rattle.walk.specs.WalkCall.{Result, answered, refusing}
+use Rattle.walk.specs.Results.{Result, answered, refusing}
 
 -- what the resumable machine gives, as a result
 abbrev pub resumed-result : Resumed → Result

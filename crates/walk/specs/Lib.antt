@@ -2,6 +2,8 @@ pub mod Task
 pub mod Plain
 pub mod Checkpoints
 pub mod PlainMachine
+pub mod Results
+pub mod InnerLocate
 pub mod WalkCall
 pub mod InnerStack
 pub mod InnerMachine

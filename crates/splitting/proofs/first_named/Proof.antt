@@ -6,7 +6,7 @@ use borrow.Author.Needs.{needs}
 use Rattle.lists.specs.Tabulated.{tabulated}
 use Rattle.masks.specs.Mask.{bit}
 use Rattle.formula.specs.declared.Clause.{Clause}
-use Rattle.formula.specs.Masked.{clause-variables}
+use Rattle.formula.specs.InnerFits.{clause-variables}
 use Rattle.splitting.specs.InnerChoose.{clauses-in, unnamed}
 use Rattle.splitting.proofs.OpenClauseLaws.{unnamed-whole}
 use Rattle.splitting.proofs.first_named.Statement.{statement}

@@ -9,7 +9,7 @@ use mathlib.Core.List.{map}
 use lib.ListN.{length, length-set}
 use Rattle.limits.specs.Limits.{max-clauses}
 use Rattle.lists.specs.Over.{over}
-use Rattle.formula.specs.Masked.{clause-variables}
+use Rattle.formula.specs.InnerFits.{clause-variables}
 use Rattle.splitting.specs.InnerChoose.{clauses-in, open-clauses}
 use Rattle.splitting.proofs.OpenClauseLaws.{clause-read, open-gone, gather-more}
 use Rattle.splitting.proofs.gather.Statement.{statement}

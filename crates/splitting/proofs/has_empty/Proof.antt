@@ -6,7 +6,7 @@ use mathlib.Core.Path.{_≡_, refl, sym, ap, _∙_}
 use borrow.Author.Needs.{needs}
 use borrow.Author.Tests.{not-true, not-false}
 use mathlib.Core.Bool.{false}
-use Rattle.formula.specs.Masked.{clause-variables}
+use Rattle.formula.specs.InnerFits.{clause-variables}
 use Rattle.splitting.specs.InnerChoose.{clauses-in, open-clauses, some-empty}
 use Rattle.splitting.proofs.OpenClauseLaws.{clause-read, open-gone, empty-found, empty-passed}
 use Rattle.splitting.proofs.has_empty.Statement.{statement}

@@ -1,6 +1,6 @@
 -- `walk_vector`: the comparison is that of `walk-agrees`, since each side is what its function ensures.
 use mathlib.Core.Path.{_≡_, sym, ap, _∙_}
-use Rattle.walk.specs.WalkCall.{Result}
+use Rattle.walk.specs.Results.{Result}
 use Rattle.enumeration.specs.Values.{checkpoint-values}
 use Rattle.cases.specs.Walking.{walk-agrees, walk-leaves}
 use Rattle.cases.proofs.WalkingLaws.{checkpoint-kept, compared}

@@ -8,7 +8,7 @@ use Rattle.limits.specs.Limits.{max-variables}
 use Rattle.formula.specs.declared.Refusal.{Refusal}
 use Rattle.matched.specs.InnerAccept.{Takes}
 use Rattle.matched.proofs.AcceptLaws.{accept-accepted, accept-refused}
-use Rattle.walk.specs.WalkCall.{refusing}
+use Rattle.walk.specs.Results.{refusing}
 use Rattle.walk.proofs.RefusalLaws.{call-declined}
 use Rattle.enumeration.specs.Values.{checkpoint-values}
 use Rattle.enumeration.proofs.EnterLaws.{tree-of, tree-follows, entered-begun, entered-foreign}

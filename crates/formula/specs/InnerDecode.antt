@@ -9,11 +9,7 @@ use Rattle.limits.specs.Limits.{max-variables, max-clauses}
 use Rattle.formula.specs.declared.Refusal.{Refusal}
 use Rattle.formula.specs.declared.Refusal.the-variants.{Truncated, UnknownKind, Misplaced, BadVariableCount, NoSuchVariable, RepeatedVariable, TooManyClauses, TrailingByte}
 use Rattle.formula.specs.Format.{Literal, names}
-
--- what reading gives: a number of variables and the clauses as they were written, or a refusal
-pub data Decoding : Type 0 where
-  readable : ℕ → List (List Literal) → Decoding
-  refused : Refusal → Decoding
+use Rattle.formula.specs.Decoding.{Decoding, readable, refused}
 
 -- S2.1: the kinds 1 to 5, and any other byte
 pub data Kind : Type 0 where
