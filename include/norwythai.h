@@ -14,7 +14,7 @@
  *   - No pointer is null, also where the length is 0. Empty containers may give null: pass the address of any object of the element's
  *     type then, as in `norwythai_check(n == 0 ? &byte : input, n, ..)` with some `uint8_t byte`.
  *
- * LENGTHS COUNT ELEMENTS, not bytes: bytes for uint8_t, numbers for uint64_t. With `uint64_t results[NORWYTHAI_RESULTS]` the length is
+ * LENGTHS COUNT ELEMENTS: for uint64_t the numbers, and not their bytes. With `uint64_t results[NORWYTHAI_RESULTS]` the length is
  * NORWYTHAI_RESULTS, 6; `sizeof results` is 48, for which a function returns 1. With `uint64_t models[10]` it is 10; `sizeof models` is
  * 80, and norwythai_list would write past the end.
  *
@@ -110,7 +110,8 @@ extern "C" {
 
 /*
  * Whether the assignment is a model of the formula, which need not be matched.
- * Reads the input and the assignment; writes the results. `input` is not null, also if `input_length` is 0.
+ * Reads the input and the assignment; writes the results.
+ * With `input_length` 0, `input` is the address of any byte and not null.
  */
 NORWYTHAI_NODISCARD
 uint32_t norwythai_check(const uint8_t *input, size_t input_length, uint64_t assignment,
@@ -122,7 +123,7 @@ uint32_t norwythai_check(const uint8_t *input, size_t input_length, uint64_t ass
  * Matched: byte i of the buffer, i below m, is the variable matched with clause i + 1, and results[4] and results[5] are n and m.
  * Refusal 10: byte i is 1 if clause i + 1 is marked, else 0; the marked clauses name fewer variables than they are, and results[3]
  * is how many they are. The buffer's other bytes never change; on any other refusal none does.
- * `input` and `buffer` are not null, also if `input_length` or `buffer_length` is 0.
+ * With `input_length` or `buffer_length` 0, `input` or `buffer` is the address of any byte and not null.
  */
 NORWYTHAI_NODISCARD
 uint32_t norwythai_judge(const uint8_t *input, size_t input_length, uint8_t *buffer, size_t buffer_length,
@@ -139,7 +140,8 @@ uint32_t norwythai_start(uint8_t *checkpoint, size_t checkpoint_length);
  * Reads the input, the checkpoint and the budget; writes the results, and over the checkpoint the one to go on from.
  * After NORWYTHAI_SPENT and NORWYTHAI_MODEL the walk goes on by another call. After NORWYTHAI_ENDED another call says it again. On a
  * refusal the checkpoint stays as it was (theorem walk-refused in crates/capi/proofs/Theorems.antt). A budget of 96 always brings a
- * model or the end. `input` is not null, also if `input_length` is 0.
+ * model or the end.
+ * With `input_length` 0, `input` is the address of any byte and not null.
  */
 NORWYTHAI_NODISCARD
 uint32_t norwythai_walk(const uint8_t *input, size_t input_length, uint8_t *checkpoint, size_t checkpoint_length,
@@ -152,7 +154,7 @@ uint32_t norwythai_walk(const uint8_t *input, size_t input_length, uint8_t *chec
  * written does not change. A refusal brings no model: results[4] is 0, and `models` and the checkpoint stay as they were (theorem
  * list-refused in crates/capi/proofs/Theorems.antt). `models_length` may be any number; with 0 it makes one walk call of budget 0
  * (NORWYTHAI_SPENT, or NORWYTHAI_ENDED from a checkpoint at the end, or a refusal).
- * `input` and `models` are not null, also if `input_length` or `models_length` is 0.
+ * With `input_length` 0, `input` is the address of any byte, and with `models_length` 0, `models` that of any uint64_t; neither is null.
  */
 NORWYTHAI_NODISCARD
 uint32_t norwythai_list(const uint8_t *input, size_t input_length, uint8_t *checkpoint, size_t checkpoint_length,
