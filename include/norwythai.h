@@ -8,10 +8,15 @@
  * WHAT NO PROOF COVERS, and the caller must see to:
  *   - Each pointer is valid for the length that goes with it: so many elements can be read and, behind a pointer that is not const,
  *     written. During the call nobody else writes a buffer, nor reads one that is written.
- *   - Each length is the true one, counted in elements: bytes for uint8_t, numbers for uint64_t.
+ *   - Each length is the true one.
  *   - A buffer that is written (behind a pointer that is not const) overlaps no other buffer of the call.
  *   - A uint64_t pointer is aligned for uint64_t.
- *   - No pointer is null, also where the length is 0: pass a valid non-null pointer with length 0.
+ *   - No pointer is null, also where the length is 0. Empty containers may give null: pass the address of any object of the element's
+ *     type then, as in `norwythai_check(n == 0 ? &byte : input, n, ..)` with some `uint8_t byte`.
+ *
+ * LENGTHS COUNT ELEMENTS: for uint64_t the numbers, and not their bytes. With `uint64_t results[NORWYTHAI_RESULTS]` the length is
+ * NORWYTHAI_RESULTS, 6; `sizeof results` is 48, for which a function returns 1. With `uint64_t models[10]` it is 10; `sizeof models` is
+ * 80, and norwythai_list would write past the end.
  *
  * THE INPUT is an encoded formula: records of a kind byte and a body.
  *
@@ -28,18 +33,18 @@
  * THE RESULTS are NORWYTHAI_RESULTS numbers:
  *
  *              check        judge          walk             list
- *   results[0] the answer, one of the four below
+ *   results[0] the answer, 0 to 3 as below
  *   results[1] 0            0              the model, or 0  the last call's model, or 0
  *   results[2] the refusal's number, or 0 if the answer is no refusal
  *   results[3] the refusal's place, or 0 if the answer is no refusal
  *   results[4] 0            variables n    steps made       how many models were written
  *   results[5] 0            clauses m      expansions made  0
  *
- *   answer                  check          judge            walk                list
- *   0 NORWYTHAI_MODEL       a model: yes   matched          a model             the slice is full
- *   1 NORWYTHAI_SPENT       no model: no   -                the budget is used  (empty slice only)
- *   2 NORWYTHAI_ENDED       -              -                no model is left    no model is left
- *   3 NORWYTHAI_REFUSED     refused        refused          refused             refused
+ *   answer  check               judge               walk                                 list
+ *   0       NORWYTHAI_YES       NORWYTHAI_MATCHED   NORWYTHAI_MODEL                      NORWYTHAI_MODEL: `models` is full
+ *   1       NORWYTHAI_NO        -                   NORWYTHAI_SPENT: the budget is used  NORWYTHAI_SPENT: `models_length` is 0
+ *   2       -                   -                   NORWYTHAI_ENDED: no model is left    NORWYTHAI_ENDED: no model is left
+ *   3       NORWYTHAI_REFUSED   NORWYTHAI_REFUSED   NORWYTHAI_REFUSED                    NORWYTHAI_REFUSED
  *
  * REFUSALS. Places are offsets into the input, counted from 0, except at 10.
  *
@@ -65,7 +70,7 @@
  *
  * THE RETURNED NUMBER of every function is 0 if the results (norwythai_start: the checkpoint) were written, and 1 if `results_length`
  * is not NORWYTHAI_RESULTS or `checkpoint_length` is not NORWYTHAI_CHECKPOINT: then no byte of any buffer has changed. A refusal is an
- * answer: the function returns 0.
+ * answer: the function returns 0. Where the compiler can, it warns of a returned number that is ignored.
  */
 #ifndef NORWYTHAI_H
 #define NORWYTHAI_H
@@ -77,10 +82,27 @@
 #define NORWYTHAI_CHECKPOINT 50
 #define NORWYTHAI_BUFFER 96
 
+/* The answers of walk and list; the last one is also check's and judge's. */
 #define NORWYTHAI_MODEL 0
 #define NORWYTHAI_SPENT 1
 #define NORWYTHAI_ENDED 2
 #define NORWYTHAI_REFUSED 3
+
+/* The other answers of check. */
+#define NORWYTHAI_YES 0
+#define NORWYTHAI_NO 1
+
+/* The other answer of judge. */
+#define NORWYTHAI_MATCHED 0
+
+/* Marks a function whose returned number is not to be ignored. */
+#if (defined(__cplusplus) && __cplusplus >= 201703L) || (defined(__STDC_VERSION__) && __STDC_VERSION__ >= 202311L)
+#define NORWYTHAI_NODISCARD [[nodiscard]]
+#elif defined(__GNUC__)
+#define NORWYTHAI_NODISCARD __attribute__((warn_unused_result))
+#else
+#define NORWYTHAI_NODISCARD
+#endif
 
 #ifdef __cplusplus
 extern "C" {
@@ -89,7 +111,9 @@ extern "C" {
 /*
  * Whether the assignment is a model of the formula, which need not be matched.
  * Reads the input and the assignment; writes the results.
+ * With `input_length` 0, `input` is the address of any byte and not null.
  */
+NORWYTHAI_NODISCARD
 uint32_t norwythai_check(const uint8_t *input, size_t input_length, uint64_t assignment,
                          uint64_t *results, size_t results_length);
 
@@ -99,31 +123,40 @@ uint32_t norwythai_check(const uint8_t *input, size_t input_length, uint64_t ass
  * Matched: byte i of the buffer, i below m, is the variable matched with clause i + 1, and results[4] and results[5] are n and m.
  * Refusal 10: byte i is 1 if clause i + 1 is marked, else 0; the marked clauses name fewer variables than they are, and results[3]
  * is how many they are. The buffer's other bytes never change; on any other refusal none does.
+ * With `input_length` or `buffer_length` 0, `input` or `buffer` is the address of any byte and not null.
  */
+NORWYTHAI_NODISCARD
 uint32_t norwythai_judge(const uint8_t *input, size_t input_length, uint8_t *buffer, size_t buffer_length,
                          uint64_t *results, size_t results_length);
 
 /*
  * The checkpoint at which every walk starts. Writes the checkpoint: 50 zeros.
  */
+NORWYTHAI_NODISCARD
 uint32_t norwythai_start(uint8_t *checkpoint, size_t checkpoint_length);
 
 /*
  * One walk call: goes on from the checkpoint until a model or the end comes, or as many steps as the budget are made.
  * Reads the input, the checkpoint and the budget; writes the results, and over the checkpoint the one to go on from.
  * After NORWYTHAI_SPENT and NORWYTHAI_MODEL the walk goes on by another call. After NORWYTHAI_ENDED another call says it again. On a
- * refusal the checkpoint stays as it was. A budget of 96 always brings a model or the end.
+ * refusal the checkpoint stays as it was (theorem walk-refused in crates/capi/proofs/Theorems.antt). A budget of 96 always brings a
+ * model or the end.
+ * With `input_length` 0, `input` is the address of any byte and not null.
  */
+NORWYTHAI_NODISCARD
 uint32_t norwythai_walk(const uint8_t *input, size_t input_length, uint8_t *checkpoint, size_t checkpoint_length,
                         uint32_t budget, uint64_t *results, size_t results_length);
 
 /*
  * The next models, as many as there is room for: what a list of walk calls of budget 96 gives, in one call.
  * Reads the input and the checkpoint; writes the models from the front of `models`, the results, and over the checkpoint the one to
- * go on from. It stops when `models` is full (NORWYTHAI_MODEL), at the end (NORWYTHAI_ENDED), or at a refusal, which brings no model
- * and leaves the checkpoint as it was. What stands behind the last model written does not change. `models_length` may be any number;
- * with 0 it makes one walk call of budget 0 (NORWYTHAI_SPENT, or NORWYTHAI_ENDED from a checkpoint at the end, or a refusal).
+ * go on from. It stops when `models` is full (NORWYTHAI_MODEL) or at the end (NORWYTHAI_ENDED). What stands behind the last model
+ * written does not change. A refusal brings no model: results[4] is 0, and `models` and the checkpoint stay as they were (theorem
+ * list-refused in crates/capi/proofs/Theorems.antt). `models_length` may be any number; with 0 it makes one walk call of budget 0
+ * (NORWYTHAI_SPENT, or NORWYTHAI_ENDED from a checkpoint at the end, or a refusal).
+ * With `input_length` 0, `input` is the address of any byte, and with `models_length` 0, `models` that of any uint64_t; neither is null.
  */
+NORWYTHAI_NODISCARD
 uint32_t norwythai_list(const uint8_t *input, size_t input_length, uint8_t *checkpoint, size_t checkpoint_length,
                         uint64_t *models, size_t models_length, uint64_t *results, size_t results_length);
 

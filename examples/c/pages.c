@@ -70,7 +70,7 @@ int main(int argc, char **argv) {
     if (norwythai_judge(input, length, buffer, NORWYTHAI_BUFFER, results, NORWYTHAI_RESULTS) != 0) {
         return fail("an array has the wrong length");
     }
-    if (results[ANSWER] == NORWYTHAI_REFUSED) {
+    if (results[ANSWER] != NORWYTHAI_MATCHED) {
         return refused(results);
     }
     uint64_t variables = results[VARIABLES];

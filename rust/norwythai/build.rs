@@ -1,5 +1,5 @@
 //! Links the proved library libcapi.a: from the folder in NORWYTHAI_LIB_DIR, or, if that is not set, as `rt staticlib capi`
-//! proves and builds it.
+//! proves and builds it. The tests of the C header get its path as NORWYTHAI_LIBRARY.
 
 use std::env;
 use std::path::{Path, PathBuf};
@@ -17,6 +17,7 @@ fn main() {
     if !library.is_file() {
         fail(&format!("there is no {}", library.display()));
     }
+    println!("cargo:rustc-env=NORWYTHAI_LIBRARY={}", library.display());
     println!("cargo:rustc-link-search=native={}", folder.display());
     println!("cargo:rustc-link-lib=static=capi");
 }

@@ -1,8 +1,10 @@
 //! The acts: the library's answers as types.
 
+use crate::assignment::Assignment;
+use crate::checkpoint::Checkpoint;
 use crate::ffi::{self, Results};
-use crate::formula::MAX_CLAUSES;
-use crate::{Assignment, Checkpoint, Refusal};
+use crate::limits::MAX_CLAUSES;
+use crate::refusal::Refusal;
 use std::error::Error;
 use std::fmt;
 
@@ -14,7 +16,7 @@ use std::fmt;
 /// let input = [1, 2, 2, 1, 2, 2, 4, 3, 1, 3, 2, 4, 5];
 /// assert_eq!(check(&input, Assignment::from_bits(0b01)), Ok(true));
 /// assert_eq!(check(&input, Assignment::from_bits(0b11)), Ok(false));
-/// assert_eq!(check(&input, Assignment::from_bits(0b100)), Err(Refusal::StrayVariable));
+/// assert_eq!(check(&input, Assignment::from_bits(0b100)), Err(Refusal::StrayVariable { place: 0 }));
 /// ```
 pub fn check(input: &[u8], assignment: Assignment) -> Result<bool, Refusal> {
     let results = accept(ffi::check(input, assignment.bits()))?;
@@ -161,6 +163,7 @@ pub enum Answer {
 }
 
 /// What a walk call gives.
+#[must_use = "a model that the walk has passed does not come again"]
 #[derive(Clone, Copy, Debug, PartialEq, Eq)]
 pub struct Walked {
     /// What stopped it.
@@ -198,6 +201,7 @@ pub fn walk(input: &[u8], checkpoint: &mut Checkpoint, budget: u32) -> Result<Wa
 }
 
 /// What a list call gives.
+#[must_use = "it says how many models were written"]
 #[derive(Clone, Copy, Debug, PartialEq, Eq)]
 pub struct Listed {
     /// How many models were written, from the front of the slice.

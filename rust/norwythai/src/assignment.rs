@@ -52,6 +52,7 @@ impl From<Assignment> for u64 {
 }
 
 /// Displays an assignment digit by digit: see [`Assignment::digits`].
+#[must_use = "it does nothing until it is displayed"]
 #[derive(Clone, Copy, Debug)]
 pub struct Digits {
     assignment: Assignment,

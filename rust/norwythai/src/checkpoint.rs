@@ -1,6 +1,7 @@
 //! Checkpoints.
 
 use crate::ffi;
+use crate::limits::CHECKPOINT_LENGTH;
 use std::error::Error;
 use std::fmt;
 use std::str::FromStr;
@@ -21,7 +22,7 @@ pub struct Checkpoint([u8; Checkpoint::LENGTH]);
 
 impl Checkpoint {
     /// The number of its bytes.
-    pub const LENGTH: usize = 50;
+    pub const LENGTH: usize = CHECKPOINT_LENGTH;
 
     /// The checkpoint from which every walk begins.
     pub fn start() -> Self {

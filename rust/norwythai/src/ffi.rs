@@ -3,13 +3,15 @@
 //! Each function here lends the library only whole slices, with their own lengths, for the time of the call; the library reads
 //! and writes nothing else and keeps no pointer.
 
-use crate::checkpoint::Checkpoint;
+use crate::limits::CHECKPOINT_LENGTH;
 use crate::raw::{
     norwythai_check, norwythai_judge, norwythai_list, norwythai_start, norwythai_walk,
 };
 
 /// What every act but start writes, by its index: the answer, a model, a refusal's number and place, and two counts.
-pub(crate) type Results = [u64; 6];
+pub(crate) type Results = [u64; RESULTS_LENGTH];
+
+const RESULTS_LENGTH: usize = 6;
 
 /// The library returns 1 only for arrays of other lengths than it asks for.
 fn require(returned: u32) {
@@ -17,7 +19,7 @@ fn require(returned: u32) {
 }
 
 pub(crate) fn check(input: &[u8], assignment: u64) -> Results {
-    let mut results = [0; 6];
+    let mut results = [0; RESULTS_LENGTH];
     // SAFETY: `input` may be read and `results` written for the lengths given, and they do not overlap.
     let returned = unsafe {
         norwythai_check(
@@ -33,7 +35,7 @@ pub(crate) fn check(input: &[u8], assignment: u64) -> Results {
 }
 
 pub(crate) fn judge(input: &[u8], buffer: &mut [u8]) -> Results {
-    let mut results = [0; 6];
+    let mut results = [0; RESULTS_LENGTH];
     // SAFETY: `input` may be read, `buffer` and `results` written for the lengths given, and no two of them overlap.
     let returned = unsafe {
         norwythai_judge(
@@ -49,20 +51,16 @@ pub(crate) fn judge(input: &[u8], buffer: &mut [u8]) -> Results {
     results
 }
 
-pub(crate) fn start() -> [u8; Checkpoint::LENGTH] {
-    let mut checkpoint = [0; Checkpoint::LENGTH];
+pub(crate) fn start() -> [u8; CHECKPOINT_LENGTH] {
+    let mut checkpoint = [0; CHECKPOINT_LENGTH];
     // SAFETY: `checkpoint` may be written for the length given.
     let returned = unsafe { norwythai_start(checkpoint.as_mut_ptr(), checkpoint.len()) };
     require(returned);
     checkpoint
 }
 
-pub(crate) fn walk(
-    input: &[u8],
-    checkpoint: &mut [u8; Checkpoint::LENGTH],
-    budget: u32,
-) -> Results {
-    let mut results = [0; 6];
+pub(crate) fn walk(input: &[u8], checkpoint: &mut [u8; CHECKPOINT_LENGTH], budget: u32) -> Results {
+    let mut results = [0; RESULTS_LENGTH];
     // SAFETY: `input` may be read, `checkpoint` and `results` read and written for the lengths given, and no two of them
     // overlap.
     let returned = unsafe {
@@ -82,10 +80,10 @@ pub(crate) fn walk(
 
 pub(crate) fn list(
     input: &[u8],
-    checkpoint: &mut [u8; Checkpoint::LENGTH],
+    checkpoint: &mut [u8; CHECKPOINT_LENGTH],
     models: &mut [u64],
 ) -> Results {
-    let mut results = [0; 6];
+    let mut results = [0; RESULTS_LENGTH];
     // SAFETY: `input` may be read, `checkpoint`, `models` and `results` read and written for the lengths given, and no two of
     // them overlap.
     let returned = unsafe {

@@ -1,16 +1,11 @@
-//! Encoded formulas, and writing them.
+//! Encoded formulas.
 
 use crate::acts::{check, judge, list, walk, JudgeError, Listed, Matching, Walked};
-use crate::{Assignment, Checkpoint, Models, Refusal};
+use crate::assignment::Assignment;
+use crate::checkpoint::Checkpoint;
+use crate::models::Models;
+use crate::refusal::Refusal;
 use std::borrow::Cow;
-use std::error::Error;
-use std::fmt;
-
-/// The most variables that a formula has.
-pub const MAX_VARIABLES: u8 = 48;
-
-/// The most clauses that a formula has.
-pub const MAX_CLAUSES: usize = 96;
 
 /// The bytes of an encoded formula, owned or borrowed, which any act may find damaged and refuse.
 ///
@@ -92,125 +87,3 @@ impl AsRef<[u8]> for Formula<'_> {
         &self.0
     }
 }
-
-/// A variable, by its number from 1, and the value that makes the literal true.
-#[derive(Clone, Copy, Debug, PartialEq, Eq, Hash)]
-pub struct Literal {
-    /// The variable's number, 1 to 48.
-    pub variable: u8,
-    /// True for a positive literal.
-    pub value: bool,
-}
-
-impl Literal {
-    /// The literal that is true if the variable is.
-    pub fn positive(variable: u8) -> Self {
-        Literal {
-            variable,
-            value: true,
-        }
-    }
-
-    /// The literal that is true if the variable is false.
-    pub fn negative(variable: u8) -> Self {
-        Literal {
-            variable,
-            value: false,
-        }
-    }
-}
-
-/// Writes an encoded formula that every act can read: see [`Formula`].
-#[derive(Clone, Debug)]
-pub struct FormulaBuilder {
-    variables: u8,
-    clauses: usize,
-    bytes: Vec<u8>,
-}
-
-impl FormulaBuilder {
-    /// A formula of this many variables, 1 to 48, with no clauses yet.
-    pub fn new(variables: u8) -> Result<Self, BuildError> {
-        if !(1..=MAX_VARIABLES).contains(&variables) {
-            return Err(BuildError::BadVariableCount { variables });
-        }
-        Ok(FormulaBuilder {
-            variables,
-            clauses: 0,
-            bytes: vec![1, variables],
-        })
-    }
-
-    /// Adds a clause. If that is an error, nothing is added.
-    pub fn clause(&mut self, literals: &[Literal]) -> Result<&mut Self, BuildError> {
-        if self.clauses == MAX_CLAUSES {
-            return Err(BuildError::TooManyClauses);
-        }
-        let mut named = 0_u64;
-        for &Literal { variable, .. } in literals {
-            if !(1..=self.variables).contains(&variable) {
-                return Err(BuildError::NoSuchVariable { variable });
-            }
-            let bit = 1 << (variable - 1);
-            if named & bit != 0 {
-                return Err(BuildError::RepeatedVariable { variable });
-            }
-            named |= bit;
-        }
-        for literal in literals {
-            let kind = if literal.value { 2 } else { 3 };
-            self.bytes.extend([kind, literal.variable]);
-        }
-        self.bytes.push(4);
-        self.clauses += 1;
-        Ok(self)
-    }
-
-    /// The formula of the clauses so far.
-    pub fn build(&self) -> Formula<'static> {
-        let mut bytes = self.bytes.clone();
-        bytes.push(5);
-        Formula::from(bytes)
-    }
-}
-
-/// Why a formula can't be written.
-#[derive(Clone, Copy, Debug, PartialEq, Eq)]
-pub enum BuildError {
-    /// The number of variables is 0 or above 48.
-    BadVariableCount {
-        /// The number asked for.
-        variables: u8,
-    },
-    /// A literal's variable is 0 or above the number of variables.
-    NoSuchVariable {
-        /// The number of the variable.
-        variable: u8,
-    },
-    /// A clause names a variable twice.
-    RepeatedVariable {
-        /// The number of the variable.
-        variable: u8,
-    },
-    /// There are 96 clauses already.
-    TooManyClauses,
-}
-
-impl fmt::Display for BuildError {
-    fn fmt(&self, f: &mut fmt::Formatter) -> fmt::Result {
-        match self {
-            BuildError::BadVariableCount { variables } => {
-                write!(f, "a kit has 1 to 48 switches, not {variables}")
-            }
-            BuildError::NoSuchVariable { variable } => {
-                write!(f, "the kit has no switch {variable}")
-            }
-            BuildError::RepeatedVariable { variable } => {
-                write!(f, "the rule names switch {variable} twice")
-            }
-            BuildError::TooManyClauses => write!(f, "a sheet has at most 96 rules"),
-        }
-    }
-}
-
-impl Error for BuildError {}

@@ -39,10 +39,12 @@
 
 mod acts;
 mod assignment;
+mod builder;
 mod checkpoint;
 #[allow(unsafe_code)]
 mod ffi;
 mod formula;
+mod limits;
 mod models;
 pub mod raw;
 mod refusal;
@@ -51,7 +53,9 @@ pub use acts::{
     check, judge, judge_into, list, walk, Answer, JudgeError, Listed, Matching, Size, Walked,
 };
 pub use assignment::{Assignment, Digits};
+pub use builder::{BuildError, FormulaBuilder, Literal};
 pub use checkpoint::{Checkpoint, ParseCheckpointError};
-pub use formula::{BuildError, Formula, FormulaBuilder, Literal, MAX_CLAUSES, MAX_VARIABLES};
+pub use formula::Formula;
+pub use limits::{MAX_CLAUSES, MAX_VARIABLES};
 pub use models::Models;
 pub use refusal::Refusal;

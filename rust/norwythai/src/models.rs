@@ -1,7 +1,9 @@
 //! All models, one after the other.
 
 use crate::acts::{list, Answer};
-use crate::{Assignment, Checkpoint, Refusal};
+use crate::assignment::Assignment;
+use crate::checkpoint::Checkpoint;
+use crate::refusal::Refusal;
 use std::iter::FusedIterator;
 
 /// The most models that are listed at once. A list call tests its checkpoint, which takes as long as many models.
@@ -26,6 +28,7 @@ const MOST_AT_ONCE: usize = 256;
 /// assert_eq!(rest, [0b10, 0b01, 0b11]);
 /// # Ok::<(), Box<dyn std::error::Error>>(())
 /// ```
+#[must_use = "models are listed only when they are asked for"]
 #[derive(Clone, Debug)]
 pub struct Models<'a> {
     input: &'a [u8],
@@ -66,8 +69,9 @@ impl<'a> Models<'a> {
         }
         // Within the page: go there again.
         let mut checkpoint = self.before;
-        list(self.input, &mut checkpoint, &mut vec![0; self.given])
+        let listed = list(self.input, &mut checkpoint, &mut vec![0; self.given])
             .expect("this page was listed before");
+        debug_assert_eq!(listed.written, self.given);
         checkpoint
     }
 

@@ -18,6 +18,7 @@
 
 extern "C" {
     /// [`check`](crate::check): reads the input; writes the results.
+    #[must_use = "1 says that nothing was written"]
     pub fn norwythai_check(
         input: *const u8,
         input_length: usize,
@@ -27,6 +28,7 @@ extern "C" {
     ) -> u32;
 
     /// [`judge_into`](crate::judge_into): reads the input; writes the buffer and the results.
+    #[must_use = "1 says that nothing was written"]
     pub fn norwythai_judge(
         input: *const u8,
         input_length: usize,
@@ -37,9 +39,11 @@ extern "C" {
     ) -> u32;
 
     /// [`Checkpoint::start`](crate::Checkpoint::start): writes the checkpoint.
+    #[must_use = "1 says that nothing was written"]
     pub fn norwythai_start(checkpoint: *mut u8, checkpoint_length: usize) -> u32;
 
     /// [`walk`](crate::walk): reads the input and the checkpoint; writes the checkpoint and the results.
+    #[must_use = "1 says that nothing was written"]
     pub fn norwythai_walk(
         input: *const u8,
         input_length: usize,
@@ -51,6 +55,7 @@ extern "C" {
     ) -> u32;
 
     /// [`list`](crate::list): reads the input and the checkpoint; writes the checkpoint, the models and the results.
+    #[must_use = "1 says that nothing was written"]
     pub fn norwythai_list(
         input: *const u8,
         input_length: usize,

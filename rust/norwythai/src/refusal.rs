@@ -65,7 +65,10 @@ pub enum Refusal {
     /// 11: the walk of this formula never has this checkpoint.
     ForeignCheckpoint,
     /// 12: the assignment has a variable true that the formula doesn't have.
-    StrayVariable,
+    StrayVariable {
+        /// Which assignment it is, counted from 0: check is given one, so 0.
+        place: usize,
+    },
 }
 
 impl Refusal {
@@ -83,7 +86,7 @@ impl Refusal {
             (9, place) => Refusal::TrailingByte { place },
             (10, clauses) => Refusal::Unmatched { clauses },
             (11, 0) => Refusal::ForeignCheckpoint,
-            (12, 0) => Refusal::StrayVariable,
+            (12, place) => Refusal::StrayVariable { place },
             _ => return None,
         })
     }
@@ -102,11 +105,11 @@ impl Refusal {
             Refusal::TrailingByte { .. } => 9,
             Refusal::Unmatched { .. } => 10,
             Refusal::ForeignCheckpoint => 11,
-            Refusal::StrayVariable => 12,
+            Refusal::StrayVariable { .. } => 12,
         }
     }
 
-    /// Its place: an offset, or the number of the violator's clauses if the formula is unmatched.
+    /// Its place: an offset, or what its case says.
     pub fn place(&self) -> usize {
         match *self {
             Refusal::Truncated { place }
@@ -115,12 +118,10 @@ impl Refusal {
             | Refusal::NoSuchVariable { place }
             | Refusal::RepeatedVariable { place }
             | Refusal::TooManyClauses { place }
-            | Refusal::TrailingByte { place } => place,
+            | Refusal::TrailingByte { place }
+            | Refusal::StrayVariable { place } => place,
             Refusal::Unmatched { clauses } => clauses,
-            Refusal::ShortBuffer
-            | Refusal::BadVariableCount
-            | Refusal::ForeignCheckpoint
-            | Refusal::StrayVariable => 0,
+            Refusal::ShortBuffer | Refusal::BadVariableCount | Refusal::ForeignCheckpoint => 0,
         }
     }
 }
@@ -171,7 +172,7 @@ impl fmt::Display for Refusal {
                 f,
                 "the marker belongs to another sheet, or was changed: the walk of this sheet never has it"
             ),
-            Refusal::StrayVariable => {
+            Refusal::StrayVariable { .. } => {
                 write!(f, "the set-up has a switch on that the kit doesn't have")
             }
         }

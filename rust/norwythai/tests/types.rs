@@ -52,18 +52,16 @@ fn other_texts_are_no_checkpoints() {
 fn refusals_have_numbers_places_and_sentences() {
     let mut sentences = Vec::new();
     for number in 1..=12 {
-        let place = if matches!(number, 1 | 5 | 11 | 12) {
-            0
-        } else {
-            31
-        };
+        let place = if matches!(number, 1 | 5 | 11) { 0 } else { 31 };
         let refusal = Refusal::from_parts(number, place).unwrap();
         assert_eq!(
             (u64::from(refusal.number()), refusal.place()),
             (number, place)
         );
         let sentence = refusal.to_string();
-        assert_eq!(sentence.contains("31"), place == 31, "{sentence}");
+        // At 12 the place is no offset in the sheet.
+        let shown = place == 31 && number != 12;
+        assert_eq!(sentence.contains("31"), shown, "{sentence}");
         assert!(!sentences.contains(&sentence));
         sentences.push(sentence);
     }
@@ -123,14 +121,49 @@ fn the_builder_refuses_what_cannot_be_read() {
     let mut builder = FormulaBuilder::new(2).unwrap();
     for variable in [0, 3, 255] {
         let error = builder.clause(&[Literal::positive(1), Literal::negative(variable)]);
-        assert_eq!(error.unwrap_err(), BuildError::NoSuchVariable { variable });
+        assert_eq!(
+            error.unwrap_err(),
+            BuildError::NoSuchVariable {
+                clause: 0,
+                variable
+            }
+        );
     }
+    builder.clause(&[Literal::positive(1)]).unwrap();
     let error = builder.clause(&[Literal::positive(2), Literal::negative(2)]);
     assert_eq!(
         error.unwrap_err(),
-        BuildError::RepeatedVariable { variable: 2 }
+        BuildError::RepeatedVariable {
+            clause: 1,
+            variable: 2
+        }
     );
-    assert_eq!(builder.build(), Formula::from(vec![1, 2, 5]));
+    assert_eq!(builder.build(), Formula::from(vec![1, 2, 2, 1, 4, 5]));
+}
+
+#[test]
+fn errors_of_the_builder_name_clause_and_variable() {
+    let error = FormulaBuilder::new(49).unwrap_err();
+    assert_eq!(error.to_string(), "a formula has 1 to 48 variables, not 49");
+    let mut builder = FormulaBuilder::new(2).unwrap();
+    let error = builder.clause(&[Literal::negative(3)]).unwrap_err();
+    assert_eq!(
+        error.to_string(),
+        "clause 1 names variable 3, which the formula doesn't have"
+    );
+    builder.clause(&[Literal::positive(1)]).unwrap();
+    let error = builder.clause(&[Literal::positive(1), Literal::positive(1)]);
+    assert_eq!(
+        error.unwrap_err().to_string(),
+        "clause 2 names variable 1 twice"
+    );
+    for _ in 1..96 {
+        builder.clause(&[]).unwrap();
+    }
+    assert_eq!(
+        builder.clause(&[]).unwrap_err().to_string(),
+        "a formula has at most 96 clauses"
+    );
 }
 
 #[test]

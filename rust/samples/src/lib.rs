@@ -1,10 +1,15 @@
-//! What the tests and the benchmark make formulas with: random numbers that are the same in every run, and encoded formulas.
+//! What the tests and the benchmark make inputs with: random numbers that are the same in every run, encoded formulas, whole and
+//! damaged, and what else calls get.
 
 #![forbid(unsafe_code)]
 #![deny(missing_docs)]
 
+mod calls;
 mod formulas;
+mod inputs;
 mod random;
 
+pub use calls::{some_assignment, some_budget, some_checkpoint};
 pub use formulas::{encode, stairs, Clauses};
+pub use inputs::{some_input, some_matched_formula};
 pub use random::Random;

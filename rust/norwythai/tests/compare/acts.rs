@@ -1,11 +1,10 @@
 //! Each act, through the crate and through its C function, compared with the reference.
 
-use crate::inputs::some_budget;
 use crate::raw;
 use crate::tally::Tally;
 use norwythai::{Answer, Checkpoint, JudgeError, Refusal};
 use norwythai_reference as reference;
-use norwythai_samples::Random;
+use norwythai_samples::{some_budget, Random};
 
 /// What results have before a call; no act writes it.
 const UNWRITTEN: u64 = 0xa5a5_a5a5_a5a5_a5a5;

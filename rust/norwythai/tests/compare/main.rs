@@ -3,7 +3,6 @@
 //! The inputs are the same in every run. NORWYTHAI_CALLS is how many calls are made, at least 100,000.
 
 mod acts;
-mod inputs;
 mod raw;
 mod tally;
 
@@ -11,25 +10,17 @@ use acts::{
     answer_of, compare_chain, compare_check, compare_judge, compare_list, compare_start,
     compare_walk, compare_wrong_lengths,
 };
-use inputs::{some_budget, some_checkpoint, some_input, some_matched_formula};
 use norwythai::{Answer, Checkpoint, Models, Refusal};
 use norwythai_reference as reference;
-use norwythai_samples::Random;
+use norwythai_samples::{
+    some_assignment, some_budget, some_checkpoint, some_input, some_matched_formula, Random,
+};
 use tally::Tally;
 
 const FEWEST_CALLS: usize = 100_000;
 
-/// An assignment that may well be a model, or one with any bits.
-fn some_assignment(random: &mut Random, input: &[u8]) -> u64 {
-    let variables = u64::from(input.get(1).copied().unwrap_or(1).clamp(1, 48));
-    let bits = random.bits() & ((1 << variables) - 1);
-    match random.below(8) {
-        0 => bits | 1 << random.below(64),
-        1 => random.bits(),
-        2 => 0,
-        3 => (1 << variables) - 1,
-        _ => bits,
-    }
+fn is_matched(input: &[u8]) -> bool {
+    reference::judge(input, &mut [0; 96]).is_ok()
 }
 
 /// All acts on one input, with checkpoints of its own walk and, at times, those of the walk before.
@@ -49,7 +40,7 @@ fn compare_input(
         compare_judge(tally, input, length, fill);
     }
     let mut pool = Vec::new();
-    if reference::judge(input, &mut [0; 96]).is_ok() {
+    if is_matched(input) {
         pool = compare_chain(tally, random, input);
     }
     for _ in 0..16 {
@@ -81,7 +72,7 @@ fn every_act_answers_as_the_reference() {
     let mut others = Vec::new();
     let mut round = 0;
     while tally.calls() < wanted {
-        let input = some_input(&mut random);
+        let input = some_input(&mut random, is_matched);
         others = compare_input(&mut tally, &mut random, &input, &others);
         compare_start(&mut tally, &mut random);
         if round % 20 == 0 {
@@ -106,7 +97,7 @@ fn list_and_models_give_exactly_all_models() {
     let mut random = Random::new(1);
     let (mut formulas, mut models, mut resumed) = (0, 0, 0);
     while formulas < 400 {
-        let input = some_matched_formula(&mut random);
+        let input = some_matched_formula(&mut random, is_matched);
         if input[1] > 10 {
             continue;
         }
@@ -149,7 +140,7 @@ fn the_iterator_has_the_checkpoint_of_each_model() {
     let mut random = Random::new(3);
     let mut compared = 0;
     for _ in 0..60 {
-        let input = some_matched_formula(&mut random);
+        let input = some_matched_formula(&mut random, is_matched);
         let formula = reference::decode(&input).unwrap();
         let mut walker = reference::Walker::start(&formula).unwrap();
         let mut models = Models::new(&input);

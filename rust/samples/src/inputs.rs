@@ -1,7 +1,7 @@
-//! Inputs: encoded formulas of many kinds, damaged ones, and checkpoints that a walk may or may not have.
+//! Inputs: encoded formulas of many kinds, and damaged ones.
 
-use norwythai_reference::{judge, start_checkpoint, Checkpoint};
-use norwythai_samples::{encode, stairs, Clauses, Random};
+use crate::formulas::{encode, stairs, Clauses};
+use crate::random::Random;
 
 /// Small, middle and large numbers of variables.
 fn some_variables(random: &mut Random) -> usize {
@@ -72,7 +72,7 @@ fn balanced(random: &mut Random, variables: usize, length: usize) -> Clauses {
 }
 
 /// A readable formula, matched or not.
-pub fn some_formula(random: &mut Random) -> Vec<u8> {
+fn some_formula(random: &mut Random) -> Vec<u8> {
     let n = some_variables(random);
     let clauses = match random.below(12) {
         0 => some_clauses(random, n, n, (3, 3), 50),
@@ -100,11 +100,11 @@ pub fn some_formula(random: &mut Random) -> Vec<u8> {
     encode(n, &clauses)
 }
 
-/// A matched formula.
-pub fn some_matched_formula(random: &mut Random) -> Vec<u8> {
+/// A formula that is matched, as the caller finds out.
+pub fn some_matched_formula(random: &mut Random, is_matched: fn(&[u8]) -> bool) -> Vec<u8> {
     loop {
         let input = some_formula(random);
-        if judge(&input, &mut [0; 96]).is_ok() {
+        if is_matched(&input) {
             return input;
         }
     }
@@ -161,74 +161,13 @@ fn noise(random: &mut Random) -> Vec<u8> {
         .collect()
 }
 
-/// Any input.
-pub fn some_input(random: &mut Random) -> Vec<u8> {
+/// Any input: most are matched formulas, as the caller finds out.
+pub fn some_input(random: &mut Random, is_matched: fn(&[u8]) -> bool) -> Vec<u8> {
     match random.below(20) {
-        0..=11 => some_matched_formula(random),
+        0..=11 => some_matched_formula(random, is_matched),
         12 | 13 => some_formula(random),
         14..=16 => damaged(random),
         17 | 18 => formula_at_a_limit(random),
         _ => noise(random),
-    }
-}
-
-pub fn some_budget(random: &mut Random) -> u32 {
-    match random.below(10) {
-        0 => 0,
-        1 => 1,
-        2 | 3 => random.between(2, 12) as u32,
-        4 => 95,
-        5 | 6 => 96,
-        7 => u32::MAX,
-        8 => random.below(200) as u32,
-        _ => random.bits() as u32,
-    }
-}
-
-/// The checkpoint cut to a length, with a mode, and with the last value turned or not. The walk often has it.
-fn cut(random: &mut Random, mut checkpoint: Checkpoint) -> Checkpoint {
-    // Short ones are more likely: most trials are made near the root.
-    let longest = random.below(usize::from(checkpoint[1]).min(48) + 1);
-    let length = random.below(longest + 1);
-    checkpoint[0] = random.pick(&[1, 2, 3]);
-    checkpoint[1] = length as u8;
-    checkpoint[2 + length..].fill(0);
-    if length > 0 && random.percent(60) {
-        checkpoint[1 + length] ^= 128;
-    }
-    checkpoint
-}
-
-/// The checkpoint with some other change.
-fn changed(random: &mut Random, mut checkpoint: Checkpoint) -> Checkpoint {
-    let at = random.below(50);
-    match random.below(7) {
-        0 => checkpoint[0] = random.pick(&[0, 1, 2, 3, 4, 5, 6, 128, 255]),
-        1 => checkpoint[1] = checkpoint[1].wrapping_add(random.pick(&[1, 2, 255, 128])),
-        2 => checkpoint[1] = random.byte(),
-        3 => checkpoint[at] ^= 1 << random.below(8),
-        4 => checkpoint[49] = random.byte(),
-        5 => checkpoint[2..].swap(random.below(48), random.below(48)),
-        _ => checkpoint[at] = random.byte(),
-    }
-    checkpoint
-}
-
-/// A checkpoint from those that walks have returned, as it is or changed, or one from nowhere.
-pub fn some_checkpoint(random: &mut Random, pool: &[Checkpoint]) -> Checkpoint {
-    if pool.is_empty() || random.percent(3) {
-        let mut checkpoint = start_checkpoint();
-        match random.below(3) {
-            0 => checkpoint.fill_with(|| random.byte()),
-            1 => checkpoint[..4].fill_with(|| random.below(6) as u8),
-            _ => {}
-        }
-        return checkpoint;
-    }
-    let checkpoint = random.pick(pool);
-    match random.below(10) {
-        0..=3 => checkpoint,
-        4..=7 => cut(random, checkpoint),
-        _ => changed(random, checkpoint),
     }
 }

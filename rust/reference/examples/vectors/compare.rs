@@ -1,12 +1,11 @@
-//! vectors FILE: compares the reference with test vectors, one JSON object a line, and prints how many of each act there are
-//! and how many differ. It fails if some vector differs, or if there are none.
+//! Comparing the reference with vectors.
 
+use crate::values::{from_hex, number};
 use norwythai_reference::{
     check, judge, list, print, start_checkpoint, walk, Answer, Checkpoint, Refusal, Walked,
     CHECKPOINT_LENGTH,
 };
 use std::collections::BTreeMap;
-use std::process::ExitCode;
 
 /// What of a vector differs, in words.
 type Compared = Result<(), String>;
@@ -39,23 +38,6 @@ fn closing_bracket(value: &str) -> Option<usize> {
         }
     }
     None
-}
-
-fn number<T: std::str::FromStr>(text: &str) -> Result<T, String> {
-    text.trim()
-        .parse()
-        .map_err(|_| format!("not a number: {text}"))
-}
-
-fn from_hex(text: &str) -> Result<Vec<u8>, String> {
-    let digits = text
-        .chars()
-        .map(|c| c.to_digit(16).ok_or(format!("not hexadecimal: {text}")))
-        .collect::<Result<Vec<_>, _>>()?;
-    Ok(digits
-        .chunks(2)
-        .map(|pair| (pair[0] * 16 + pair[1]) as u8)
-        .collect())
 }
 
 fn hex_field(line: &str, name: &str) -> Result<Vec<u8>, String> {
@@ -223,8 +205,9 @@ fn compare_printed(line: &str) -> Compared {
     )
 }
 
-fn compare_line(act: &str, line: &str) -> Compared {
-    match act {
+/// Compares the reference with one vector.
+pub fn compare_line(line: &str) -> Compared {
+    match field(line, "act")? {
         "start" => compare_start(line),
         "check" => compare_check(line),
         "judge" => compare_judge(line),
@@ -235,25 +218,16 @@ fn compare_line(act: &str, line: &str) -> Compared {
     }
 }
 
-fn main() -> ExitCode {
-    let Some(path) = std::env::args().nth(1) else {
-        eprintln!("usage: vectors FILE");
-        return ExitCode::from(2);
-    };
-    let text = match std::fs::read_to_string(&path) {
-        Ok(text) => text,
-        Err(error) => {
-            eprintln!("{path}: {error}");
-            return ExitCode::from(2);
-        }
-    };
+/// Compares the reference with all vectors of a text, and prints what differs and how many there are of each act. False if some
+/// vector differs, or if there are none.
+pub fn compare_all(text: &str) -> bool {
     // By act: vectors and differences.
     let mut counts: BTreeMap<&str, (usize, usize)> = BTreeMap::new();
     for (index, line) in text.lines().enumerate() {
         let act = field(line, "act").unwrap_or("unknown");
         let count = counts.entry(act).or_default();
         count.0 += 1;
-        if let Err(difference) = compare_line(act, line) {
+        if let Err(difference) = compare_line(line) {
             count.1 += 1;
             println!("line {}: {act}: {difference}", index + 1);
         }
@@ -261,8 +235,5 @@ fn main() -> ExitCode {
     for (act, (vectors, differences)) in &counts {
         println!("{act}: {vectors} vectors, {differences} differences");
     }
-    if counts.is_empty() || counts.values().any(|(_, differences)| *differences > 0) {
-        return ExitCode::FAILURE;
-    }
-    ExitCode::SUCCESS
+    !counts.is_empty() && counts.values().all(|(_, differences)| *differences == 0)
 }

@@ -1,0 +1,97 @@
+/* Every function with every kind of answer, as the header says it. Reads as C and as C++. */
+#include "norwythai.h"
+
+#include <stdio.h>
+#include <string.h>
+
+#define REQUIRE(condition)                                        \
+    do {                                                          \
+        if (!(condition)) {                                       \
+            fprintf(stderr, "line %d: " #condition "\n", __LINE__); \
+            return 1;                                             \
+        }                                                         \
+    } while (0)
+
+/* Two variables, of which exactly one is true. */
+static const uint8_t INPUT[] = {1, 2, 2, 1, 2, 2, 4, 3, 1, 3, 2, 4, 5};
+
+/* One variable, and two clauses that both name it. */
+static const uint8_t UNMATCHED[] = {1, 1, 2, 1, 4, 3, 1, 4, 5};
+
+static int test_check(void) {
+    const uint8_t byte = 0;
+    uint64_t results[NORWYTHAI_RESULTS];
+
+    REQUIRE(norwythai_check(INPUT, sizeof INPUT, 1, results, NORWYTHAI_RESULTS) == 0);
+    REQUIRE(results[0] == NORWYTHAI_YES);
+    REQUIRE(norwythai_check(INPUT, sizeof INPUT, 3, results, NORWYTHAI_RESULTS) == 0);
+    REQUIRE(results[0] == NORWYTHAI_NO);
+    REQUIRE(norwythai_check(INPUT, sizeof INPUT, 4, results, NORWYTHAI_RESULTS) == 0);
+    REQUIRE(results[0] == NORWYTHAI_REFUSED && results[2] == 12 && results[3] == 0);
+    REQUIRE(norwythai_check(&byte, 0, 0, results, NORWYTHAI_RESULTS) == 0);
+    REQUIRE(results[0] == NORWYTHAI_REFUSED && results[2] == 2 && results[3] == 0);
+    return 0;
+}
+
+static int test_judge(void) {
+    uint8_t buffer[NORWYTHAI_BUFFER];
+    uint64_t results[NORWYTHAI_RESULTS];
+
+    REQUIRE(norwythai_judge(INPUT, sizeof INPUT, buffer, sizeof buffer, results, NORWYTHAI_RESULTS) == 0);
+    REQUIRE(results[0] == NORWYTHAI_MATCHED && results[4] == 2 && results[5] == 2);
+    REQUIRE(buffer[0] == 1 && buffer[1] == 2);
+    REQUIRE(norwythai_judge(UNMATCHED, sizeof UNMATCHED, buffer, sizeof buffer, results, NORWYTHAI_RESULTS) == 0);
+    REQUIRE(results[0] == NORWYTHAI_REFUSED && results[2] == 10 && results[3] == 2);
+    REQUIRE(norwythai_judge(INPUT, sizeof INPUT, buffer, 0, results, NORWYTHAI_RESULTS) == 0);
+    REQUIRE(results[0] == NORWYTHAI_REFUSED && results[2] == 1);
+    return 0;
+}
+
+static int test_walk(void) {
+    uint8_t checkpoint[NORWYTHAI_CHECKPOINT];
+    uint64_t results[NORWYTHAI_RESULTS];
+
+    REQUIRE(norwythai_start(checkpoint, sizeof checkpoint) == 0);
+    REQUIRE(norwythai_walk(INPUT, sizeof INPUT, checkpoint, sizeof checkpoint, 1, results, NORWYTHAI_RESULTS) == 0);
+    REQUIRE(results[0] == NORWYTHAI_SPENT && results[4] == 1);
+    REQUIRE(norwythai_walk(INPUT, sizeof INPUT, checkpoint, sizeof checkpoint, 96, results, NORWYTHAI_RESULTS) == 0);
+    REQUIRE(results[0] == NORWYTHAI_MODEL && results[1] == 2 && results[4] == 1);
+    checkpoint[0] = 9;
+    REQUIRE(norwythai_walk(INPUT, sizeof INPUT, checkpoint, sizeof checkpoint, 96, results, NORWYTHAI_RESULTS) == 0);
+    REQUIRE(results[0] == NORWYTHAI_REFUSED && results[2] == 11);
+    return 0;
+}
+
+static int test_list(void) {
+    uint8_t checkpoint[NORWYTHAI_CHECKPOINT], before[NORWYTHAI_CHECKPOINT];
+    uint64_t models[3] = {7, 7, 7}, results[NORWYTHAI_RESULTS];
+
+    REQUIRE(norwythai_start(checkpoint, sizeof checkpoint) == 0);
+    REQUIRE(norwythai_list(INPUT, sizeof INPUT, checkpoint, sizeof checkpoint, models, 0, results, NORWYTHAI_RESULTS) == 0);
+    REQUIRE(results[0] == NORWYTHAI_SPENT && results[4] == 0);
+    REQUIRE(norwythai_list(INPUT, sizeof INPUT, checkpoint, sizeof checkpoint, models, 1, results, NORWYTHAI_RESULTS) == 0);
+    REQUIRE(results[0] == NORWYTHAI_MODEL && results[4] == 1 && models[0] == 2 && models[1] == 7);
+    REQUIRE(norwythai_list(INPUT, sizeof INPUT, checkpoint, sizeof checkpoint, models, 3, results, NORWYTHAI_RESULTS) == 0);
+    REQUIRE(results[0] == NORWYTHAI_ENDED && results[4] == 1 && models[0] == 1 && models[1] == 7);
+
+    checkpoint[0] = 9;
+    memcpy(before, checkpoint, sizeof before);
+    REQUIRE(norwythai_list(INPUT, sizeof INPUT, checkpoint, sizeof checkpoint, models, 3, results, NORWYTHAI_RESULTS) == 0);
+    REQUIRE(results[0] == NORWYTHAI_REFUSED && results[2] == 11 && results[4] == 0);
+    REQUIRE(models[0] == 1 && models[1] == 7 && memcmp(before, checkpoint, sizeof before) == 0);
+    return 0;
+}
+
+/* A length in bytes is not that of the results. */
+static int test_lengths(void) {
+    uint64_t results[NORWYTHAI_RESULTS] = {7, 7, 7, 7, 7, 7};
+
+    REQUIRE(sizeof results == 48);
+    REQUIRE(norwythai_check(INPUT, sizeof INPUT, 1, results, sizeof results) == 1);
+    REQUIRE(results[0] == 7 && results[5] == 7);
+    return 0;
+}
+
+int main(void) {
+    return test_check() || test_judge() || test_walk() || test_list() || test_lengths();
+}

@@ -1,0 +1,121 @@
+//! The C header: programs in C and C++ compile against it without a warning and find the library's answers as it says, and a
+//! returned number that is ignored brings a warning.
+
+use std::path::{Path, PathBuf};
+use std::process::{Command, Output};
+
+/// A compiler, and the options for the language that the header is read as.
+type Language = (&'static str, &'static [&'static str]);
+
+const C: [Language; 3] = [
+    ("cc", &["-std=c90"]),
+    ("cc", &["-std=c99"]),
+    ("cc", &["-std=c11"]),
+];
+
+const CPP: Language = ("c++", &["-xc++", "-std=c++17"]);
+
+const STRICT: [&str; 4] = ["-Wall", "-Wextra", "-Werror", "-pedantic"];
+
+/// C, and C++ if there is a compiler for it.
+fn languages() -> Vec<Language> {
+    let mut languages = C.to_vec();
+    if Command::new(CPP.0).arg("--version").output().is_ok() {
+        languages.push(CPP);
+    } else {
+        println!("there is no {}: the header is tested as C only", CPP.0);
+    }
+    languages
+}
+
+fn package() -> &'static Path {
+    Path::new(env!("CARGO_MANIFEST_DIR"))
+}
+
+/// A file of the repository.
+fn repository(name: &str) -> PathBuf {
+    package().join("../..").join(name)
+}
+
+/// A program of this test.
+fn source(name: &str) -> PathBuf {
+    package().join("tests/header").join(name)
+}
+
+/// A place for what is compiled.
+fn temporary(name: &str) -> PathBuf {
+    Path::new(env!("CARGO_TARGET_TMPDIR")).join(name)
+}
+
+fn run(command: &mut Command) -> Output {
+    let output = command.output();
+    output.unwrap_or_else(|error| panic!("{command:?}: {error}"))
+}
+
+/// Runs a command that must succeed, and gives what it prints.
+fn run_well(command: &mut Command) -> String {
+    let output = run(command);
+    let errors = String::from_utf8_lossy(&output.stderr);
+    assert!(output.status.success(), "{command:?}: {errors}");
+    String::from_utf8(output.stdout).expect("plain text")
+}
+
+/// Compiles a program, with no warning, and links it with the library.
+fn compile(compiler: &str, options: &[&str], source: &Path, program: &Path) {
+    run_well(
+        Command::new(compiler)
+            .args(options)
+            .args(STRICT)
+            .arg("-I")
+            .arg(repository("include"))
+            .arg(source)
+            // The library is no source, whatever language is set for those.
+            .arg("-xnone")
+            .arg(env!("NORWYTHAI_LIBRARY"))
+            .arg("-o")
+            .arg(program),
+    );
+}
+
+#[test]
+fn every_function_answers_as_the_header_says() {
+    for (index, (compiler, options)) in languages().into_iter().enumerate() {
+        let program = temporary(&format!("acts{index}"));
+        compile(compiler, options, &source("acts.c"), &program);
+        run_well(&mut Command::new(program));
+    }
+}
+
+#[test]
+fn an_ignored_result_brings_a_warning() {
+    for (compiler, options) in languages() {
+        let output = run(Command::new(compiler)
+            .args(options)
+            .arg("-I")
+            .arg(repository("include"))
+            .arg("-c")
+            .arg(source("ignored.c"))
+            .arg("-o")
+            .arg(temporary("ignored.o")));
+        let text = String::from_utf8_lossy(&output.stderr);
+        assert!(output.status.success(), "{compiler} {options:?}: {text}");
+        let warnings = text.matches("warning: ignoring return value").count();
+        assert_eq!(warnings, 5, "{compiler} {options:?}: {text}");
+    }
+}
+
+#[test]
+fn the_example_lists_models_in_pages() {
+    let program = temporary("pages");
+    let source = repository("examples/c/pages.c");
+    compile("cc", &["-std=c99"], &source, &program);
+    let pages =
+        |name: &str, size: &str| run(Command::new(&program).arg(repository(name)).arg(size));
+    let output = pages("examples/two_variables.bin", "1");
+    assert!(output.status.success());
+    assert_eq!(output.stdout, b"page 1\n01\npage 2\n10\n");
+
+    let output = pages("examples/unmatched.bin", "1");
+    assert!(!output.status.success());
+    assert_eq!(output.stderr, b"pages: refused 10 at 3\n");
+}

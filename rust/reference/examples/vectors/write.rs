@@ -1,0 +1,261 @@
+//! Writing vectors: what is given to an act, and what the reference answers.
+
+use crate::values::to_hex;
+use norwythai_reference::{
+    check, judge, print, start_checkpoint, walk, Answer, Checkpoint, Refusal, LIST_BUDGET,
+};
+use norwythai_samples::{some_assignment, some_budget, some_checkpoint, some_input, Random};
+
+/// A longer printed walk is written only for one input of so many, since a vector of it takes most of a file of the corpus.
+const LONG_TEXT: usize = 5_000;
+const ONE_LONG_OF: usize = 16;
+
+/// A line of an act, with the fields that follow.
+fn line(act: &str, from: &str, fields: &str) -> String {
+    format!("{{\"act\": \"{act}\", \"from\": \"{from}\", {fields}}}")
+}
+
+fn refusal_text(refusal: Option<Refusal>) -> String {
+    match refusal {
+        None => "null".to_string(),
+        Some(Refusal { number, place }) => format!("[{number}, {place}]"),
+    }
+}
+
+fn start_line(from: &str) -> String {
+    let checkpoint = to_hex(&start_checkpoint());
+    line("start", from, &format!("\"marker\": \"{checkpoint}\""))
+}
+
+fn check_line(from: &str, input: &[u8], assignment: u64) -> String {
+    let found = check(input, assignment);
+    let answer = match found {
+        Ok(true) => "yes",
+        Ok(false) => "no",
+        Err(_) => "refused",
+    };
+    let fields = format!(
+        "\"sheet\": \"{}\", \"setup\": \"{assignment:016x}\", \"refusal\": {}, \"answer\": \"{answer}\"",
+        to_hex(input),
+        refusal_text(found.err()),
+    );
+    line("check", from, &fields)
+}
+
+fn judge_line(from: &str, input: &[u8], length: usize, fill: u8) -> String {
+    let mut buffer = vec![fill; length];
+    let found = judge(input, &mut buffer);
+    let (n, m) = found.map_or((0, 0), |size| (size.variables, size.clauses));
+    let fields = format!(
+        "\"sheet\": \"{}\", \"slate_len\": {length}, \"slate_fill\": {fill}, \"refusal\": {}, \"n\": {n}, \"m\": {m}, \
+         \"slate\": \"{}\"",
+        to_hex(input),
+        refusal_text(found.err()),
+        to_hex(&buffer),
+    );
+    line("judge", from, &fields)
+}
+
+/// The word for an answer, and its model, else 0.
+fn answer_parts(answer: Answer) -> (&'static str, u64) {
+    match answer {
+        Answer::Model(model) => ("set-up", model),
+        Answer::Spent => ("spent", 0),
+        Answer::Ended => ("ended", 0),
+    }
+}
+
+fn walk_line(from: &str, input: &[u8], given: &Checkpoint, budget: u32) -> String {
+    let found = walk(input, given, budget);
+    let ((answer, model), returned, steps, expansions) = match &found {
+        Ok(walked) => (
+            answer_parts(walked.progress.answer),
+            &walked.checkpoint,
+            walked.progress.steps,
+            walked.progress.expansions,
+        ),
+        Err(_) => (("refused", 0), given, 0, 0),
+    };
+    let fields = format!(
+        "\"sheet\": \"{}\", \"marker\": \"{}\", \"budget\": {budget}, \"answer\": \"{answer}\", \"refusal\": {}, \
+         \"setup\": \"{model:016x}\", \"marker_out\": \"{}\", \"moves\": {steps}, \"reaches\": {expansions}",
+        to_hex(input),
+        to_hex(given),
+        refusal_text(found.err()),
+        to_hex(returned),
+    );
+    line("walk", from, &fields)
+}
+
+/// Calls with these budgets, one after the other from the start, on a matched formula: the line, and all checkpoints.
+fn chain_line(from: &str, input: &[u8], budgets: &[u32]) -> (String, Vec<Checkpoint>) {
+    let mut checkpoints = vec![start_checkpoint()];
+    let mut calls = Vec::new();
+    for budget in budgets {
+        let given = checkpoints[checkpoints.len() - 1];
+        let walked = walk(input, &given, *budget).expect("a checkpoint of this walk");
+        let (answer, model) = answer_parts(walked.progress.answer);
+        calls.push(format!(
+            "[{budget}, \"{answer}\", \"{model:016x}\", \"{}\", {}, {}]",
+            to_hex(&walked.checkpoint),
+            walked.progress.steps,
+            walked.progress.expansions,
+        ));
+        checkpoints.push(walked.checkpoint);
+    }
+    let fields = format!(
+        "\"sheet\": \"{}\", \"calls\": [{}]",
+        to_hex(input),
+        calls.join(", ")
+    );
+    (line("chain", from, &fields), checkpoints)
+}
+
+fn printed_line(from: &str, input: &[u8], text: &str) -> String {
+    let fields = format!(
+        "\"stdin\": \"{}\", \"stdout\": \"{}\"",
+        to_hex(input),
+        text.replace('\n', "\\n")
+    );
+    line("printed", from, &fields)
+}
+
+fn is_matched(input: &[u8]) -> bool {
+    judge(input, &mut [0; 96]).is_ok()
+}
+
+/// The vectors of one input, but for the printed walk.
+fn act_lines(from: &str, random: &mut Random, input: &[u8]) -> Vec<String> {
+    let mut lines = Vec::new();
+    let mut known = Vec::new();
+    if is_matched(input) {
+        let budgets: Vec<u32> = (0..random.below(12)).map(|_| some_budget(random)).collect();
+        let (chain, checkpoints) = chain_line(from, input, &budgets);
+        lines.push(chain);
+        known = checkpoints;
+        let first = walk(input, &start_checkpoint(), LIST_BUDGET).expect("a matched formula");
+        lines.push(check_line(
+            from,
+            input,
+            answer_parts(first.progress.answer).1,
+        ));
+    }
+    for _ in 0..3 {
+        lines.push(check_line(from, input, some_assignment(random, input)));
+    }
+    lines.push(judge_line(from, input, 96, random.byte()));
+    let length = random.pick(&[0, 95, 96, 97, 128, 255]);
+    lines.push(judge_line(from, input, length, random.byte()));
+    lines.push(walk_line(
+        from,
+        input,
+        &start_checkpoint(),
+        some_budget(random),
+    ));
+    for _ in 0..4 {
+        let given = some_checkpoint(random, &known);
+        lines.push(walk_line(from, input, &given, some_budget(random)));
+    }
+    lines
+}
+
+/// The vectors of these inputs, with a seed for what else the calls get.
+pub fn vectors_of(inputs: &[Vec<u8>], seed: u64) -> Vec<String> {
+    let from = "given";
+    let mut random = Random::new(seed);
+    let mut lines = vec![start_line(from)];
+    for input in inputs {
+        lines.extend(act_lines(from, &mut random, input));
+        lines.push(printed_line(from, input, &print(input)));
+    }
+    lines
+}
+
+/// The vectors of so many inputs that are generated from a seed.
+pub fn generated_vectors(seed: u64, count: usize) -> Vec<String> {
+    let from = "random";
+    let mut random = Random::new(seed);
+    let mut lines = vec![start_line(from)];
+    let mut long_texts = 0;
+    for _ in 0..count {
+        let input = some_input(&mut random, is_matched);
+        lines.extend(act_lines(from, &mut random, &input));
+        let text = print(&input);
+        let is_long = text.len() > LONG_TEXT;
+        if !is_long || long_texts % ONE_LONG_OF == 0 {
+            lines.push(printed_line(from, &input, &text));
+        }
+        long_texts += usize::from(is_long);
+    }
+    lines
+}
+
+#[cfg(test)]
+mod tests {
+    use super::*;
+    use crate::compare::compare_line;
+
+    /// 01's example: clauses (1, 2) and (not 1, not 2).
+    const EXAMPLE: &[u8] = &[1, 2, 2, 1, 2, 2, 4, 3, 1, 3, 2, 4, 5];
+
+    #[test]
+    fn lines_of_the_example() {
+        assert_eq!(
+            check_line("edge", EXAMPLE, 2),
+            "{\"act\": \"check\", \"from\": \"edge\", \"sheet\": \"01020201020204030103020405\", \
+             \"setup\": \"0000000000000002\", \"refusal\": null, \"answer\": \"yes\"}"
+        );
+        assert_eq!(
+            check_line("edge", &[1, 2, 5], 4),
+            "{\"act\": \"check\", \"from\": \"edge\", \"sheet\": \"010205\", \"setup\": \"0000000000000004\", \
+             \"refusal\": [12, 0], \"answer\": \"refused\"}"
+        );
+        let judged = judge_line("edge", EXAMPLE, 97, 170);
+        let slate = format!("\"slate\": \"0102{}\"", "aa".repeat(95));
+        assert!(judged.contains("\"n\": 2, \"m\": 2") && judged.contains(&slate));
+        let (chain, checkpoints) = chain_line("edge", EXAMPLE, &[1, 96]);
+        let second = format!(
+            "[96, \"set-up\", \"0000000000000002\", \"01020182{}\", 1, 0]",
+            "00".repeat(46)
+        );
+        assert!(chain.contains(&second), "{chain}");
+        assert_eq!(checkpoints.len(), 3);
+        assert_eq!(
+            printed_line("edge", EXAMPLE, &print(EXAMPLE)),
+            "{\"act\": \"printed\", \"from\": \"edge\", \"stdin\": \"01020201020204030103020405\", \
+             \"stdout\": \"switches 2 rules 2\\n01 2 2\\n10 4 0\\nend 2 0\\n\"}"
+        );
+    }
+
+    #[test]
+    fn a_refused_walk_gives_its_checkpoint_back() {
+        let mut foreign = start_checkpoint();
+        foreign[0] = 9;
+        let text = to_hex(&foreign);
+        let line = walk_line("edge", EXAMPLE, &foreign, 7);
+        assert!(line.contains(&format!(
+            "\"marker\": \"{text}\", \"budget\": 7, \"answer\": \"refused\", \"refusal\": [11, 0], \
+             \"setup\": \"0000000000000000\", \"marker_out\": \"{text}\", \"moves\": 0, \"reaches\": 0"
+        )));
+    }
+
+    #[test]
+    fn what_is_written_is_read_again() {
+        let lines = generated_vectors(1, 60);
+        for line in &lines {
+            assert_eq!(compare_line(line), Ok(()), "{line}");
+        }
+        for act in ["start", "check", "judge", "walk", "chain", "printed"] {
+            let start = format!("{{\"act\": \"{act}\"");
+            assert!(lines.iter().any(|line| line.starts_with(&start)), "{act}");
+        }
+    }
+
+    #[test]
+    fn a_wrong_answer_is_found() {
+        let right = check_line("edge", EXAMPLE, 2);
+        assert!(compare_line(&right.replace("yes", "no")).is_err());
+        let right = walk_line("edge", EXAMPLE, &start_checkpoint(), 1);
+        assert!(compare_line(&right.replace("\"moves\": 1", "\"moves\": 2")).is_err());
+    }
+}

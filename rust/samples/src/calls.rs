@@ -1,0 +1,81 @@
+//! What calls get beside the input: assignments, budgets, and checkpoints that a walk may or may not have.
+
+use crate::random::Random;
+
+/// The bytes of a checkpoint.
+type Checkpoint = [u8; 50];
+
+/// An assignment that may well be a model, or one with any bits.
+pub fn some_assignment(random: &mut Random, input: &[u8]) -> u64 {
+    let variables = u64::from(input.get(1).copied().unwrap_or(1).clamp(1, 48));
+    let bits = random.bits() & ((1 << variables) - 1);
+    match random.below(8) {
+        0 => bits | 1 << random.below(64),
+        1 => random.bits(),
+        2 => 0,
+        3 => (1 << variables) - 1,
+        _ => bits,
+    }
+}
+
+/// A budget, large or small.
+pub fn some_budget(random: &mut Random) -> u32 {
+    match random.below(10) {
+        0 => 0,
+        1 => 1,
+        2 | 3 => random.between(2, 12) as u32,
+        4 => 95,
+        5 | 6 => 96,
+        7 => u32::MAX,
+        8 => random.below(200) as u32,
+        _ => random.bits() as u32,
+    }
+}
+
+/// The checkpoint cut to a length, with a mode, and with the last value turned or not. The walk often has it.
+fn cut(random: &mut Random, mut checkpoint: Checkpoint) -> Checkpoint {
+    // Short ones are more likely: most trials are made near the root.
+    let longest = random.below(usize::from(checkpoint[1]).min(48) + 1);
+    let length = random.below(longest + 1);
+    checkpoint[0] = random.pick(&[1, 2, 3]);
+    checkpoint[1] = length as u8;
+    checkpoint[2 + length..].fill(0);
+    if length > 0 && random.percent(60) {
+        checkpoint[1 + length] ^= 128;
+    }
+    checkpoint
+}
+
+/// The checkpoint with some other change.
+fn changed(random: &mut Random, mut checkpoint: Checkpoint) -> Checkpoint {
+    let at = random.below(50);
+    match random.below(7) {
+        0 => checkpoint[0] = random.pick(&[0, 1, 2, 3, 4, 5, 6, 128, 255]),
+        1 => checkpoint[1] = checkpoint[1].wrapping_add(random.pick(&[1, 2, 255, 128])),
+        2 => checkpoint[1] = random.byte(),
+        3 => checkpoint[at] ^= 1 << random.below(8),
+        4 => checkpoint[49] = random.byte(),
+        5 => checkpoint[2..].swap(random.below(48), random.below(48)),
+        _ => checkpoint[at] = random.byte(),
+    }
+    checkpoint
+}
+
+/// A checkpoint from those that walks have returned, as it is or changed, or one from nowhere.
+pub fn some_checkpoint(random: &mut Random, pool: &[Checkpoint]) -> Checkpoint {
+    if pool.is_empty() || random.percent(3) {
+        let mut checkpoint = [0; 50];
+        match random.below(3) {
+            0 => checkpoint.fill_with(|| random.byte()),
+            1 => checkpoint[..4].fill_with(|| random.below(6) as u8),
+            _ => {}
+        }
+        return checkpoint;
+    }
+    let checkpoint = random.pick(pool);
+    match random.below(10) {
+        0..=3 => checkpoint,
+        4..=7 => cut(random, checkpoint),
+        _ => changed(random, checkpoint),
+    }
+}
