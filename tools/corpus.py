@@ -194,7 +194,7 @@ def formula_vector(number, given):
     return [coded(number, given, answer, b'')]
 
 
-# Edge cases. The expected answers are written here by hand, from document 01.
+# Edge cases. The expected answers are written here by hand, from docs/SPECIFICATION.md.
 EXAMPLE = '01 02 02 01 02 02 04 03 01 03 02 04 05'
 EMPTY = ' 04'          # an empty clause
 TRUE = ' 02 01 04'     # the clause of variable 1 as true
@@ -203,7 +203,7 @@ LONGEST = '01 30' + 96 * WIDE + ' 05'  # 9,315 bytes
 
 # check: input, assignment, what the answer says, and the refusal's number and place
 CHECK_EDGES = [
-    # document 01's example: clauses (1, 2) and (not 1, not 2)
+    # the specification's example: clauses (1, 2) and (not 1, not 2)
     (EXAMPLE, 0b00, NO, 0, 0),
     (EXAMPLE, 0b01, YES, 0, 0),
     (EXAMPLE, 0b10, YES, 0, 0),

@@ -1,4 +1,4 @@
-//! Matching clauses with variables (01: pairing), and the act judge.
+//! Matching clauses with variables (S5; request: pairing), and the act judge.
 
 use norwythai_reference::bits::{bit, lowest, numbers};
 use norwythai_reference::{judge_with, Formula, Refusal, Size, MAX_CLAUSES, MAX_VARIABLES};
@@ -17,7 +17,7 @@ pub(crate) struct Matching {
     seen_from: [u8; MAX_VARIABLES],
     /// The queue of a search: its root, and a clause for each seen variable.
     queue: [u8; MAX_VARIABLES + 1],
-    /// Clauses taken off the queue in all searches (01: reaches).
+    /// Clauses taken off the queue in all searches (S5.3, expansions; request: reaches).
     expansions: u64,
     /// How many of them belong to the last search that failed.
     last_taken: usize,
@@ -69,7 +69,7 @@ impl Matching {
         self.variable_of[clause] = variable as u8;
     }
 
-    /// The search of 01, in its order: clause by clause from the front of the queue, the variables of each upward. Most clauses
+    /// The search of S5.2, in its order: clause by clause from the front of the queue, the variables of each upward. Most clauses
     /// need none, so that only [`Matching::add`] is inlined.
     #[inline(never)]
     fn search(&mut self, named: &[u64], live: u64, root: usize) -> bool {

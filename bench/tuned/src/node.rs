@@ -1,4 +1,4 @@
-//! Nodes of the walk (01: places), and which variable is assigned next there.
+//! Nodes of the walk (request: places), and which variable is assigned next there.
 
 use crate::matching::Matching;
 use norwythai_reference::bits::{bit, highest, lowest, numbers};
@@ -157,7 +157,7 @@ impl Node {
         }
     }
 
-    /// Eliminates pure literals (01: stripping): always the lowest variable that is named in only one way.
+    /// S6.2, eliminates pure literals (request: stripping): always the lowest variable that is named in only one way.
     #[inline]
     fn strip(&self, formula: &Occurrences) -> Stripped {
         let mut left = *self;

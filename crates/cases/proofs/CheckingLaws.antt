@@ -3,7 +3,7 @@ use Prim.Native.Nat.{ℕ, _+_, _-_}
 use mathlib.Core.List.{List}
 use mathlib.Core.Path.{_≡_}
 use lib.ListN.{take, drop}
-use Rattle.formula.specs.Check.{checked}
+use Rattle.formula.specs.Check.{VerdictValues, checked}
 use Rattle.cases.specs.declared.answers.Answer.{Answer}
 use Rattle.cases.specs.declared.corpus.Vector.{Vector}
 use Rattle.cases.specs.Answers.{expected, same-answer}
@@ -11,7 +11,7 @@ use Rattle.cases.specs.Checking.{check-written, check-agrees}
 use Rattle.cases.specs.Corpus.{eight-bytes}
 
 pub compared :
-    (s : List ℕ) (v : Vector) (wanted got : Answer) (values : Values) (assignment : ℕ) →
+    (s : List ℕ) (v : Vector) (wanted got : Answer) (values : VerdictValues) (assignment : ℕ) →
     wanted ≡ expected s (v .end) →
     got ≡ check-written values →
     values ≡ checked (take (v .end - v .start) (drop (v .start) s)) assignment →

@@ -7,7 +7,7 @@ use Rattle.limits.specs.Limits.{max-clauses}
 use Rattle.formula.specs.declared.Refusal.{Refusal}
 use Rattle.formula.specs.declared.Refusal.the-variants.{ShortBuffer, Truncated, UnknownKind, Misplaced, BadVariableCount, NoSuchVariable, RepeatedVariable, TooManyClauses, TrailingByte, Unmatched, ForeignCheckpoint, StrayVariable}
 use Rattle.formula.specs.Refusals.{table-row}
-use Rattle.matched.specs.Judge.{judge}
+use Rattle.matched.specs.Judge.{JudgementValues, judge}
 use Rattle.cases.specs.declared.answers.Answer.{Answer}
 use Rattle.cases.specs.declared.corpus.Vector.{Vector}
 use Rattle.cases.specs.declared.judging.Judged.{Judged}
@@ -32,7 +32,7 @@ refusal-code (StrayVariable p) = refl
 
 -- what the call gives, from what its parts give
 pub judged-of :
-    (s array buffer : List ℕ) (size fill : ℕ) (values : Values) (answer : Answer) →
+    (s array buffer : List ℕ) (size fill : ℕ) (values : JudgementValues) (answer : Answer) →
     array ≡ filled fill →
     answer ≡ judge-written values →
     values ≡ judge s (take size array) .answer →

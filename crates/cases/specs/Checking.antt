@@ -3,7 +3,7 @@ use Prim.Native.Nat.{ℕ, _+_, _-_}
 use mathlib.Core.Bool.{Bool}
 use mathlib.Core.List.{List}
 use lib.ListN.{take, drop}
-use Rattle.formula.specs.Check.{Said, said-yes, said-no, said-neither, checked}
+use Rattle.formula.specs.Check.{VerdictValues, Said, said-yes, said-no, said-neither, checked}
 use Rattle.cases.specs.declared.answers.Answer.{Answer}
 use Rattle.cases.specs.declared.corpus.Vector.{Vector}
 use Rattle.cases.specs.Answers.{plain, expected, same-answer}
@@ -15,7 +15,7 @@ said-code said-no = 0
 said-code said-yes = 1
 said-code said-neither = 2
 
-abbrev pub check-written : Values → Answer
+abbrev pub check-written : VerdictValues → Answer
 check-written a = plain (said-code (a .said)) (a .number) (a .place)
 
 -- check of the vector's input and assignment has the expected answer

@@ -5,7 +5,7 @@ use mathlib.Core.List.{List, _++_}
 use lib.Dec.{eqb}
 use lib.ListN.{getD, take, drop, replicate}
 use Rattle.limits.specs.Limits.{max-clauses}
-use Rattle.matched.specs.Judge.{judge}
+use Rattle.matched.specs.Judge.{JudgementValues, judge}
 use Rattle.cases.specs.declared.answers.Answer.{Answer}
 use Rattle.cases.specs.declared.corpus.Vector.{Vector}
 use Rattle.cases.specs.declared.judging.Judged.{Judged}
@@ -17,7 +17,7 @@ abbrev pub number-code : ℕ → ℕ
 number-code zero = 3
 number-code (suc n) = 2
 
-abbrev pub judge-written : Values → Answer
+abbrev pub judge-written : JudgementValues → Answer
 judge-written a = record {
   says = number-code (a .number);
   number = a .number;

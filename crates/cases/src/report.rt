@@ -99,12 +99,6 @@ pub fn wrong_byte(at: usize, wanted: u8, got: u8) {
     text(b"\n");
 }
 
-// A file that is not there.
-pub fn unopened(name: &[u8]) {
-    text(name);
-    text(b": not opened\n");
-}
-
 // A file whose vector at an offset runs past its end.
 pub fn broken(name: &[u8], at: usize) {
     text(name);

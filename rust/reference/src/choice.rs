@@ -1,4 +1,4 @@
-//! Which variable is assigned next (01: which switch is settled next).
+//! Which variable is assigned next (S6; request: which switch is settled next).
 
 use crate::bits::{bit, highest, lowest, numbers};
 use crate::formula::{Clause, Formula, MAX_VARIABLES};
@@ -88,7 +88,7 @@ impl Clauses {
     }
 }
 
-/// The noted variables of pure literal elimination (01: stripping).
+/// The noted variables of pure literal elimination (S6.2; request: stripping).
 struct Noted {
     all: u64,
     /// Means something if some variable is noted.

@@ -1,14 +1,14 @@
-//! Encoded formulas (01: sheets): reading them, and checking one assignment.
+//! Encoded formulas (S2; request: sheets): reading them, and checking one assignment.
 
 use crate::bits::bit;
 
-/// The most variables (01: switches) that a formula has.
+/// The most variables (request: switches) that a formula has.
 pub const MAX_VARIABLES: usize = 48;
 
-/// The most clauses (01: rules) that a formula has.
+/// The most clauses (request: rules) that a formula has.
 pub const MAX_CLAUSES: usize = 96;
 
-/// A refusal: its number and place in 01's table.
+/// A refusal: its number and place in the table of S3.1.
 #[derive(Clone, Copy, Debug, PartialEq, Eq)]
 pub struct Refusal {
     /// 1 to 12.
@@ -24,7 +24,7 @@ impl Refusal {
     }
 }
 
-/// A clause (01: rule): the variables of its positive literals (named as on) and of its negative ones (named as off).
+/// A clause (request: rule): the variables of its positive literals (named as on) and of its negative ones (named as off).
 #[derive(Clone, Copy, Debug, Default, PartialEq, Eq)]
 pub struct Clause {
     /// Bit v is set if variable v is a positive literal.
@@ -72,7 +72,7 @@ impl Formula {
     }
 }
 
-/// Reads an encoded formula, or gives the first refusal of 2 to 9 in 01's order of checks.
+/// Reads an encoded formula, or gives the first refusal of 2 to 9 in the order of S3.2.
 pub fn decode(input: &[u8]) -> Result<Formula, Refusal> {
     let mut formula = Formula {
         variables: decode_variables(input)?,

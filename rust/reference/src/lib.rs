@@ -1,8 +1,8 @@
-//! A plain implementation of document 01, which shares nothing with the proved one: the oracle that its answers are compared
+//! A plain implementation of docs/SPECIFICATION.md, which shares nothing with the proved one: the oracle that its answers are compared
 //! with, and the baseline of its speed.
 //!
-//! It does what 01 says, step by step, over masks and arrays, and nothing more: no tables are kept beside the formula and
-//! nothing is carried from one choice to the next, so that each function can be read beside 01's paragraph.
+//! It does what the specification says, step by step, over masks and arrays, and nothing more: no tables are kept beside the formula and
+//! nothing is carried from one choice to the next, so that each function can be read beside its section (S-numbers).
 //!
 //! The acts are [`check`], [`judge`], [`start_checkpoint`], [`walk`] and [`list`]; [`print()`] writes the printed walk. Variables
 //! count from 0 in the code, so that variable v is bit v of a mask; in bytes they count from 1 (switch s is variable s - 1).

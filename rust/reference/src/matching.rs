@@ -1,4 +1,4 @@
-//! Matching clauses with variables (01: pairing), and the act judge.
+//! Matching clauses with variables (S5; request: pairing), and the act judge.
 
 use crate::bits::{bit, numbers};
 use crate::formula::{decode, Formula, Refusal, MAX_CLAUSES, MAX_VARIABLES};
@@ -17,7 +17,7 @@ pub(crate) struct Matching {
     queue: [u8; MAX_VARIABLES + 1],
     /// How many clauses the last search took off its queue.
     taken: usize,
-    /// The clauses taken off in all searches (01: reaches).
+    /// The clauses taken off in all searches (S5.3, expansions; request: reaches).
     expansions: u64,
 }
 
@@ -96,7 +96,7 @@ impl Matching {
     }
 
     /// Matches all clauses of a formula, in their order: by clause its variable, or, if that cannot be, the violator: the clauses
-    /// that the failed search took off its queue (01: the marked rules).
+    /// that the failed search took off its queue (S5.5; request: the marked rules).
     fn match_formula(&mut self, formula: &Formula) -> Result<&[u8], &[u8]> {
         let mut named = [0; MAX_CLAUSES];
         for (set, clause) in named.iter_mut().zip(formula.clauses()) {
@@ -128,7 +128,7 @@ pub struct Size {
     pub clauses: usize,
 }
 
-/// The act judge, with a lent buffer (01: slate). Matched: byte i becomes the variable, from 1, of clause i (from 0).
+/// S5.7, the act judge, with a lent buffer (request: slate). Matched: byte i becomes the variable, from 1, of clause i (from 0).
 /// Unmatched: byte i becomes 1 if clause i is of the violator, else 0. Other bytes stay as they are.
 pub fn judge(input: &[u8], buffer: &mut [u8]) -> Result<Size, Refusal> {
     let matching = &mut Matching::new();

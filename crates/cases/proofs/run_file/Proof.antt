@@ -11,9 +11,6 @@ use Rattle.cases.proofs.run_file.Tie as tie
 open-read-requires : tie.Need-open-read-requires
 open-read-requires c κs = search needs
 
-unopened-requires : tie.Need-unopened-requires
-unopened-requires c κs = search needs
-
 returns : tie.Need-returns
 unfolding run-from run-of
 returns c = record { bytes = []; totals = refl; grown = record { vectors = omega arith; differences = omega arith } }
@@ -56,7 +53,6 @@ run-file-spec =
     tie.close
     (tie.spec
     open-read-requires
-    unopened-requires
     returns
     large-buffer-requires
     slice-aggregate-read-full

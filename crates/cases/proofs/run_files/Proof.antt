@@ -9,11 +9,11 @@ use Rattle.cases.proofs.run_files.Statement.{statement}
 use Rattle.cases.proofs.run_files.Tie as tie
 
 abbrev Inv-loop : tie.InvT-loop
-Inv-loop name count act unit path₀ end t₀ i₀ path t i =
-    (i ≤ count) × (end < 16) × (length path ≡ 16) × (t .vectors ≤ i * 65536) × (t .differences ≤ i * 65536)
+Inv-loop name act unit path₀ end t₀ i₀ path t i =
+    (i ≤ 26) × (end < 16) × (length path ≡ 16) × (t .vectors ≤ i * 65536) × (t .differences ≤ i * 65536)
 
 abbrev μ-loop : tie.MeasureT-loop
-μ-loop name count act unit path₀ end t₀ i₀ path t i = count - i
+μ-loop name act unit path₀ end t₀ i₀ path t i = 26 - i
 
 slice-aggregate-copy : tie.Need-slice-aggregate-copy Inv-loop μ-loop
 slice-aggregate-copy c = search needs
@@ -28,7 +28,7 @@ loop-holds : tie.Need-loop-holds Inv-loop μ-loop
 loop-holds c =
     let p = c .before .before in (
       omega arith,
-      rw (p .copy .ensures .0) (p .before .before .before .before .pre .0),
+      rw (p .copy .ensures .0) (p .before .before .before .before .pre),
       p .copy .kept .1 .0 ∙ slice-aggregate-copy (p .before),
       omega arith,
       omega arith,
