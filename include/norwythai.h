@@ -51,13 +51,13 @@
  *   number  trade's word     given if                                            place
  *    1      short slate      judge is lent a buffer below 96 bytes               0
  *    2      cut short        the input runs out within a record or before kind 5 length of the input
- *    3      unknown kind     a kind byte is not 1 to 5                           that byte
- *    4      misplaced        the kind may not stand here                         that byte
- *    5      bad kit          n is 0 or above 48                                  the kind byte
- *    6      no such switch   a variable is 0 or above n                          the kind byte
- *    7      named twice      the clause already has the variable                 the kind byte
- *    8      too many rules   the 97th clause ends                                the kind byte
- *    9      tail             a byte follows kind 5                               that byte
+ *    3      unknown kind     a record's kind is 0 or above 5                     its kind byte
+ *    4      misplaced        a record of this kind may not come here             its kind byte
+ *    5      bad kit          n is not 1 to 48                                    its kind byte
+ *    6      no such switch   a literal's variable is not 1 to n                  its kind byte
+ *    7      named twice      the clause already has the variable                 its kind byte
+ *    8      too many rules   a 97th clause ends                                  its kind byte
+ *    9      tail             the input goes on behind kind 5                     first byte behind
  *   10      over-ruled       the clauses can't be matched with variables         number of marked clauses
  *   11      foreign marker   the walk of this input never has this checkpoint    0
  *   12      stray switch     a checked assignment has a variable above n true    0

@@ -20,7 +20,7 @@ use std::fmt;
 pub enum Refusal {
     /// 1: the buffer lent to judge has fewer than 96 bytes.
     ShortBuffer,
-    /// 2: the bytes run out before a record is whole or before the formula's end.
+    /// 2: the input stops within a record, or without the record that ends the formula.
     Truncated {
         /// The length of the input.
         place: usize,
