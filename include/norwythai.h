@@ -67,6 +67,8 @@
  *
  * A CHECKPOINT is NORWYTHAI_CHECKPOINT bytes that say where a walk stands: mode, length, 48 bytes of trail. norwythai_start gives the
  * first, norwythai_walk and norwythai_list each the next. It can be kept, copied and sent anywhere, and used again with the same input.
+ * It holds no mark of that input: keep beside it which one it is of. With another input it is refused by 11 where it does not fit, and
+ * taken where it happens to.
  *
  * THE RETURNED NUMBER of every function is 0 if the results (norwythai_start: the checkpoint) were written, and 1 if `results_length`
  * is not NORWYTHAI_RESULTS or `checkpoint_length` is not NORWYTHAI_CHECKPOINT: then no byte of any buffer has changed. A refusal is an

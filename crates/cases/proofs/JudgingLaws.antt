@@ -1,4 +1,4 @@
--- Laws of `judged` and `judge-agrees`.
+-- Laws of `judge-filled` and `judge-agrees`.
 use Prim.Native.Nat.{ℕ, _+_, _-_}
 use mathlib.Core.List.{List, _++_}
 use mathlib.Core.Path.{_≡_, refl}
@@ -13,7 +13,7 @@ use Rattle.cases.specs.declared.corpus.Vector.{Vector}
 use Rattle.cases.specs.declared.judging.Judged.{Judged}
 use Rattle.cases.specs.Answers.{expected}
 use Rattle.cases.specs.Comparing.{first-wrong}
-use Rattle.cases.specs.Judging.{number-code, judge-written, filled, judged, judge-alike, judge-agrees}
+use Rattle.cases.specs.Judging.{number-code, judge-written, filled, judge-filled, judge-alike, judge-agrees}
 
 -- every refusal has a number
 pub refusal-code : (r : Refusal) → number-code (table-row r .number) ≡ 2
@@ -31,22 +31,22 @@ refusal-code (ForeignCheckpoint p) = refl
 refusal-code (StrayVariable p) = refl
 
 -- what the call gives, from what its parts give
-pub judged-of :
+pub judge-filled-of :
     (s array buffer : List ℕ) (size fill : ℕ) (values : JudgementValues) (answer : Answer) →
     array ≡ filled fill →
     answer ≡ judge-written values →
     values ≡ judge s (take size array) .answer →
     buffer ≡ judge s (take size array) .buffer →
-    record { answer = answer; array = buffer ++ drop size array } ≡ judged s size fill
-unfolding judged
-judged-of s array buffer size fill values answer f a v b = rw (a, v, b, f)
+    record { answer = answer; array = buffer ++ drop size array } ≡ judge-filled s size fill
+unfolding judge-filled
+judge-filled-of s array buffer size fill values answer f a v b = rw (a, v, b, f)
 
 -- the comparison is that of `judge-agrees`, since each side is what its function ensures
 pub compared :
     (s : List ℕ) (v : Vector) (wanted : Answer) (size : ℕ) (got : Judged) (wrong : ℕ) →
     wanted ≡ expected s (v .end) →
     size ≡ getD s (v .end + 6) 0 →
-    got ≡ judged (take (v .end - v .start) (drop (v .start) s)) size (getD s (v .end + 7) 0) →
+    got ≡ judge-filled (take (v .end - v .start) (drop (v .start) s)) size (getD s (v .end + 7) 0) →
     wrong ≡ first-wrong s (v .end + 8) max-clauses (getD s (v .end + 7) 0) (got .array) →
     judge-alike wanted (got .answer) wrong ≡ judge-agrees s v
 unfolding judge-agrees

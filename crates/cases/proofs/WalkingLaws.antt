@@ -16,7 +16,7 @@ use Rattle.enumeration.specs.Values.{checkpoint-values, answer-values, walked-v
 use Rattle.cases.specs.declared.corpus.Vector.{Vector}
 use Rattle.cases.specs.declared.walking.Told.{Told}
 use Rattle.cases.specs.Corpus.{four-bytes}
-use Rattle.cases.specs.Walking.{checkpoint-size, walk-written, expected-call, walk-alike, origin, called, checkpoint-wrong, start-agrees, walk-agrees}
+use Rattle.cases.specs.Walking.{stored-checkpoint-size, walk-written, expected-call, walk-alike, origin, called, checkpoint-wrong, start-agrees, walk-agrees}
 
 -- a byte of the trail is two places on in the checkpoint
 pub past-two :
@@ -60,7 +60,7 @@ calling s v last from budget r f b e = rw (e, f, b)
 
 pub start-compared :
     (s : List ℕ) (v : Vector) (c : Checkpoint) (wrong : ℕ) →
-    c ≡ start → wrong ≡ checkpoint-wrong s (v .end) c → eqb wrong checkpoint-size ≡ start-agrees s v
+    c ≡ start → wrong ≡ checkpoint-wrong s (v .end) c → eqb wrong stored-checkpoint-size ≡ start-agrees s v
 unfolding start-agrees
 start-compared s v c wrong e f = rw (f, e)
 

@@ -10,13 +10,13 @@ use Rattle.cases.specs.Answers.{plain, expected, same-answer}
 use Rattle.cases.specs.Corpus.{eight-bytes}
 
 -- how the corpus writes what an answer says
-abbrev pub said-code : Said → ℕ
-said-code said-no = 0
-said-code said-yes = 1
-said-code said-neither = 2
+abbrev pub said-byte : Said → ℕ
+said-byte said-no = 0
+said-byte said-yes = 1
+said-byte said-neither = 2
 
 abbrev pub check-written : VerdictValues → Answer
-check-written a = plain (said-code (a .said)) (a .number) (a .place)
+check-written a = plain (said-byte (a .said)) (a .number) (a .place)
 
 -- check of the vector's input and assignment has the expected answer
 unfoldable pub check-agrees : List ℕ → Vector → Bool

@@ -31,8 +31,8 @@ abbrev pub filled : ℕ → List ℕ
 filled fill = replicate 256 fill
 
 -- judge of an input with a buffer of a size: the answer, and the array after the call
-unfoldable pub judged : List ℕ → ℕ → ℕ → Judged
-judged s size fill =
+unfoldable pub judge-filled : List ℕ → ℕ → ℕ → Judged
+judge-filled s size fill =
     let j = judge s (take size (filled fill)) in
     record { answer = judge-written (j .answer); array = j .buffer ++ drop size (filled fill) }
 
@@ -44,5 +44,5 @@ judge-alike wanted got wrong = same-answer wanted got && eqb wrong 256
 unfoldable pub judge-agrees : List ℕ → Vector → Bool
 judge-agrees s v =
     let fill = getD s (v .end + 7) 0 in
-    let j = judged (take (v .end - v .start) (drop (v .start) s)) (getD s (v .end + 6) 0) fill in
+    let j = judge-filled (take (v .end - v .start) (drop (v .start) s)) (getD s (v .end + 6) 0) fill in
     judge-alike (expected s (v .end)) (j .answer) (first-wrong s (v .end + 8) max-clauses fill (j .array))

@@ -18,13 +18,13 @@ use Rattle.cases.specs.Judging.{judge-agrees}
 use Rattle.cases.specs.Prints.{print-agrees}
 use Rattle.cases.specs.Totals.{counted, Grown}
 use Rattle.cases.specs.Trying.{compare-agrees}
-use Rattle.cases.specs.Walking.{checkpoint-size, start-agrees, walk-agrees, walk-leaves}
+use Rattle.cases.specs.Walking.{stored-checkpoint-size, start-agrees, walk-agrees, walk-leaves}
 
 -- the size of the fields of an act's vector
 abbrev pub size-of : Act → ℕ
 size-of Check = 14
 size-of Judge = 104
-size-of Start = checkpoint-size
+size-of Start = stored-checkpoint-size
 size-of Walk = 127
 size-of Compare = 6
 size-of Print = 0

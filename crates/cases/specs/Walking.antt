@@ -18,15 +18,15 @@ use Rattle.cases.specs.Comparing.{first-wrong}
 use Rattle.cases.specs.Corpus.{four-bytes, eight-bytes}
 
 -- how the corpus writes what an answer says
-abbrev pub kind-code : AnswerKind → ℕ
-kind-code says-model = 4
-kind-code says-spent = 5
-kind-code says-ended = 6
-kind-code says-refused = 2
+abbrev pub kind-byte : AnswerKind → ℕ
+kind-byte says-model = 4
+kind-byte says-spent = 5
+kind-byte says-ended = 6
+kind-byte says-refused = 2
 
 abbrev pub walk-written : Result → Told
 walk-written r = record {
-  answer = plain (kind-code (r .kind)) (r .number) (r .place);
+  answer = plain (kind-byte (r .kind)) (r .number) (r .place);
   model = r .model;
   steps = r .steps;
   expansions = r .expansions;
@@ -42,8 +42,8 @@ expected-call s at = record {
 }
 
 -- the bytes of a checkpoint: its mode, its length and its trail
-abbrev pub checkpoint-size : ℕ
-checkpoint-size = 2 + max-variables
+abbrev pub stored-checkpoint-size : ℕ
+stored-checkpoint-size = 2 + max-variables
 
 -- the checkpoint at an offset: its mode, its length, its trail
 abbrev pub checkpoint-at : List ℕ → ℕ → Checkpoint
@@ -69,12 +69,12 @@ checkpoint-wrong s at c =
 -- no byte of the checkpoint is wrong, and all else is the same
 abbrev pub walk-alike : Told → Told → ℕ → Bool
 walk-alike a b wrong =
-    eqb wrong checkpoint-size && eqb (a .model) (b .model) && eqb (a .steps) (b .steps) && eqb (a .expansions) (b .expansions)
+    eqb wrong stored-checkpoint-size && eqb (a .model) (b .model) && eqb (a .steps) (b .steps) && eqb (a .expansions) (b .expansions)
     && same-answer (a .answer) (b .answer)
 
 -- the start checkpoint is the expected one
 unfoldable pub start-agrees : List ℕ → Vector → Bool
-start-agrees s v = eqb (checkpoint-wrong s (v .end) start) checkpoint-size
+start-agrees s v = eqb (checkpoint-wrong s (v .end) start) stored-checkpoint-size
 
 -- the vector's call gives what it must
 unfoldable pub walk-agrees : List ℕ → Vector → Checkpoint → Bool

@@ -3,7 +3,7 @@ ghost use Prim.Native.Nat.{_+_, _≤_};
 ghost use mathlib.Core.Path.{_≡_};
 ghost use lib.ListN.{length, replicate};
 ghost use Rattle.matched.specs.Judge.{judgement-values};
-ghost use Rattle.cases.specs.Judging.{judge-written, judged, judge-alike, judge-agrees};
+ghost use Rattle.cases.specs.Judging.{judge-written, judge-filled, judge-alike, judge-agrees};
 use crate::answers::Answer;
 use crate::answers::equal;
 use crate::answers::expected_at;
@@ -45,7 +45,7 @@ fn filled(fill: u8) -> [u8; 256]
 // Judges an input, with a filled buffer of the given size.
 fn judge_filled(input: &[u8], size: usize, fill: u8) -> Judged
     requires { ⌜ size ≤ 256 ⌝ }
-    ensures { λ r. ⌜ r ≡ judged (now (input .entry)) size fill ⌝ }
+    ensures { λ r. ⌜ r ≡ judge-filled (now (input .entry)) size fill ⌝ }
 {
     let mut array = filled(fill);
     let answer = answer_of(matched::find_matching(input, &mut array[..size]));

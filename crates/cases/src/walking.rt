@@ -5,7 +5,7 @@ ghost use mathlib.Core.Path.{_≡_};
 ghost use lib.ListN.{length, getD, take, drop};
 ghost use Rattle.limits.specs.Limits.{max-variables};
 ghost use Rattle.enumeration.specs.Values.{checkpoint-values, walked-values};
-ghost use Rattle.cases.specs.Walking.{walk-written, expected-call, checkpoint-size, walk-alike, checkpoint-at, origin, called, checkpoint-wrong, start-agrees, walk-agrees, walk-leaves, Gives};
+ghost use Rattle.cases.specs.Walking.{walk-written, expected-call, stored-checkpoint-size, walk-alike, checkpoint-at, origin, called, checkpoint-wrong, start-agrees, walk-agrees, walk-leaves, Gives};
 use crate::answers::Answer;
 use crate::answers::bare;
 use crate::answers::equal;
@@ -114,7 +114,7 @@ fn trail_at(bytes: &[u8], at: usize) -> [u8; limits::MAX_VARIABLES]
 
 // The checkpoint at an offset.
 fn checkpoint_at(bytes: &[u8], at: usize) -> Checkpoint
-    requires { ⌜ at + checkpoint-size ≤ length (now bytes) ⌝ }
+    requires { ⌜ at + stored-checkpoint-size ≤ length (now bytes) ⌝ }
     ensures { λ r. ⌜ checkpoint-values r ≡ checkpoint-at (now (bytes .entry)) at ⌝ }
 {
     Checkpoint {
@@ -126,7 +126,7 @@ fn checkpoint_at(bytes: &[u8], at: usize) -> Checkpoint
 
 // The checkpoint that the call gets, by the byte at an offset: 0 the one that follows, 1 the start checkpoint, else the last.
 fn call_origin(bytes: &[u8], at: usize, last: Checkpoint) -> Checkpoint
-    requires { ⌜ at + 1 + checkpoint-size ≤ length (now bytes) ⌝ }
+    requires { ⌜ at + 1 + stored-checkpoint-size ≤ length (now bytes) ⌝ }
     ensures { λ r. ⌜ checkpoint-values r ≡ origin (now (bytes .entry)) at (checkpoint-values last) ⌝ }
 {
     let from = bytes[at];
@@ -153,7 +153,7 @@ fn call(bytes: &[u8], v: Vector, last: Checkpoint) -> Walked
 
 // The byte of a checkpoint at i: its mode, its length, its trail.
 fn checkpoint_byte(c: Checkpoint, i: usize) -> u8
-    requires { ⌜ i < checkpoint-size ⌝ }
+    requires { ⌜ i < stored-checkpoint-size ⌝ }
     ensures { λ r. ⌜ r ≡ getD (c .mode ∷ (c .length ∷ c .bytes)) i 0 ⌝ }
 {
     if i == 0 {
@@ -168,7 +168,7 @@ fn checkpoint_byte(c: Checkpoint, i: usize) -> u8
 
 // Where the checkpoint first has another byte than stands in the file from an offset on; its size if nowhere.
 fn checkpoint_wrong(bytes: &[u8], at: usize, c: Checkpoint) -> usize
-    requires { ⌜ at + checkpoint-size ≤ length (now bytes) ⌝ }
+    requires { ⌜ at + stored-checkpoint-size ≤ length (now bytes) ⌝ }
     ensures { λ r. ⌜ r ≡ checkpoint-wrong (now (bytes .entry)) at (checkpoint-values c) ⌝ }
 {
     if c.mode != bytes[at] {
@@ -182,7 +182,7 @@ fn checkpoint_wrong(bytes: &[u8], at: usize, c: Checkpoint) -> usize
 }
 
 fn report_byte(bytes: &[u8], at: usize, c: Checkpoint, wrong: usize)
-    requires { ⌜ at + checkpoint-size ≤ length (now bytes) ⌝ }
+    requires { ⌜ at + stored-checkpoint-size ≤ length (now bytes) ⌝ }
 {
     if wrong < CHECKPOINT_SIZE {
         report::wrong_byte(wrong, bytes[at + wrong], checkpoint_byte(c, wrong));
@@ -191,7 +191,7 @@ fn report_byte(bytes: &[u8], at: usize, c: Checkpoint, wrong: usize)
 
 // Whether the start checkpoint is the expected one; a difference is printed.
 pub fn start_vector(bytes: &[u8], v: Vector) -> bool
-    requires { ⌜ v .end + checkpoint-size ≤ length (now bytes) ⌝ }
+    requires { ⌜ v .end + stored-checkpoint-size ≤ length (now bytes) ⌝ }
     ensures { λ r. ⌜ r ≡ start-agrees (now (bytes .entry)) v ⌝ }
 {
     let end = v.end;

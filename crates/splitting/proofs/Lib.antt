@@ -25,4 +25,3 @@ pub mod CompactLaws
 pub mod MaskSearchLaws
 pub mod MaskClauseLaws
 pub mod MaskChoiceLaws
-pub mod Cases

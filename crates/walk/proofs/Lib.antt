@@ -1,4 +1,3 @@
-pub mod Cases
 pub mod LocateLaws
 pub mod RestLaws
 pub mod PositionLaws

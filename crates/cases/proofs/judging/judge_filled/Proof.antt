@@ -4,7 +4,7 @@ use native.Mathlib.Omega.{arith}
 use lib.ListN.{length, length-replicate}
 use lib.Seq.{length-take-le}
 use borrow.Author.Needs.{needs}
-use Rattle.cases.proofs.JudgingLaws.{judged-of}
+use Rattle.cases.proofs.JudgingLaws.{judge-filled-of}
 use Rattle.cases.proofs.judging.judge_filled.Statement.{statement}
 use Rattle.cases.proofs.judging.judge_filled.Tie as tie
 
@@ -29,7 +29,7 @@ answer-of-requires c κs = search needs
 returns : tie.Need-returns
 returns c =
     let m = c .before .before in
-    judged-of _ _ _ _ _ _ _ (m .before .before .filled .ensures) (c .answer-of .ensures)
+    judge-filled-of _ _ _ _ _ _ _ (m .before .before .filled .ensures) (c .answer-of .ensures)
     (m .find-matching .ensures .0) (m .find-matching .ensures .1)
 
 pub judge-filled-spec : {M : Type 1} → statement M

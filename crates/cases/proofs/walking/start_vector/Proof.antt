@@ -2,7 +2,7 @@
 use mathlib.Core.Path.{_≡_, sym, _∙_}
 use borrow.Author.Tests.{eq-eqb, ne-eqb}
 use lib.Dec.{eqb}
-use Rattle.cases.specs.Walking.{checkpoint-size, start-agrees}
+use Rattle.cases.specs.Walking.{stored-checkpoint-size, start-agrees}
 use Rattle.cases.proofs.WalkingLaws.{start-compared}
 use borrow.Author.Needs.{needs}
 use Rattle.cases.proofs.walking.start_vector.Statement.{statement}
@@ -11,7 +11,7 @@ use Rattle.cases.proofs.walking.start_vector.Tie as tie
 -- what the comparison gives
 told :
     (c : tie.After-checkpoint-wrong) →
-    eqb (c .checkpoint-wrong .result) checkpoint-size ≡
+    eqb (c .checkpoint-wrong .result) stored-checkpoint-size ≡
     start-agrees (c .before .before .before .args .bytes .now) (c .before .before .before .args .v)
 told c = start-compared _ _ _ _ (c .before .start-checkpoint .ensures) (c .checkpoint-wrong .ensures)
 
