@@ -11,9 +11,10 @@ use Rattle.formula.specs.declared.Outcome.the-variants as outcomes
 use Rattle.formula.specs.InnerDecode.{decode}
 use Rattle.formula.specs.Decoding.{readable}
 use Rattle.formula.specs.Format.{Literal, Sized}
-use Rattle.formula.specs.Masked.{formula-of}
+use Rattle.formula.specs.Masked.{formula-of, decoded}
 use Rattle.formula.specs.InnerFits.{FormulaFits}
 use Rattle.matched.specs.declared.Accepted.{Accepted}
+use Rattle.matched.specs.declared.Row.{Row}
 use Rattle.matched.specs.Acceptance.{Acceptance, accepted, declined, acceptance}
 
 abbrev pub outcome-of : Acceptance → Outcome
@@ -28,6 +29,18 @@ row-of (declined r row) = row
 abbrev pub HasClauses : Acceptance → Formula → Type 0
 HasClauses (accepted n cs row) f = f ≡ formula-of n cs
 HasClauses (declined r row) f = Unit {0}
+
+-- the reader's answer to an input is this outcome with this formula
+abbrev pub Reads : List ℕ → Outcome → Formula → Type 0
+Reads s o f = record { outcome = o; formula = f } ≡ decoded s
+
+-- what was read is of the right size
+abbrev pub FitsIfRead : Outcome → Formula → Type 0
+FitsIfRead o f = o ≡ outcomes.Accepted → FormulaFits f
+
+-- a formula and its row
+abbrev pub with-row : Formula → Row → Accepted
+with-row f w = record { outcome = w .outcome; formula = f; length = w .length; table = w .table }
 
 -- r holds what comes of an input: the row stands in its table, and zeros after it
 pub record Represents (a : Acceptance) (r : Accepted) : Type 0 where

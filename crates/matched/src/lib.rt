@@ -14,7 +14,7 @@ ghost use Rattle.formula.specs.InnerFits.{FormulaFits};
 ghost use Rattle.matching.specs.Result.{packed};
 ghost use Rattle.matching.specs.Search.{outcome};
 ghost use Rattle.matched.specs.Acceptance.{acceptance, formula-acceptance};
-ghost use Rattle.matched.specs.InnerAccept.{Represents};
+ghost use Rattle.matched.specs.InnerAccept.{FitsIfRead, Reads, with-row, Represents};
 ghost use Rattle.matched.specs.InnerGather.{sets-of};
 ghost use Rattle.matched.specs.Judge.{judgement-values, judge};
 use formula::Formula;
@@ -22,8 +22,15 @@ use formula::Outcome;
 use formula::Refusal;
 use matching::Matching;
 
-// What comes of an input: whether it is accepted, its formula, and the first `length` bytes of the table: the variable of each
+// What comes of an input, beside its formula: whether it is accepted, and the first `length` bytes of the table: the variable of each
 // clause, from 1; or, where it can't be matched, 1 for a marked clause and 0 for another. An input that can't be read has no bytes.
+struct Row {
+    outcome: Outcome,
+    length: usize,
+    table: [u8; limits::MAX_CLAUSES],
+}
+
+// The same with the formula.
 pub struct Accepted {
     pub outcome: Outcome,
     pub formula: Formula,
@@ -76,44 +83,57 @@ fn raise(table: [u8; limits::MAX_CLAUSES], n: usize) -> [u8; limits::MAX_CLAUSES
 }
 
 // What comes of a formula that was read.
-fn accept_formula(f: Formula) -> Accepted
+fn match_row(f: Formula) -> Row
     requires { ⌜ FormulaFits f ⌝ }
-    ensures { λ r. ⌜ ((n : ℕ) (cs : List (List Literal)) → Sized n cs → f ≡ formula-of n cs → Represents (formula-acceptance n cs) r) ⌝ }
+    ensures { λ r. ⌜ ((n : ℕ) (cs : List (List Literal)) → Sized n cs → f ≡ formula-of n cs → Represents (formula-acceptance n cs) (with-row f r)) ⌝ }
 {
     let count = f.count;
     let m = match_formula(f);
     let table = m.table;
     if m.complete {
-        return Accepted {
+        return Row {
             outcome: Outcome::Accepted,
-            formula: f,
             length: count,
             table: raise(table, count),
         };
     }
-    Accepted {
+    Row {
         outcome: Outcome::Refused(Refusal::Unmatched(m.marked)),
-        formula: f,
         length: count,
         table,
     }
 }
 
-// What comes of an input, for every act that asks for a matched formula.
+// What comes of the reader's answer.
+fn row_of(outcome: Outcome, f: Formula) -> Row
+    requires { ⌜ FitsIfRead outcome f ⌝ }
+    ensures { λ r. ⌜ ((s : List ℕ) → Reads s outcome f → Represents (acceptance s) (with-row f r)) ⌝ }
+{
+    match outcome {
+        Outcome::Refused(refusal) => Row {
+            outcome: Outcome::Refused(refusal),
+            length: 0,
+            table: [0u8; limits::MAX_CLAUSES],
+        },
+        Outcome::Accepted => match_row(f),
+    }
+}
+
+// What comes of an input, for every act that goes on with the formula.
 pub fn accept(input: &[u8]) -> Accepted
     ensures { λ r. ⌜ Represents (acceptance (now (input .entry))) r ⌝ }
 {
     let d = formula::decode(input);
-    let outcome = d.outcome;
+    let read = d.outcome;
     let f = d.formula;
-    match outcome {
-        Outcome::Refused(refusal) => Accepted {
-            outcome: Outcome::Refused(refusal),
-            formula: f,
-            length: 0,
-            table: [0u8; limits::MAX_CLAUSES],
-        },
-        Outcome::Accepted => accept_formula(f),
+    let row = row_of(read, f);
+    let outcome = row.outcome;
+    let table = row.table;
+    Accepted {
+        outcome,
+        formula: f,
+        length: row.length,
+        table,
     }
 }
 
@@ -138,15 +158,15 @@ pub fn find_matching(input: &[u8], buffer: &mut [u8]) -> Judgement
     if buffer.len() < limits::MAX_CLAUSES {
         return Judgement::Refused(Refusal::ShortBuffer(0));
     }
-    let a = accept(input);
-    let table = a.table;
-    write(table, a.length, buffer);
-    let outcome = a.outcome;
+    let d = formula::decode(input);
+    let read = d.outcome;
+    let f = d.formula;
+    let row = row_of(read, f);
+    let table = row.table;
+    write(table, row.length, buffer);
+    let outcome = row.outcome;
     match outcome {
         Outcome::Refused(refusal) => Judgement::Refused(refusal),
-        Outcome::Accepted => {
-            let f = a.formula;
-            Judgement::Accepted(f.variables, f.count)
-        }
+        Outcome::Accepted => Judgement::Accepted(f.variables, f.count),
     }
 }

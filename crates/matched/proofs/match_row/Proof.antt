@@ -1,8 +1,8 @@
--- `matched::accept_formula` meets its contract: by whether all clauses are matched.
+-- `matched::match_row` meets its contract: by whether all clauses are matched.
 use borrow.Author.Needs.{needs}
 use Rattle.matched.proofs.AcceptLaws.{matching-small, complete-represents, failed-represents}
-use Rattle.matched.proofs.accept_formula.Statement.{statement}
-use Rattle.matched.proofs.accept_formula.Tie as tie
+use Rattle.matched.proofs.match_row.Statement.{statement}
+use Rattle.matched.proofs.match_row.Tie as tie
 
 match-formula-requires : tie.Need-match-formula-requires
 match-formula-requires c κs = search needs
@@ -21,5 +21,5 @@ returns c n cs z q =
 returns-2 : tie.Need-returns-2
 returns-2 c n cs z q = let m = c .before .before .match-formula in failed-represents n cs z _ q (m .result) (m .ensures) (c .if1 .left)
 
-pub accept-formula-spec : {M : Type 1} → statement M
-accept-formula-spec = tie.close (tie.spec match-formula-requires raise-requires returns returns-2)
+pub match-row-spec : {M : Type 1} → statement M
+match-row-spec = tie.close (tie.spec match-formula-requires raise-requires returns returns-2)
