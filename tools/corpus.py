@@ -303,7 +303,7 @@ CHECK_EDGES = [
 
 # judge: input, length of the buffer, fill, what the answer says, the refusal's number and place, n, m, and the first bytes of
 # the buffer after the call; all other bytes keep the fill
-UNMATCHED = '01 01 02 01 04 03 01 04 05'  # document 01's: clauses (1) and (not 1)
+UNMATCHED = '01 01 02 01 04 03 01 04 05'  # S5.7: clauses (1) and (not 1)
 UNREADABLE = '01 02 06'
 REMATCHED = '01 02 02 01 02 02 04 02 01 04 05'  # clauses (1, 2) and (1): the first gives variable 1 to the second
 CHAIN = '01 30' + ''.join(' 02 %02x 02 %02x 04' % (v, v + 1) for v in range(1, 48))  # clauses (1, 2), (2, 3) .. (47, 48)
@@ -392,7 +392,7 @@ def foreign(given, *formulas):
 CLOSED_TRUE = '01 01 03 01 04 05'  # the clause (not 1): variable 1 has no model as true
 TWO_FREE = '01 02 05'
 ALL_FREE = '01 30 05'
-PURE_LAST = '01 02 02 01 02 02 04 02 01 03 02 04 05'  # document 01's: clauses (1, 2) and (1, not 2); 2 is assigned before 1
+PURE_LAST = '01 02 02 01 02 02 04 02 01 03 02 04 05'  # S6.4: clauses (1, 2) and (1, not 2); 2 is assigned before 1
 MOST = (1 << 32) - 1
 FIRST = checkpoint(0, 0)
 OVER = checkpoint(4, 0)
