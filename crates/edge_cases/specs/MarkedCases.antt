@@ -9,7 +9,7 @@ use Rattle.limits.specs.Limits.{max-clauses}
 use Rattle.writing.specs.Text.{line-feed, blank}
 use Rattle.formula.specs.InnerDecode.{decode}
 use Rattle.formula.specs.Decoding.{Decoding, readable, refused}
-use Rattle.formula.specs.Format.{Literal, formula-bytes}
+use Rattle.formula.specs.Format.{Literal, formula-bytes, Encodes}
 use Rattle.formula.specs.Refusals.{TableRow, table-row}
 use Rattle.matched.specs.Judge.{accepted-values, judge}
 use Rattle.matched.specs.Pairing.{Pairs}
@@ -105,5 +105,5 @@ pub record MarkedCases : Type 0 where
   -- a byte behind kind 5: 9 at offset 3
   pub tail-byte : refusal-of (decode (1 ∷ 1 ∷ 5 ∷ 0 ∷ [])) ≡ number-at 9 3
   -- S8.2: an accepted formula, from the start checkpoint, on budget 0: spent, with no step made and the checkpoint unchanged
-  pub start-zero : (s : List ℕ) (n : ℕ) (cs : List (List Literal)) → decode s ≡ readable n cs → (vs : List ℕ) → Pairs cs vs
+  pub start-zero : (s : List ℕ) (n : ℕ) (cs : List (List Literal)) → Encodes s n cs → (vs : List ℕ) → Pairs cs vs
       → walk-call s start 0 ≡ answered spent 0 0 start

@@ -10,11 +10,12 @@ use Rattle.formula.specs.declared.Refusal.the-variants.{StrayVariable}
 use Rattle.formula.specs.Check.{VerdictValues, said-yes, said-no, verdict-said, verdict-refused, verdict-on, checked}
 use Rattle.formula.specs.InnerDecode.{decode}
 use Rattle.formula.specs.Decoding.{Decoding, readable, refused}
+use Rattle.formula.specs.Format.{Encodes}
 use Rattle.formula.specs.Models.{ModelOf, NoModelOf, StrayOf}
 use Rattle.formula.specs.InnerModels.{satisfied, stray}
 use Rattle.formula.specs.Table.{Refuses}
 use Rattle.formula.proofs.ModelLaws.{stray-some, some-stray, model-tests, tests-model}
-use Rattle.formula.proofs.OutcomeLaws.{decode-means}
+use Rattle.formula.proofs.OutcomeLaws.{decode-gives, decode-means}
 use Rattle.formula.proofs.RefusalLaws.{given-number}
 
 -- the four answers, each with what it says
@@ -34,17 +35,20 @@ no-strays n a e v l = go (bit a v) refl
 says-of : (s : List ℕ) (a : ℕ) (x : Decoding) → decode s ≡ x → Says s a (verdict-on x a)
 says-of s a (readable n cs) e = go (stray n a) refl (satisfied a cs) refl
   where
+    encoded : Encodes s n cs
+    encoded = rw e at (decode-means s)
+
     go : (t : Bool) → stray n a ≡ t → (u : Bool) → satisfied a cs ≡ u → Says s a (cond t (verdict-refused (StrayVariable 0)) (cond u (verdict-said said-yes) (verdict-said said-no)))
     go true p u q =
         let w = stray-some n a p in
-        stray-for (record { variables = n; clauses = cs; reads = e; variable = w .0; above = w .1; is-true = w .2 })
-    go false p true q = yes-for (record { variables = n; clauses = cs; reads = e; model = tests-model n cs a p q })
+        stray-for (record { variables = n; clauses = cs; encodes = encoded; variable = w .0; above = w .1; is-true = w .2 })
+    go false p true q = yes-for (record { variables = n; clauses = cs; encodes = encoded; model = tests-model n cs a p q })
     go false p false q =
         no-for
         (record {
           variables = n;
           clauses = cs;
-          reads = e;
+          encodes = encoded;
           none-above = no-strays n a p;
           fails = λ m. true≢false (sym (model-tests n cs a m .1) ∙ q);
         })
@@ -71,11 +75,11 @@ says-no (refused-for r d) e = let z : _≡_ {A = ℕ} 0 1 = cc in absurd (omega 
 -- and what the assignment is fixes the verdict
 pub checked-model : (s : List ℕ) (a : ℕ) → ModelOf s a → checked s a ≡ verdict-said said-yes
 unfolding checked
-checked-model s a m = let t = model-tests (m .variables) (m .clauses) a (m .model) in rw (m .reads, t .0, t .1)
+checked-model s a m = let t = model-tests (m .variables) (m .clauses) a (m .model) in rw (decode-gives s (readable (m .variables) (m .clauses)) (m .encodes), t .0, t .1)
 
 pub checked-no-model : (s : List ℕ) (a : ℕ) → NoModelOf s a → checked s a ≡ verdict-said said-no
 unfolding checked
-checked-no-model s a m = rw (m .reads, quiet, unsatisfied (satisfied a (m .clauses)) refl)
+checked-no-model s a m = rw (decode-gives s (readable (m .variables) (m .clauses)) (m .encodes), quiet, unsatisfied (satisfied a (m .clauses)) refl)
   where
     quiet : stray (m .variables) a ≡ false
     quiet = go (stray (m .variables) a) refl
@@ -90,7 +94,7 @@ checked-no-model s a m = rw (m .reads, quiet, unsatisfied (satisfied a (m .claus
 
 pub checked-stray : (s : List ℕ) (a : ℕ) → StrayOf s a → checked s a ≡ verdict-refused (StrayVariable 0)
 unfolding checked
-checked-stray s a m = rw (m .reads, some-stray (m .variables) a (m .variable) (m .above) (m .is-true))
+checked-stray s a m = rw (decode-gives s (readable (m .variables) (m .clauses)) (m .encodes), some-stray (m .variables) a (m .variable) (m .above) (m .is-true))
 
 -- a refusal that reading gives is not 12
 pub says-stray : {s : List ℕ} {a : ℕ} {x : VerdictValues} → Says s a x → x ≡ verdict-refused (StrayVariable 0) → StrayOf s a

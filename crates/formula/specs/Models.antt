@@ -4,9 +4,7 @@ use mathlib.Core.Bool.{true, false}
 use mathlib.Core.List.{List, List·Memᴰ}
 use mathlib.Core.Path.{_≡_}
 use Rattle.masks.specs.Mask.{bit}
-use Rattle.formula.specs.InnerDecode.{decode}
-use Rattle.formula.specs.Decoding.{readable}
-use Rattle.formula.specs.Format.{Literal}
+use Rattle.formula.specs.Format.{Literal, Encodes}
 
 -- S4.2: a model (request: permitted set-up): of every clause some literal is true, and no variable from n on is
 pub record Model (n : ℕ) (cs : List (List Literal)) (a : ℕ) : Type 0 where
@@ -17,14 +15,14 @@ pub record Model (n : ℕ) (cs : List (List Literal)) (a : ℕ) : Type 0 where
 pub record ModelOf (s : List ℕ) (a : ℕ) : Type 0 where
   pub variables : ℕ
   pub clauses : List (List Literal)
-  pub reads : decode s ≡ readable variables clauses
+  pub encodes : Encodes s variables clauses
   pub model : Model variables clauses a
 
 -- no model of an input: readable, no variable from n on true, and not a model
 pub record NoModelOf (s : List ℕ) (a : ℕ) : Type 0 where
   pub variables : ℕ
   pub clauses : List (List Literal)
-  pub reads : decode s ≡ readable variables clauses
+  pub encodes : Encodes s variables clauses
   pub none-above : (v : ℕ) → variables ≤ v → bit a v ≡ false
   pub fails : Model variables clauses a → ⊥
 
@@ -32,7 +30,7 @@ pub record NoModelOf (s : List ℕ) (a : ℕ) : Type 0 where
 pub record StrayOf (s : List ℕ) (a : ℕ) : Type 0 where
   pub variables : ℕ
   pub clauses : List (List Literal)
-  pub reads : decode s ≡ readable variables clauses
+  pub encodes : Encodes s variables clauses
   pub variable : ℕ
   pub above : variables ≤ variable
   pub is-true : bit a variable ≡ true

@@ -14,7 +14,7 @@ use Rattle.formula.specs.Decoding.{Decoding, readable, refused}
 use Rattle.formula.specs.Format.{Literal, Sized}
 use Rattle.formula.specs.Masked.{variables}
 use Rattle.formula.specs.Refusals.{table-row}
-use Rattle.formula.proofs.Demands.{accepted-only, numbers}
+use Rattle.formula.proofs.Demands.{accepted-only, numbers, accepted-all}
 use Rattle.matching.specs.Matched.{union}
 use Rattle.matching.specs.Search.{Outcome, success, failure, outcome, marks}
 use Rattle.matching.proofs.MatchedLaws.{length-marks, marks-le}
@@ -94,10 +94,10 @@ module _ (s : List ℕ) where
   pub accepted-pairable : (n : ℕ) (cs : List (List Literal)) (row : List ℕ) → acceptance s ≡ accepted n cs row → Pairable s
   accepted-pairable n cs row e =
       let a = accepted-is n cs row e in
-      record { variables = n; clauses = cs; reads = a .reads; vs = a .vs; pairs = a .pairs }
+      record { variables = n; clauses = cs; encodes = accepted-only s n cs (a .reads); vs = a .vs; pairs = a .pairs }
 
   pub pairable-accepted : (w : Pairable s) → (row : List ℕ) × (acceptance s ≡ accepted (w .variables) (w .clauses) row)
-  pairable-accepted w = pairs-accepted (w .variables) (w .clauses) (w .vs) (w .reads) (w .pairs)
+  pairable-accepted w = pairs-accepted (w .variables) (w .clauses) (w .vs) (accepted-all s (w .variables) (w .clauses) (w .encodes)) (w .pairs)
 
   -- one whose clauses can't is declined by 10, and the marks are a violator
   pub unpaired-declined : (n : ℕ) (cs : List (List Literal)) → decode s ≡ readable n cs → ((vs : List ℕ) → Pairs cs vs → ⊥)

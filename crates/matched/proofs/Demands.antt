@@ -9,9 +9,9 @@ use Rattle.limits.specs.Limits.{max-clauses}
 use Rattle.lists.specs.Over.{over}
 use Rattle.formula.specs.declared.Refusal.{Refusal}
 use Rattle.formula.specs.declared.Refusal.the-variants.{ShortBuffer, Unmatched}
-use Rattle.formula.specs.InnerDecode.{decode}
-use Rattle.formula.specs.Decoding.{readable, refused}
-use Rattle.formula.specs.Format.{Literal, Sized}
+use Rattle.formula.specs.Format.{Literal, Sized, Encodes}
+use Rattle.formula.specs.Table.{Refuses}
+use Rattle.formula.proofs.Demands.{accepted-all, refused-all}
 use Rattle.matched.specs.Acceptance.{accepted, acceptance}
 use Rattle.matched.specs.Judge.{Judged, accepted-values, refused-values, judge}
 use Rattle.matched.specs.Pairing.{Pairs, Pairable, Violator, marked}
@@ -24,9 +24,9 @@ pub short-buffer : (s b : List ℕ) → length b < max-clauses → judge s b ≡
 short-buffer = judge-short
 
 -- S10, demand 1: an unreadable input gets the reader's refusal, and the buffer is untouched
-pub unreadable : (s b : List ℕ) (r : Refusal) → max-clauses ≤ length b → decode s ≡ refused r
+pub unreadable : (s b : List ℕ) (r : Refusal) → max-clauses ≤ length b → Refuses s r
     → judge s b ≡ record { answer = refused-values r; buffer = b }
-unreadable s b r l e = judge-declined s b l r [] (unreadable-declined s r e)
+unreadable s b r l w = judge-declined s b l r [] (unreadable-declined s r (refused-all s r w))
 
 -- S10, demand 2: an input is accepted exactly if it is readable and matched
 pub acceptance-exactly : (s : List ℕ) → ((n : ℕ) × (cs : List (List Literal)) × (row : List ℕ) × (acceptance s ≡ accepted n cs row)) ↔ Pairable s
@@ -44,9 +44,9 @@ accepted-buffer = pairable-judged
 
 -- S10, demand 2: a readable formula that is not matched gets 10, at the number of marked clauses; the first bytes of the buffer are the
 -- marks of a violator, and no other byte changes
-pub refused-buffer : (s b : List ℕ) (n : ℕ) (cs : List (List Literal)) → max-clauses ≤ length b → decode s ≡ readable n cs → ((vs : List ℕ) → Pairs cs vs → ⊥)
+pub refused-buffer : (s b : List ℕ) (n : ℕ) (cs : List (List Literal)) → max-clauses ≤ length b → Encodes s n cs → ((vs : List ℕ) → Pairs cs vs → ⊥)
     → (ms : List ℕ) × Violator cs ms × (judge s b ≡ record { answer = refused-values (Unmatched (length (marked ms cs))); buffer = over ms b })
-refused-buffer s b n cs l = unpaired-judged s b l n cs
+refused-buffer s b n cs l w = unpaired-judged s b l n cs (accepted-all s n cs w)
 
 -- where there is a violator there is no matching
 pub violator-unpaired : (n : ℕ) (cs : List (List Literal)) (ms : List ℕ) → Sized n cs → Violator cs ms → (vs : List ℕ) → Pairs cs vs → ⊥

@@ -5,9 +5,7 @@ use mathlib.Core.Bool.{true}
 use mathlib.Core.List.{List, [], map}
 use mathlib.Core.Path.{_≡_}
 use lib.ListN.{length, getD}
-use Rattle.formula.specs.InnerDecode.{decode}
-use Rattle.formula.specs.Decoding.{readable}
-use Rattle.formula.specs.Format.{Literal, names}
+use Rattle.formula.specs.Format.{Literal, names, Encodes}
 use Rattle.formula.specs.Masked.{variables}
 use Rattle.masks.specs.Mask.{size}
 use Rattle.matching.specs.Matched.{union, selected}
@@ -22,7 +20,7 @@ pub record Pairs (cs : List (List Literal)) (vs : List ℕ) : Type 0 where
 pub record Pairable (s : List ℕ) : Type 0 where
   pub variables : ℕ
   pub clauses : List (List Literal)
-  pub reads : decode s ≡ readable variables clauses
+  pub encodes : Encodes s variables clauses
   pub vs : List ℕ
   pub pairs : Pairs clauses vs
 

@@ -14,13 +14,13 @@ use Rattle.masks.proofs.SizeLaws.{size-le}
 use Rattle.formula.specs.declared.Refusal.{Refusal}
 use Rattle.formula.specs.declared.Refusal.the-variants.{Unmatched}
 use Rattle.formula.specs.InnerDecode.{decode}
-use Rattle.formula.specs.Decoding.{readable, refused}
-use Rattle.formula.specs.Format.{Literal, ClauseOver, Sized}
+use Rattle.formula.specs.Decoding.{refused}
+use Rattle.formula.specs.Format.{Literal, ClauseOver, Sized, Encodes}
 use Rattle.formula.specs.Masked.{variables}
 use Rattle.formula.specs.Refusals.{table-row}
 use Rattle.formula.specs.Table.{Beginning, written, Given, no-kind, kind-unknown, kind-misplaced, no-body, count-bad, variable-unknown, variable-repeated, clause-extra, byte-extra}
 use Rattle.formula.proofs.ClauseLaws.{variables-lt}
-use Rattle.formula.proofs.Demands.{accepted-only, refused-only, numbers}
+use Rattle.formula.proofs.Demands.{accepted-only, accepted-all, refused-only, numbers}
 use Rattle.matching.specs.Matched.{union}
 use Rattle.matching.proofs.MatchedLaws.{selected-few}
 use Rattle.matching.proofs.Theorems.{pigeonhole}
@@ -120,7 +120,7 @@ walk-short s n cs row w j =
     let m = clauses-few n cs (w .vs) z (w .pairs) in
     let t = whole-size n cs (omega (arith, z .most)) in
     let c = cost (to-assign (whole n cs)) (length cs) (omega (arith, z .most)) (omega (arith, z .most)) in
-    let d = demand-3 s n cs (w .reads) (w .vs) (w .pairs) (replicate j ample-budget) in
+    let d = demand-3 s n cs (accepted-only s n cs (w .reads)) (w .vs) (w .pairs) (replicate j ample-budget) in
     first-short (whole n cs) (to-assign (whole n cs)) (step-bound (whole n cs)) (z .most) (omega (arith, z .most)) (omega arith) j 0 (rw (d .plain) at (d .paced))
 
 -- a refusal's place is within the input
@@ -178,7 +178,7 @@ not-spent a (inl h) e = let z : _≡_ {A = ℕ} 0 1 = cc in omega arith
 not-spent a (inr h) e = let z : _≡_ {A = ℕ} 0 1 = cc in omega arith
 
 -- after j calls on an ample budget, the next one on it brings a model or the end
-pub never-spent : (s : List ℕ) (n : ℕ) (cs : List (List Literal)) (vs : List ℕ) → decode s ≡ readable n cs → Pairs cs vs → (j : ℕ)
+pub never-spent : (s : List ℕ) (n : ℕ) (cs : List (List Literal)) (vs : List ℕ) → Encodes s n cs → Pairs cs vs → (j : ℕ)
     → plain-call (whole n cs) ample-budget (state-after (whole n cs) 0 (replicate j ample-budget)) .answer ≡ spent → ⊥
 never-spent s n cs vs e w j =
     not-spent (plain-call T ample-budget (state-after T 0 bs) .answer)
@@ -191,7 +191,7 @@ never-spent s n cs vs e w j =
     T = whole n cs
 
     a : (row : List ℕ) × (acceptance s ≡ accepted n cs row)
-    a = pairs-accepted s n cs vs e w
+    a = pairs-accepted s n cs vs (accepted-all s n cs e) w
 
     P : Posed (whole n cs)
     P = accepted-posed s n cs (a .0) (a .1)

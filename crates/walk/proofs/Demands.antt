@@ -12,11 +12,10 @@ use Rattle.lists.specs.Every.{Every}
 use Rattle.masks.specs.Mask.{bit}
 use Rattle.formula.specs.declared.Refusal.{Refusal}
 use Rattle.formula.specs.declared.Refusal.the-variants.{Unmatched, ForeignCheckpoint}
-use Rattle.formula.specs.InnerDecode.{decode}
-use Rattle.formula.specs.Decoding.{readable, refused}
-use Rattle.formula.specs.Format.{Literal}
+use Rattle.formula.specs.Format.{Literal, Encodes}
+use Rattle.formula.specs.Table.{Refuses}
 use Rattle.formula.specs.Models.{Model}
-use Rattle.formula.proofs.Demands.{accepted-only}
+use Rattle.formula.proofs.Demands.{accepted-all, refused-all}
 use Rattle.matched.specs.Acceptance.{accepted, acceptance}
 use Rattle.matched.specs.Judge.{refused-values, judge}
 use Rattle.matched.specs.Pairing.{Pairs, Pairable}
@@ -85,16 +84,16 @@ module _ (s : List ℕ) (T : Task) (P : Posed T) (walks : (c : Checkpoint) (b : 
     ample = laws.calls-ample s T P walks bs;
   }
 
--- S5.6: an accepted formula: the input reads as n and cs, and vs is a matching of its clauses.
-module _ (s : List ℕ) (n : ℕ) (cs : List (List Literal)) (reads : decode s ≡ readable n cs) (vs : List ℕ) (pairs : Pairs cs vs) where
+-- S5.6: an accepted formula: the input encodes n and cs, and vs is a matching of its clauses.
+module _ (s : List ℕ) (n : ℕ) (cs : List (List Literal)) (encodes : Encodes s n cs) (vs : List ℕ) (pairs : Pairs cs vs) where
   abbrev T : Task
   T = whole n cs
 
   abbrev row : List ℕ
-  row = pairs-accepted s n cs vs reads pairs .0
+  row = pairs-accepted s n cs vs (accepted-all s n cs encodes) pairs .0
 
   accepts : acceptance s ≡ accepted n cs row
-  accepts = pairs-accepted s n cs vs reads pairs .1
+  accepts = pairs-accepted s n cs vs (accepted-all s n cs encodes) pairs .1
 
   P : Posed T
   P = refusals.accepted-posed s n cs row accepts
@@ -158,18 +157,18 @@ module _ (s : List ℕ) (n : ℕ) (cs : List (List Literal)) (reads : decode s �
 
   -- S8.2: from the start checkpoint a call on budget 0 says spent, and returns it
   pub start-zero : walk-call s start 0 ≡ answered spent 0 0 start
-  start-zero = laws.start-zero s T P walks (omega (arith, whole-size n cs (omega (arith, P .most)), accepted-only s n cs reads .sized .some))
+  start-zero = laws.start-zero s T P walks (omega (arith, whole-size n cs (omega (arith, P .most)), encodes .sized .some))
 
 -- S10, demand 2: an input is walked exactly if it is readable and matched: from the start, on any budget.
 pub walked-exactly : (s : List ℕ) (b : ℕ) → (walk-call s start b .kind ≡ says-refused → ⊥) ↔ Pairable s
 walked-exactly = refusals.walked-exactly
 
 -- S3.2: 10 before 11: whatever the checkpoint, a readable, unmatched input is refused by 10 with the number of marks that judge gives.
-pub unmatched : (s buffer : List ℕ) (n : ℕ) (cs : List (List Literal)) (c : Checkpoint) (b : ℕ) → max-clauses ≤ length buffer → decode s ≡ readable n cs
+pub unmatched : (s buffer : List ℕ) (n : ℕ) (cs : List (List Literal)) (c : Checkpoint) (b : ℕ) → max-clauses ≤ length buffer → Encodes s n cs
     → ((vs : List ℕ) → Pairs cs vs → ⊥)
     → (k : ℕ) × (judge s buffer .answer ≡ refused-values (Unmatched k)) × (walk-call s c b ≡ refusing (Unmatched k) c)
-unmatched = refusals.call-unmatched
+unmatched s buffer n cs c b l w = refusals.call-unmatched s buffer n cs c b l (accepted-all s n cs w)
 
 -- S3.2: 2 to 9 before 10 and 11: an unreadable input gets the reader's refusal.
-pub unreadable : (s : List ℕ) (r : Refusal) (c : Checkpoint) (b : ℕ) → decode s ≡ refused r → walk-call s c b ≡ refusing r c
-unreadable = refusals.call-unreadable
+pub unreadable : (s : List ℕ) (r : Refusal) (c : Checkpoint) (b : ℕ) → Refuses s r → walk-call s c b ≡ refusing r c
+unreadable s r c b w = refusals.call-unreadable s r c b (refused-all s r w)

@@ -14,7 +14,7 @@ use Rattle.matched.specs.Acceptance.{Acceptance, accepted, declined, acceptance
 use Rattle.matched.specs.Judge.{Judged, refused-values, judge}
 use Rattle.matched.specs.Pairing.{Pairs, Pairable, marked}
 use Rattle.matched.proofs.JudgeLaws.{judge-declined}
-use Rattle.matched.proofs.AcceptanceLaws.{accepted-is, pairs-accepted, unpaired-declined, unreadable-declined}
+use Rattle.matched.proofs.AcceptanceLaws.{accepted-is, accepted-pairable, pairable-accepted, unpaired-declined, unreadable-declined}
 use Rattle.walk.specs.Task.{whole, Posed}
 use Rattle.walk.specs.Checkpoints.{Checkpoint, start}
 use Rattle.walk.specs.WalkCall.{walk-call, walk-calls}
@@ -56,7 +56,7 @@ unrefused-pairable : (s : List ℕ) (c : Checkpoint) (b : ℕ) → (walk-call s 
 unrefused-pairable s c b h = by (acceptance s) refl
   where
     by : (x : Acceptance) → acceptance s ≡ x → Pairable s
-    by (accepted n cs row) e = let w = accepted-is s n cs row e in record { variables = n; clauses = cs; reads = w .reads; vs = w .vs; pairs = w .pairs }
+    by (accepted n cs row) e = accepted-pairable s n cs row e
     by (declined r row) e = absurd (h (ap (λ (x : Result). x .kind) (call-declined s r row c b e)))
 
 pairable-unrefused : (s : List ℕ) (b : ℕ) → Pairable s → walk-call s start b .kind ≡ says-refused → ⊥
@@ -64,7 +64,7 @@ unfolding walk-calls
 pairable-unrefused s b w =
     let n = w .variables in
     let cs = w .clauses in
-    let a = pairs-accepted s n cs (w .vs) (w .reads) (w .pairs) in
+    let a = pairable-accepted s w in
     calls-unrefused s (whole n cs) (accepted-posed s n cs (a .0) (a .1)) (call-accepted s n cs (a .0) (a .1)) (b ∷ []) .0
 
 -- from the start a call is refused exactly if the input cannot be paired
