@@ -49,7 +49,7 @@
  * REFUSALS. Places are offsets into the input, counted from 0, except at 10.
  *
  *   number  trade's word     given if                                            place
- *    1      short slate      judge is lent a buffer below 96 bytes               0
+ *    1      short slate      the buffer for judge is below 96 bytes              0
  *    2      cut short        the input runs out within a record or before kind 5 length of the input
  *    3      unknown kind     a record's kind is 0 or above 5                     its kind byte
  *    4      misplaced        a record of this kind may not come here             its kind byte

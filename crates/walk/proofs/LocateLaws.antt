@@ -114,7 +114,7 @@ module _ (T : Task) where
       at b (end ∷ l) q = inr ([], refl)
 
   -- the calls of two lists
-  state-append : (bs ds : List ℕ) (k : ℕ) → state-after T k (bs ++ ds) ≡ state-after T (state-after T k bs) ds
+  pub state-append : (bs ds : List ℕ) (k : ℕ) → state-after T k (bs ++ ds) ≡ state-after T (state-after T k bs) ds
   unfolding state-after
   state-append [] ds k = refl
   state-append (b ∷ bs) ds k = state-append bs ds (stop b k)
