@@ -34,12 +34,12 @@ module _ (s : List ℕ) (f : Formula) (w : Takes s f) where
 
   module _ (c : Checkpoint) (whole-bytes : length (c .bytes) ≡ max-variables) where
     -- the checkpoint passes the test
-    pub entered-begun : (r : Entered) → r .formula ≡ f → accepts tree-of c ≡ true → Holds tree-of (r .state)
-        → position-in (r .state) ≡ position-of (tree-of .size) (c .mode) (read c) → Begun s c r
-    entered-begun r e a h p = record {
+    pub entered-begun : (r : Entered) → accepts tree-of c ≡ true → Holds tree-of (r .state)
+        → position-in (r .state) ≡ position-of (tree-of .size) (c .mode) (read c) → Begun s f c r
+    entered-begun r a h p = record {
       tree = tree-of;
-      fits = rw e (w .fits);
-      follows = rw e tree-follows;
+      fits = w .fits;
+      follows = tree-follows;
       holds = h;
       calls = λ b. call-resumed s c b whole-bytes _ _ (w .row) (w .accepts) ∙ rw (a, p);
       lists = λ k l. brought-resumed s _ _ (w .row) (w .accepts) c whole-bytes k ∙ brought-from f (w .fits) tree-of tree-follows k c l a ∙ rw p;

@@ -20,23 +20,22 @@ use Rattle.enumeration.specs.InnerState.{position-in, Follows, Holds}
 use Rattle.enumeration.specs.InnerLists.{filling}
 use Rattle.enumeration.specs.Lists.{next-models}
 
--- what comes of the checkpoint c at the formula f, whose tree is K: the state of its position, or 11
-pub record Stands (K : Tree) (f : Formula) (c : Checkpoint) (r : Entered) : Type 0 where
-  pub formula : r .formula ≡ f
+-- what comes of the checkpoint c in the tree K: the state of its position, or 11
+pub record Stands (K : Tree) (c : Checkpoint) (r : Entered) : Type 0 where
   pub passed : r .outcome ≡ outcomes.Accepted
       → (accepts K c ≡ true) × Holds K (r .state) × (position-in (r .state) ≡ position-of (K .size) (c .mode) (read c))
   pub foreign : (e : Refusal) → r .outcome ≡ outcomes.Refused e → (e ≡ ForeignCheckpoint 0) × (accepts K c ≡ false)
 
--- The state of the checkpoint c in the walk of the input s: the calls and the lists from c go on from it.
-pub record Begun (s : List ℕ) (c : Checkpoint) (r : Entered) : Type 0 where
+-- The state of the checkpoint c in the walk of the input s, whose formula is f: the calls and the lists from c go on from it.
+pub record Begun (s : List ℕ) (f : Formula) (c : Checkpoint) (r : Entered) : Type 0 where
   pub tree : Tree
-  pub fits : FormulaFits (r .formula)
-  pub follows : Follows (r .formula) tree
+  pub fits : FormulaFits f
+  pub follows : Follows f tree
   pub holds : Holds tree (r .state)
   pub calls : (b : ℕ) → walk-call s c b ≡ resumed-result (resume tree b (position-in (r .state)))
   pub lists : (k : ℕ) → 0 < k → next-models s c k ≡ filling tree (position-in (r .state)) k
 
 -- that state, or the refusal of every call from c
-pub record Enters (s : List ℕ) (c : Checkpoint) (r : Entered) : Type 0 where
-  pub begun : r .outcome ≡ outcomes.Accepted → Begun s c r
+pub record Enters (s : List ℕ) (f : Formula) (c : Checkpoint) (r : Entered) : Type 0 where
+  pub begun : r .outcome ≡ outcomes.Accepted → Begun s f c r
   pub refused : (e : Refusal) → r .outcome ≡ outcomes.Refused e → (b : ℕ) → walk-call s c b ≡ refusing e c

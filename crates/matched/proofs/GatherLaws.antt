@@ -1,5 +1,5 @@
 -- Laws of the lists that the loops write, and of the sets that gather makes of a formula's clauses.
-use Prim.Native.Nat.{ℕ, suc, _+_, _^_, _≤_, _<_}
+use Prim.Native.Nat.{ℕ, _+_, _^_, _≤_, _<_}
 use mathlib.Core.Bool.{true, false}
 use mathlib.Core.List.{List, [], _∷_, _++_, map, map-append}
 use mathlib.Core.Path.{_≡_, sym, ap, _∙_}
@@ -23,6 +23,7 @@ use Rattle.formula.specs.InnerFits.{clause-variables, FormulaFits}
 use Rattle.formula.proofs.ClauseLaws.{variables-named}
 use Rattle.matching.specs.Matched.{Words}
 use Rattle.matching.specs.Result.{Clauses}
+use Rattle.matched.specs.InnerAccept.{raised}
 use Rattle.matched.specs.InnerGather.{sets-of}
 
 -- ---- one element more
@@ -38,17 +39,17 @@ module _ (l more : List ℕ) (i x : ℕ) (e : length l ≡ i) (m : more ≡ l ++
 
 -- of a table
 module _ (t : List ℕ) (i : ℕ) (h : i < length t) where
-  pub taken-length : length (take i t) ≡ i
+  taken-length : length (take i t) ≡ i
   taken-length = length-take-le i t (omega arith)
 
-  pub taken-more : take (i + 1) t ≡ take i t ++ (getD t i 0 ∷ [])
+  taken-more : take (i + 1) t ≡ take i t ++ (getD t i 0 ∷ [])
   taken-more = rw (add-one, take-suc t i 0 h)
 
-  pub raised-length : length (map suc (take i t)) ≡ i
-  raised-length = length-map (take i t) suc ∙ taken-length
+  pub raised-length : (k : ℕ) → length (raised k (take i t)) ≡ i
+  raised-length k = length-map (take i t) (λ x. x + k) ∙ taken-length
 
-  pub raised-more : map suc (take (i + 1) t) ≡ map suc (take i t) ++ ((getD t i 0 + 1) ∷ [])
-  raised-more = rw (taken-more, map-append, add-one (getD t i 0))
+  pub raised-more : (k : ℕ) → raised k (take (i + 1) t) ≡ raised k (take i t) ++ ((getD t i 0 + k) ∷ [])
+  raised-more k = rw (taken-more, map-append)
 
 -- ---- the sets of a formula's clauses
 

@@ -7,16 +7,16 @@ use lib.ListN.{length, take}
 use borrow.Author.Tests.{le-ltb, lt-ltb}
 use Rattle.limits.specs.Limits.{max-clauses}
 use Rattle.lists.specs.Over.{over}
-use Rattle.lists.proofs.PaddedLaws.{take-padded}
+use Rattle.formula.specs.declared.Formula.{Formula}
 use Rattle.formula.specs.declared.Outcome.the-variants as outcomes
 use Rattle.formula.specs.declared.Refusal.{Refusal}
 use Rattle.formula.specs.declared.Refusal.the-variants.{ShortBuffer, Unmatched}
 use Rattle.formula.specs.InnerDecode.{decode}
 use Rattle.formula.specs.Decoding.{readable}
 use Rattle.formula.specs.Format.{Literal}
-use Rattle.matched.specs.declared.Accepted.{Accepted}
+use Rattle.matched.specs.declared.Row.{Row}
 use Rattle.matched.specs.Acceptance.{Acceptance, accepted, declined, acceptance}
-use Rattle.matched.specs.InnerAccept.{row-of, Represents}
+use Rattle.matched.specs.InnerAccept.{raised, Represents}
 use Rattle.matched.specs.Judge.{JudgementValues, Judged, accepted-values, refused-values, judgement-of, judge}
 use Rattle.matched.specs.Pairing.{Pairs, Pairable, Violator, marked}
 use Rattle.matched.proofs.AcceptanceLaws.{accepted-is, accepted-pairable, pairable-accepted, unpaired-declined, declined-number}
@@ -29,10 +29,6 @@ pub judge-short : (s b : List ℕ) → length b < max-clauses → judge s b ≡ 
 unfolding judge
 judge-short s b l = rw (lt-ltb (length b) max-clauses l)
 
--- the table's first bytes are the row
-row-taken : (a : Acceptance) (r : Accepted) → Represents a r → take (r .length) (r .table) ≡ row-of a
-row-taken a r w = rw (w .length, w .table) (take-padded max-clauses 0 (row-of a))
-
 module _ (s b : List ℕ) (l : max-clauses ≤ length b) where
   judge-long : judge s b ≡ judgement-of (acceptance s) b
   unfolding judge
@@ -40,22 +36,22 @@ module _ (s b : List ℕ) (l : max-clauses ≤ length b) where
 
   -- ---- the code
 
-  pub accepted-judged : (r : Accepted) → Represents (acceptance s) r → r .outcome ≡ outcomes.Accepted
-      → judge s b ≡ record { answer = accepted-values (r .formula .variables) (r .formula .count); buffer = over (take (r .length) (r .table)) b }
-  accepted-judged r w o = rw judge-long (by (acceptance s) w)
+  pub accepted-judged : (f : Formula) (r : Row) → Represents (acceptance s) f r → r .outcome ≡ outcomes.Accepted
+      → judge s b ≡ record { answer = accepted-values (f .variables) (f .count); buffer = over (raised 1 (take (r .length) (r .table))) b }
+  accepted-judged f r w o = rw judge-long (by (acceptance s) w)
     where
-      by : (a : Acceptance) → Represents a r
-          → judgement-of a b ≡ record { answer = accepted-values (r .formula .variables) (r .formula .count); buffer = over (take (r .length) (r .table)) b }
-      by (accepted n cs row) w = rw (w .formula, row-taken (accepted n cs row) r w)
+      by : (a : Acceptance) → Represents a f r
+          → judgement-of a b ≡ record { answer = accepted-values (f .variables) (f .count); buffer = over (raised 1 (take (r .length) (r .table))) b }
+      by (accepted n cs row) w = let q = rw o at (w .bytes) in rw (w .formula, q)
       by (declined e row) w = let z : _≡_ {A = ℕ} 0 1 = cc (w .outcome) in absurd (omega arith)
 
-  pub refused-judged : (r : Accepted) (e : Refusal) → Represents (acceptance s) r → r .outcome ≡ outcomes.Refused e
-      → judge s b ≡ record { answer = refused-values e; buffer = over (take (r .length) (r .table)) b }
-  refused-judged r e w o = rw judge-long (by (acceptance s) w)
+  pub refused-judged : (f : Formula) (r : Row) (e : Refusal) → Represents (acceptance s) f r → r .outcome ≡ outcomes.Refused e
+      → judge s b ≡ record { answer = refused-values e; buffer = over (raised 0 (take (r .length) (r .table))) b }
+  refused-judged f r e w o = rw judge-long (by (acceptance s) w)
     where
-      by : (a : Acceptance) → Represents a r → judgement-of a b ≡ record { answer = refused-values e; buffer = over (take (r .length) (r .table)) b }
+      by : (a : Acceptance) → Represents a f r → judgement-of a b ≡ record { answer = refused-values e; buffer = over (raised 0 (take (r .length) (r .table))) b }
       by (accepted n cs row) w = let z : _≡_ {A = ℕ} 0 1 = cc (w .outcome) in absurd (omega arith)
-      by (declined t row) w = let q : t ≡ e = cc (w .outcome) in rw (row-taken (declined t row) r w, q)
+      by (declined t row) w = let q : t ≡ e = cc (w .outcome) in let h = rw o at (w .bytes) in rw (h, q)
 
   -- ---- the demands
 

@@ -1,25 +1,22 @@
 -- What comes of an input as the code holds it.
-use Prim.Native.Nat.{ℕ}
-use mathlib.Core.List.{List}
+use Prim.Native.Nat.{ℕ, _+_, _<_}
+use mathlib.Core.List.{List, map}
 use mathlib.Core.Path.{_≡_}
-use lib.ListN.{length}
-use Rattle.limits.specs.Limits.{max-clauses}
-use Rattle.lists.specs.Padded.{padded}
+use lib.ListN.{length, take, getD}
 use Rattle.formula.specs.declared.Formula.{Formula}
 use Rattle.formula.specs.declared.Outcome.{Outcome}
-use Rattle.formula.specs.declared.Outcome.the-variants as outcomes
+use Rattle.formula.specs.declared.Outcome.the-variants.{Accepted, Refused}
 use Rattle.formula.specs.InnerDecode.{decode}
 use Rattle.formula.specs.Decoding.{readable}
 use Rattle.formula.specs.Format.{Literal, Sized}
 use Rattle.formula.specs.Masked.{formula-of, decoded}
 use Rattle.formula.specs.InnerFits.{FormulaFits}
-use Rattle.matched.specs.declared.Accepted.{Accepted}
 use Rattle.matched.specs.declared.Row.{Row}
 use Rattle.matched.specs.Acceptance.{Acceptance, accepted, declined, acceptance}
 
 abbrev pub outcome-of : Acceptance → Outcome
-outcome-of (accepted n cs row) = outcomes.Accepted
-outcome-of (declined r row) = outcomes.Refused r
+outcome-of (accepted n cs row) = Accepted
+outcome-of (declined r row) = Refused r
 
 abbrev pub row-of : Acceptance → List ℕ
 row-of (accepted n cs row) = row
@@ -34,20 +31,27 @@ HasClauses (declined r row) f = Unit {0}
 abbrev pub Reads : List ℕ → Outcome → Formula → Type 0
 Reads s o f = record { outcome = o; formula = f } ≡ decoded s
 
--- what was read is of the right size
-abbrev pub FitsIfRead : Outcome → Formula → Type 0
-FitsIfRead o f = o ≡ outcomes.Accepted → FormulaFits f
+-- they are the answer to some input
+pub record WasRead (o : Outcome) (f : Formula) : Type 0 where
+  pub input : List ℕ
+  pub reads : Reads input o f
 
--- a formula and its row
-abbrev pub with-row : Formula → Row → Accepted
-with-row f w = record { outcome = w .outcome; formula = f; length = w .length; table = w .table }
+-- the numbers of a list, each plus k
+abbrev pub raised : ℕ → List ℕ → List ℕ
+raised k l = map (λ x. x + k) l
 
--- r holds what comes of an input: the row stands in its table, and zeros after it
-pub record Represents (a : Acceptance) (r : Accepted) : Type 0 where
-  pub outcome : r .outcome ≡ outcome-of a
-  pub formula : HasClauses a (r .formula)
-  pub length : r .length ≡ length (row-of a)
-  pub table : r .table ≡ padded max-clauses 0 (row-of a)
+-- what the row has more than the table: a matching's variables count from 0 in the table, and marks are as they are
+abbrev pub added : Outcome → ℕ
+added Accepted = 1
+added (Refused r) = 0
+
+-- w holds what comes of an input beside its formula f: the row stands in its table
+pub record Represents (a : Acceptance) (f : Formula) (w : Row) : Type 0 where
+  pub outcome : w .outcome ≡ outcome-of a
+  pub formula : HasClauses a f
+  pub length : w .length ≡ length (row-of a)
+  pub small : (i : ℕ) → i < w .length → getD (w .table) i 0 < 255
+  pub bytes : raised (added (w .outcome)) (take (w .length) (w .table)) ≡ row-of a
 
 -- the input is accepted, and f is its formula in masks
 pub record Takes (s : List ℕ) (f : Formula) : Type 0 where

@@ -1,9 +1,9 @@
 // Which inputs are accepted, each with its matching or a violator, and the act judge (S5.6, S5.7).
 //
-// `accept` gives what comes of an encoded formula to every act that asks for a matched one; judge writes it into a lent buffer.
-ghost use mathlib.Core.List.{List, map};
+// `accept` says to every act what comes of the input that it has read; judge writes it into a lent buffer.
+ghost use mathlib.Core.List.{List};
 ghost use mathlib.Core.Path.{_≡_};
-ghost use Prim.Native.Nat.{ℕ, suc, _<_, _≤_};
+ghost use Prim.Native.Nat.{ℕ, _+_, _<_, _≤_};
 ghost use lib.ListN.{length, getD, take};
 ghost use Rattle.limits.specs.Limits.{max-clauses};
 ghost use Rattle.lists.specs.Over.{over};
@@ -14,7 +14,7 @@ ghost use Rattle.formula.specs.InnerFits.{FormulaFits};
 ghost use Rattle.matching.specs.Result.{packed};
 ghost use Rattle.matching.specs.Search.{outcome};
 ghost use Rattle.matched.specs.Acceptance.{acceptance, formula-acceptance};
-ghost use Rattle.matched.specs.InnerAccept.{FitsIfRead, Reads, with-row, Represents};
+ghost use Rattle.matched.specs.InnerAccept.{Reads, WasRead, raised, Represents};
 ghost use Rattle.matched.specs.InnerGather.{sets-of};
 ghost use Rattle.matched.specs.Judge.{judgement-values, judge};
 use formula::Formula;
@@ -23,17 +23,9 @@ use formula::Refusal;
 use matching::Matching;
 
 // What comes of an input, beside its formula: whether it is accepted, and the first `length` bytes of the table: the variable of each
-// clause, from 1; or, where it can't be matched, 1 for a marked clause and 0 for another. An input that can't be read has no bytes.
-struct Row {
-    outcome: Outcome,
-    length: usize,
-    table: [u8; limits::MAX_CLAUSES],
-}
-
-// The same with the formula.
-pub struct Accepted {
+// clause, from 0; or, where it can't be matched, 1 for a marked clause and 0 for another. An input that can't be read has no bytes.
+pub struct Row {
     pub outcome: Outcome,
-    pub formula: Formula,
     pub length: usize,
     pub table: [u8; limits::MAX_CLAUSES],
 }
@@ -68,24 +60,10 @@ fn match_formula(f: Formula) -> Matching
     matching::match_sets(&sets, f.count)
 }
 
-// The first n bytes of the table, each one more.
-fn raise(table: [u8; limits::MAX_CLAUSES], n: usize) -> [u8; limits::MAX_CLAUSES]
-    requires { ⌜ (n ≤ max-clauses) × ((i : ℕ) → i < n → getD table i 0 < 255) ⌝ }
-    ensures { λ r. ⌜ r ≡ padded max-clauses 0 (map suc (take n table)) ⌝ }
-{
-    let mut raised = [0u8; limits::MAX_CLAUSES];
-    let mut i: usize = 0;
-    while i < n {
-        raised[i] = table[i] + 1;
-        i += 1;
-    }
-    raised
-}
-
 // What comes of a formula that was read.
 fn match_row(f: Formula) -> Row
     requires { ⌜ FormulaFits f ⌝ }
-    ensures { λ r. ⌜ ((n : ℕ) (cs : List (List Literal)) → Sized n cs → f ≡ formula-of n cs → Represents (formula-acceptance n cs) (with-row f r)) ⌝ }
+    ensures { λ r. ⌜ ((n : ℕ) (cs : List (List Literal)) → Sized n cs → f ≡ formula-of n cs → Represents (formula-acceptance n cs) f r) ⌝ }
 {
     let count = f.count;
     let m = match_formula(f);
@@ -94,7 +72,7 @@ fn match_row(f: Formula) -> Row
         return Row {
             outcome: Outcome::Accepted,
             length: count,
-            table: raise(table, count),
+            table,
         };
     }
     Row {
@@ -104,10 +82,10 @@ fn match_row(f: Formula) -> Row
     }
 }
 
-// What comes of the reader's answer.
-fn row_of(outcome: Outcome, f: Formula) -> Row
-    requires { ⌜ FitsIfRead outcome f ⌝ }
-    ensures { λ r. ⌜ ((s : List ℕ) → Reads s outcome f → Represents (acceptance s) (with-row f r)) ⌝ }
+// S5.6: what comes of an input, by the reader's answer. The formula stays with the caller: to hand it on would be to copy it.
+pub fn accept(outcome: Outcome, f: Formula) -> Row
+    requires { ⌜ WasRead outcome f ⌝ }
+    ensures { λ r. ⌜ ((s : List ℕ) → Reads s outcome f → Represents (acceptance s) f r) ⌝ }
 {
     match outcome {
         Outcome::Refused(refusal) => Row {
@@ -119,32 +97,14 @@ fn row_of(outcome: Outcome, f: Formula) -> Row
     }
 }
 
-// What comes of an input, for every act that goes on with the formula.
-pub fn accept(input: &[u8]) -> Accepted
-    ensures { λ r. ⌜ Represents (acceptance (now (input .entry))) r ⌝ }
-{
-    let d = formula::decode(input);
-    let read = d.outcome;
-    let f = d.formula;
-    let row = row_of(read, f);
-    let outcome = row.outcome;
-    let table = row.table;
-    Accepted {
-        outcome,
-        formula: f,
-        length: row.length,
-        table,
-    }
-}
-
-// Writes the first n bytes of the table over those of the buffer.
-fn write(table: [u8; limits::MAX_CLAUSES], n: usize, buffer: &mut [u8])
-    requires { ⌜ (n ≤ max-clauses) × (max-clauses ≤ length (now buffer)) ⌝ }
-    ensures { λ _. ⌜ now (buffer .exit) ≡ over (take n table) (now (buffer .entry)) ⌝ }
+// Writes the first n bytes of the table, each raised by k, over those of the buffer.
+fn write(table: [u8; limits::MAX_CLAUSES], n: usize, k: u8, buffer: &mut [u8])
+    requires { ⌜ (n ≤ max-clauses) × (max-clauses ≤ length (now buffer)) × ((i : ℕ) → i < n → getD table i 0 + k < 256) ⌝ }
+    ensures { λ _. ⌜ now (buffer .exit) ≡ over (raised k (take n table)) (now (buffer .entry)) ⌝ }
 {
     let mut i: usize = 0;
     while i < n {
-        buffer[i] = table[i];
+        buffer[i] = table[i] + k;
         i += 1;
     }
 }
@@ -161,12 +121,17 @@ pub fn find_matching(input: &[u8], buffer: &mut [u8]) -> Judgement
     let d = formula::decode(input);
     let read = d.outcome;
     let f = d.formula;
-    let row = row_of(read, f);
+    let row = accept(read, f);
     let table = row.table;
-    write(table, row.length, buffer);
     let outcome = row.outcome;
     match outcome {
-        Outcome::Refused(refusal) => Judgement::Refused(refusal),
-        Outcome::Accepted => Judgement::Accepted(f.variables, f.count),
+        Outcome::Refused(refusal) => {
+            write(table, row.length, 0, buffer);
+            Judgement::Refused(refusal)
+        }
+        Outcome::Accepted => {
+            write(table, row.length, 1, buffer);
+            Judgement::Accepted(f.variables, f.count)
+        }
     }
 }

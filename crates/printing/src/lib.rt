@@ -124,13 +124,13 @@ pub fn print(input: &[u8], buffer: &mut [u8]) -> usize
     if MAX_INPUT < input.len() {
         return 0;
     }
-    let a = matched::accept(input);
-    let outcome = a.outcome;
+    let d = formula::decode(input);
+    let read = d.outcome;
+    let f = d.formula;
+    let row = matched::accept(read, f);
+    let outcome = row.outcome;
     match outcome {
         Outcome::Refused(refusal) => put_refusal_line(refusal, buffer, 0),
-        Outcome::Accepted => {
-            let f = a.formula;
-            put_formula(f, buffer)
-        }
+        Outcome::Accepted => put_formula(f, buffer),
     }
 }

@@ -2,15 +2,16 @@
 use borrow.Author.Needs.{needs}
 use native.Mathlib.Omega.{arith}
 use mathlib.Core.Path.{refl}
-use Rattle.formula.proofs.MaskedLaws.{decoded-accepted}
+use Rattle.matched.specs.Acceptance.{acceptance}
+use Rattle.matched.specs.InnerAccept.{Represents}
 use Rattle.matched.proofs.AcceptanceLaws.{row-few}
 use Rattle.matched.proofs.JudgeLaws.{told, judge-short, accepted-judged, refused-judged}
 use Rattle.matched.proofs.find_matching.Statement.{statement}
 use Rattle.matched.proofs.find_matching.Tie as tie
 
--- the place after row_of
-abbrev accepting : tie.After-slice-known2 → tie.After-row-of
-accepting c = c .before .before .before .before .before
+-- what comes of the input, and that the buffer has room
+abbrev represented : (a : tie.After-accept) → Represents (acceptance (a .before .before .before .before .before .before .args .input .now)) (a .before .before .decode .result .formula) (a .accept .result)
+represented a = a .accept .ensures _ (a .before .before .decode .ensures)
 
 -- ---- what is answered
 
@@ -19,26 +20,37 @@ returns c = let start = c .before .before .before in told (judge-short (start .a
 
 returns-2 : tie.Need-returns-2
 returns-2 c =
-    let after = c .before .before .before in
-    let a = accepting after in
-    told (refused-judged _ _ (a .before .before .before .if1 .left) _ _ (a .row-of .ensures _ (a .before .before .decode .ensures)) (c .before .outcome .given .1)) (after .before .before .write .ensures)
+    let w = c .before .before in
+    let o = w .before .before .before in
+    let a = o .before .before .before in
+    told (refused-judged _ _ (a .before .before .before .if1 .left) _ _ _ (represented a) (o .outcome .given .1)) (w .write .ensures)
 
 returns-3 : tie.Need-returns-3
 returns-3 c =
-    let after = c .before .before in
-    let a = accepting after in
-    told (accepted-judged _ _ (a .before .before .before .if1 .left) _ (a .row-of .ensures _ (a .before .before .decode .ensures)) (c .enum-told .given .1)) (after .before .before .write .ensures)
+    let w = c .before .before in
+    let o = w .before .before in
+    let a = o .before .before .before in
+    told (accepted-judged _ _ (a .before .before .before .if1 .left) _ _ (represented a) (o .enum-told .given .1)) (w .write2 .ensures)
 
 -- ---- what is asked on the way
 
 decode-requires : tie.Need-decode-requires
 decode-requires c κs = search needs
 
-row-of-requires : tie.Need-row-of-requires
-row-of-requires c κs o = decoded-accepted _ _ (c .before .decode .ensures) o .fits
+accept-requires : tie.Need-accept-requires
+accept-requires c κs = record { input = _; reads = c .before .decode .ensures }
 
 write-requires : tie.Need-write-requires
-write-requires c κs = let a = c .before .before in (rw (a .row-of .ensures _ (a .before .before .decode .ensures) .length) (row-few _), search needs)
+write-requires c κs =
+    let a = c .before .before .before .before .before in
+    let r = represented a in
+    (rw (r .length) (row-few _), search needs, λ i h. omega (arith, r .small i h))
+
+write-requires-2 : tie.Need-write-requires-2
+write-requires-2 c κs =
+    let a = c .before .before .before .before in
+    let r = represented a in
+    (rw (r .length) (row-few _), search needs, λ i h. omega (arith, r .small i h))
 
 enum-known-outcome : tie.Need-enum-known-outcome
 enum-known-outcome c = search needs
@@ -58,10 +70,11 @@ find-matching-spec =
     (tie.spec
     returns
     decode-requires
-    row-of-requires
-    write-requires
+    accept-requires
     enum-known-outcome
+    write-requires
     enum-told
+    write-requires-2
     same-length
     returns-2
     same-length-2

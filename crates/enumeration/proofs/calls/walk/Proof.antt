@@ -9,11 +9,17 @@ use Rattle.enumeration.proofs.calls.walk.Tie as tie
 
 -- where the call begins
 abbrev begun : (c : tie.After-enum-told)
-    → (let e = c .before .before in let b = e .before .before in Begun (b .args .input .now) (checkpoint-values (b .args .checkpoint)) (e .enter .result))
-begun c = c .before .before .enter .ensures .begun (c .enum-told .given .1)
+    → (let e = c .before .before in
+       let d = e .before .before in
+       let b = d .before .before in
+       Begun (b .args .input .now) (d .decode .result .formula) (checkpoint-values (b .args .checkpoint)) (e .enter .result))
+begun c = let e = c .before .before in e .enter .ensures _ (e .before .before .decode .ensures) .begun (c .enum-told .given .1)
+
+decode-requires : tie.Need-decode-requires
+decode-requires c κs = search needs
 
 enter-requires : tie.Need-enter-requires
-enter-requires c κs = search needs
+enter-requires c κs = record { input = _; reads = c .before .decode .ensures }
 
 enum-known-outcome : tie.Need-enum-known-outcome
 enum-known-outcome c = search needs
@@ -25,29 +31,31 @@ enum-told : tie.Need-enum-told
 enum-told c = search needs
 
 go-on-requires : tie.Need-go-on-requires
-go-on-requires c κs = let b = begun (c .before .before) in (b .fits, record { tree = b .tree; follows = b .follows; holds = b .holds })
+go-on-requires c κs = let b = begun (c .before) in (b .fits, record { tree = b .tree; follows = b .follows; holds = b .holds })
 
 tell-requires : tie.Need-tell-requires
 tell-requires c κs =
-    let b = begun (c .before .before .before) in
+    let b = begun (c .before .before) in
     let r = c .go-on .ensures (b .tree) (b .follows) (b .holds) in
     omega (arith, r .holds .short, r .holds .room)
 
 returns : tie.Need-returns
 returns c =
     let o = c .before .before in
-    c .refuse .ensures ∙ sym (o .before .before .enter .ensures .refused (o .outcome .given .0 .0) (o .outcome .given .1) _)
+    let e = o .before .before in
+    c .refuse .ensures ∙ sym (e .enter .ensures _ (e .before .before .decode .ensures) .refused (o .outcome .given .0 .0) (o .outcome .given .1) _)
 
 returns-2 : tie.Need-returns-2
 returns-2 c =
     let g = c .before in
-    let b = begun (g .before .before .before) in
+    let b = begun (g .before .before) in
     c .tell .ensures (b .tree) _ (g .go-on .ensures (b .tree) (b .follows) (b .holds)) ∙ sym (b .calls _)
 
 pub walk-spec : {M : Type 1} → statement M
 walk-spec =
     tie.close
     (tie.spec
+    decode-requires
     enter-requires
     enum-known-outcome
     refuse-requires

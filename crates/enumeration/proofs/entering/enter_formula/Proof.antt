@@ -1,6 +1,6 @@
 -- `enter_formula` meets its contract: by the checkpoint's test.
 use Prim.Native.Nat.{ℕ}
-use mathlib.Core.Path.{_≡_, refl, sym, _∙_}
+use mathlib.Core.Path.{_≡_, sym, _∙_}
 use native.Mathlib.Omega.{arith}
 use borrow.Author.Needs.{needs}
 use Rattle.formula.specs.declared.Refusal.the-variants.{ForeignCheckpoint}
@@ -16,7 +16,6 @@ returns c =
     let t = c .before .before .read-checkpoint .ensures K F in
     let k = c .if1 .taken in
     record {
-      formula = refl;
       passed = λ o. (sym (t .known) ∙ k, t .holds k, t .position k);
       foreign = λ e o. let z : _≡_ {A = ℕ} 0 1 = cc o in absurd (omega arith);
     }
@@ -26,7 +25,6 @@ returns-2 c =
     λ K F.
     let t = c .before .before .read-checkpoint .ensures K F in
     record {
-      formula = refl;
       passed = λ o. let z : _≡_ {A = ℕ} 0 1 = cc o in absurd (omega arith);
       foreign = λ e o. (let q : ForeignCheckpoint 0 ≡ e = cc o in sym q, sym (t .known) ∙ c .if1 .left);
     }
