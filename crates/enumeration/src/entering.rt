@@ -2,7 +2,7 @@
 ghost use mathlib.Core.List.{List};
 ghost use Prim.Native.Nat.{ℕ};
 ghost use Rattle.formula.specs.InnerFits.{FormulaFits};
-ghost use Rattle.matched.specs.InnerAccept.{Reads, WasRead};
+ghost use Rattle.matched.specs.InnerAccept.{Decides};
 ghost use Rattle.walk.specs.InnerStack.{Tree};
 ghost use Rattle.enumeration.specs.InnerState.{Follows};
 ghost use Rattle.enumeration.specs.InnerRead.{HasTree};
@@ -41,14 +41,12 @@ fn enter_formula(f: Formula, c: Checkpoint) -> Entered
     }
 }
 
-// The state of a checkpoint in the walk of the input that was read, or the refusal.
-pub fn enter(read: Outcome, f: Formula, c: Checkpoint) -> Entered
-    requires { ⌜ WasRead read f ⌝ }
-    ensures { λ r. ⌜ ((s : List ℕ) → Reads s read f → Enters s f (checkpoint-values c) r) ⌝ }
+// The state of a checkpoint in the walk of an input, by what comes of the input, or the refusal.
+pub fn enter(accepted: Outcome, f: Formula, c: Checkpoint) -> Entered
+    requires { ⌜ ((s : List ℕ) × Decides s accepted f) ⌝ }
+    ensures { λ r. ⌜ ((s : List ℕ) → Decides s accepted f → Enters s f (checkpoint-values c) r) ⌝ }
 {
-    let row = matched::accept(read, f);
-    let outcome = row.outcome;
-    match outcome {
+    match accepted {
         Outcome::Refused(refusal) => Entered {
             outcome: Outcome::Refused(refusal),
             state: root(),

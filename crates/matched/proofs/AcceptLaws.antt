@@ -26,7 +26,7 @@ use Rattle.matching.proofs.MatchedLaws.{length-marks, marks-le}
 use Rattle.matching.proofs.Theorems.{success-matches}
 use Rattle.matched.specs.declared.Row.{Row}
 use Rattle.matched.specs.Acceptance.{Acceptance, accepted, declined, by-outcome, formula-acceptance, acceptance}
-use Rattle.matched.specs.InnerAccept.{raised, Represents, Takes}
+use Rattle.matched.specs.InnerAccept.{raised, Represents, Takes, Decides}
 use Rattle.matched.proofs.AcceptanceLaws.{accepted-is, unreadable-declined}
 use Rattle.matched.proofs.GatherLaws.{sets, formula-sets}
 use Rattle.matched.proofs.PairingLaws.{masks-words}
@@ -34,12 +34,11 @@ use Rattle.matched.proofs.PairingLaws.{masks-words}
 -- ---- what the contract says
 
 module _ (s : List ℕ) (f : Formula) (r : Row) where
-  -- of an accepted input: its formula
-  pub accept-accepted : Represents (acceptance s) f r → r .outcome ≡ outcomes.Accepted → Takes s f
-  accept-accepted w o = by (acceptance s) refl w
+  pub decides : Represents (acceptance s) f r → Decides s (r .outcome) f
+  decides w = record { takes = λ o. takes (acceptance s) refl w o; declines = λ e o. declines e (acceptance s) w o }
     where
-      by : (a : Acceptance) → acceptance s ≡ a → Represents a f r → Takes s f
-      by (accepted n cs row) e w = let a = accepted-is s n cs row e in record {
+      takes : (a : Acceptance) → acceptance s ≡ a → Represents a f r → r .outcome ≡ outcomes.Accepted → Takes s f
+      takes (accepted n cs row) e w o = let a = accepted-is s n cs row e in record {
         variables = n;
         clauses = cs;
         row = row;
@@ -49,15 +48,11 @@ module _ (s : List ℕ) (f : Formula) (r : Row) where
         sized = a .sized;
         fits = rw (w .formula) (formula-fits (a .sized));
       }
-      by (declined t row) e w = let z : _≡_ {A = ℕ} 0 1 = cc (w .outcome) in absurd (omega arith)
+      takes (declined t row) e w o = let z : _≡_ {A = ℕ} 0 1 = cc (w .outcome) in absurd (omega arith)
 
-  -- of a refused one: the refusal
-  pub accept-refused : (e : Refusal) → Represents (acceptance s) f r → r .outcome ≡ outcomes.Refused e → (row : List ℕ) × (acceptance s ≡ declined e row)
-  accept-refused e w o = by (acceptance s) w
-    where
-      by : (a : Acceptance) → Represents a f r → (row : List ℕ) × (a ≡ declined e row)
-      by (accepted n cs row) w = let z : _≡_ {A = ℕ} 0 1 = cc (w .outcome) in absurd (omega arith)
-      by (declined t row) w = (row, let q : t ≡ e = cc (w .outcome) in rw q)
+      declines : (e : Refusal) (a : Acceptance) → Represents a f r → r .outcome ≡ outcomes.Refused e → (row : List ℕ) × (a ≡ declined e row)
+      declines e (accepted n cs row) w o = let z : _≡_ {A = ℕ} 0 1 = cc (w .outcome) in absurd (omega arith)
+      declines e (declined t row) w o = (row, let q : t ≡ e = cc (w .outcome) in rw q)
 
 -- ---- a formula that was read
 

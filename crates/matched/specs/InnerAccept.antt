@@ -6,6 +6,7 @@ use lib.ListN.{length, take, getD}
 use Rattle.formula.specs.declared.Formula.{Formula}
 use Rattle.formula.specs.declared.Outcome.{Outcome}
 use Rattle.formula.specs.declared.Outcome.the-variants.{Accepted, Refused}
+use Rattle.formula.specs.declared.Refusal.{Refusal}
 use Rattle.formula.specs.InnerDecode.{decode}
 use Rattle.formula.specs.Decoding.{readable}
 use Rattle.formula.specs.Format.{Literal, Sized}
@@ -30,11 +31,6 @@ HasClauses (declined r row) f = Unit {0}
 -- the reader's answer to an input is this outcome with this formula
 abbrev pub Reads : List ℕ → Outcome → Formula → Type 0
 Reads s o f = record { outcome = o; formula = f } ≡ decoded s
-
--- they are the answer to some input
-pub record WasRead (o : Outcome) (f : Formula) : Type 0 where
-  pub input : List ℕ
-  pub reads : Reads input o f
 
 -- the numbers of a list, each plus k
 abbrev pub raised : ℕ → List ℕ → List ℕ
@@ -63,3 +59,8 @@ pub record Takes (s : List ℕ) (f : Formula) : Type 0 where
   pub formula : f ≡ formula-of variables clauses
   pub sized : Sized variables clauses
   pub fits : FormulaFits f
+
+-- o is what comes of the input, and f its formula if it is accepted
+pub record Decides (s : List ℕ) (o : Outcome) (f : Formula) : Type 0 where
+  pub takes : o ≡ Accepted → Takes s f
+  pub declines : (e : Refusal) → o ≡ Refused e → (row : List ℕ) × (acceptance s ≡ declined e row)

@@ -14,7 +14,7 @@ ghost use Rattle.formula.specs.InnerFits.{FormulaFits};
 ghost use Rattle.matching.specs.Result.{packed};
 ghost use Rattle.matching.specs.Search.{outcome};
 ghost use Rattle.matched.specs.Acceptance.{acceptance, formula-acceptance};
-ghost use Rattle.matched.specs.InnerAccept.{Reads, WasRead, raised, Represents};
+ghost use Rattle.matched.specs.InnerAccept.{Reads, raised, Represents};
 ghost use Rattle.matched.specs.InnerGather.{sets-of};
 ghost use Rattle.matched.specs.Judge.{judgement-values, judge};
 use formula::Formula;
@@ -84,7 +84,7 @@ fn match_row(f: Formula) -> Row
 
 // S5.6: what comes of an input, by the reader's answer. The formula stays with the caller: to hand it on would be to copy it.
 pub fn accept(outcome: Outcome, f: Formula) -> Row
-    requires { ⌜ WasRead outcome f ⌝ }
+    requires { ⌜ ((s : List ℕ) × Reads s outcome f) ⌝ }
     ensures { λ r. ⌜ ((s : List ℕ) → Reads s outcome f → Represents (acceptance s) f r) ⌝ }
 {
     match outcome {

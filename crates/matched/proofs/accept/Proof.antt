@@ -12,7 +12,7 @@ enum-told : tie.Need-enum-told
 enum-told c = search needs
 
 match-row-requires : tie.Need-match-row-requires
-match-row-requires c κs = decoded-accepted _ _ (c .before .before .pre .reads) (c .enum-told .given .1) .fits
+match-row-requires c κs = decoded-accepted _ _ (c .before .before .pre .1) (c .enum-told .given .1) .fits
 
 returns : tie.Need-returns
 returns c s e = refused-represents s _ (decoded-refused s _ _ e (c .before .outcome .given .1)) _ _

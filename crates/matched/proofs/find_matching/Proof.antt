@@ -38,7 +38,7 @@ decode-requires : tie.Need-decode-requires
 decode-requires c κs = search needs
 
 accept-requires : tie.Need-accept-requires
-accept-requires c κs = record { input = _; reads = c .before .decode .ensures }
+accept-requires c κs = (_, c .before .decode .ensures)
 
 write-requires : tie.Need-write-requires
 write-requires c κs =

@@ -5,7 +5,8 @@ use mathlib.Core.List.{List}
 use Prim.Native.Nat.{ℕ, _≤_}
 use lib.ListN.{length}
 use borrow.Author.Needs.{needs}
-use Rattle.matched.proofs.AcceptLaws.{accept-accepted, accept-refused}
+use Rattle.matched.specs.InnerAccept.{Decides}
+use Rattle.matched.proofs.AcceptLaws.{decides}
 use Rattle.writing.specs.Placed.{Room}
 use Rattle.printing.specs.Printing.{max-input, max-print}
 use Rattle.printing.specs.Printed.{printed}
@@ -18,9 +19,15 @@ use Rattle.printing.proofs.print.Tie as tie
 room : (s b : List ℕ) → length s ≤ max-input → max-print ≤ length b → Room 0 (printed s) b
 room s b h k = let l = printed-length s h in omega arith
 
--- the entry
+-- the entry, and what comes of the input
 abbrev entry : tie.After-accept → tie.Start
-entry d = d .before .before .before .before .before
+entry d = d .before .before .before .before .before .before .before
+
+abbrev decided : (d : tie.After-accept) → Decides (entry d .args .input .now) (d .accept .result .outcome) (d .before .before .decode .result .formula)
+decided d = decides _ _ _ (d .accept .ensures _ (d .before .before .decode .ensures))
+
+decode-requires : tie.Need-decode-requires
+decode-requires c κs = search needs
 
 returns : tie.Need-returns
 returns c = let b = c .before .before .before in print-short (b .args .input .now) (b .args .buffer .now) (omega arith)
@@ -29,7 +36,7 @@ returns-2 : tie.Need-returns-2
 returns-2 c = let b = c .before .before .before .before in print-long (b .args .input .now) (b .args .buffer .now) (omega arith) (omega arith)
 
 accept-requires : tie.Need-accept-requires
-accept-requires c κs = search needs
+accept-requires c κs = (_, c .before .decode .ensures)
 
 enum-known-outcome : tie.Need-enum-known-outcome
 enum-known-outcome c = search needs
@@ -39,7 +46,7 @@ put-refusal-line-requires c κs =
     let o = c .before .before in
     let d = o .before .before in
     let b = entry d in
-    subst (λ (l : List ℕ). Room 0 l (b .args .buffer .now)) (let w = accept-refused (b .args .input .now) _ _ (d .accept .ensures) (o .outcome .given .1) in declined-prints (b .args .input .now) _ (w .0) (w .1))
+    subst (λ (l : List ℕ). Room 0 l (b .args .buffer .now)) (let w = decided d .declines _ (o .outcome .given .1) in declined-prints (b .args .input .now) _ (w .0) (w .1))
     (room (b .args .input .now) (b .args .buffer .now) (omega arith) (omega arith))
 
 enum-told : tie.Need-enum-told
@@ -47,12 +54,12 @@ enum-told c = search needs
 
 put-formula-requires : tie.Need-put-formula-requires
 put-formula-requires c κs =
-    let t = c .before .before in
+    let t = c .before in
     let d = t .before .before in
     let b = entry d in
     record {
       input = b .args .input .now;
-      takes = accept-accepted _ _ (d .accept .ensures) (t .enum-told .given .1);
+      takes = decided d .takes (t .enum-told .given .1);
       room = room (b .args .input .now) (b .args .buffer .now) (omega arith) (omega arith);
     }
 
@@ -65,7 +72,7 @@ returns-3 c =
     let o = line .before .before .before in
     let d = o .before .before in
     let b = entry d in
-    let w = accept-refused (b .args .input .now) _ _ (d .accept .ensures) (o .outcome .given .1) in
+    let w = decided d .declines _ (o .outcome .given .1) in
     print-written (b .args .input .now) (b .args .buffer .now) (omega arith) _ _ (omega arith) (rw (declined-prints (b .args .input .now) _ (w .0) (w .1)) (line .put-refusal-line .ensures))
 
 same-length-2 : tie.Need-same-length-2
@@ -74,10 +81,10 @@ same-length-2 c = search needs
 returns-4 : tie.Need-returns-4
 returns-4 c =
     let lines = c .before .before in
-    let t = lines .before .before .before in
+    let t = lines .before .before in
     let d = t .before .before in
     let b = entry d in
-    let w = accept-accepted (b .args .input .now) _ (d .accept .ensures) (t .enum-told .given .1) in
+    let w = decided d .takes (t .enum-told .given .1) in
     print-written (b .args .input .now) (b .args .buffer .now) (omega arith) _ _ (omega arith) (lines .put-formula .ensures _ w)
 
 pub print-spec : {M : Type 1} → statement M
@@ -86,6 +93,7 @@ print-spec =
     (tie.spec
     returns
     returns-2
+    decode-requires
     accept-requires
     enum-known-outcome
     put-refusal-line-requires

@@ -2,24 +2,34 @@
 use mathlib.Core.Path.{sym, _∙_}
 use native.Mathlib.Omega.{arith}
 use borrow.Author.Needs.{needs}
+use Rattle.matched.proofs.AcceptLaws.{decides}
 use Rattle.enumeration.specs.Values.{checkpoint-values}
-use Rattle.enumeration.specs.InnerEnter.{Begun}
+use Rattle.enumeration.specs.InnerEnter.{Begun, Enters}
 use Rattle.enumeration.proofs.calls.walk.Statement.{statement}
 use Rattle.enumeration.proofs.calls.walk.Tie as tie
 
 -- where the call begins
+abbrev entered : (e : tie.After-enter)
+    → (let d = e .before .before .before in
+    let b = d .before .before in
+    Enters (b .args .input .now) (d .decode .result .formula) (checkpoint-values (b .args .checkpoint)) (e .enter .result))
+entered e = let a = e .before in e .enter .ensures _ (decides _ _ _ (a .accept .ensures _ (a .before .before .decode .ensures)))
+
 abbrev begun : (c : tie.After-enum-told)
     → (let e = c .before .before in
-       let d = e .before .before in
-       let b = d .before .before in
-       Begun (b .args .input .now) (d .decode .result .formula) (checkpoint-values (b .args .checkpoint)) (e .enter .result))
-begun c = let e = c .before .before in e .enter .ensures _ (e .before .before .decode .ensures) .begun (c .enum-told .given .1)
+    let d = e .before .before .before in
+    let b = d .before .before in
+    Begun (b .args .input .now) (d .decode .result .formula) (checkpoint-values (b .args .checkpoint)) (e .enter .result))
+begun c = entered (c .before .before) .begun (c .enum-told .given .1)
 
 decode-requires : tie.Need-decode-requires
 decode-requires c κs = search needs
 
+accept-requires : tie.Need-accept-requires
+accept-requires c κs = (_, c .before .decode .ensures)
+
 enter-requires : tie.Need-enter-requires
-enter-requires c κs = record { input = _; reads = c .before .decode .ensures }
+enter-requires c κs = (_, decides _ _ _ (c .accept .ensures _ (c .before .before .decode .ensures)))
 
 enum-known-outcome : tie.Need-enum-known-outcome
 enum-known-outcome c = search needs
@@ -42,8 +52,7 @@ tell-requires c κs =
 returns : tie.Need-returns
 returns c =
     let o = c .before .before in
-    let e = o .before .before in
-    c .refuse .ensures ∙ sym (e .enter .ensures _ (e .before .before .decode .ensures) .refused (o .outcome .given .0 .0) (o .outcome .given .1) _)
+    c .refuse .ensures ∙ sym (entered (o .before .before) .refused (o .outcome .given .0 .0) (o .outcome .given .1) _)
 
 returns-2 : tie.Need-returns-2
 returns-2 c =
@@ -56,6 +65,7 @@ walk-spec =
     tie.close
     (tie.spec
     decode-requires
+    accept-requires
     enter-requires
     enum-known-outcome
     refuse-requires

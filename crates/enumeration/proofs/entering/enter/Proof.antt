@@ -1,14 +1,11 @@
 -- `enter` meets its contract: by what comes of the input, then by the checkpoint's test.
 use Prim.Native.Nat.{ℕ}
-use mathlib.Core.List.{List}
 use mathlib.Core.Path.{_≡_, ap, _∙_}
 use native.Mathlib.Omega.{arith}
 use borrow.Author.Needs.{needs}
 use lib.ListN.{length}
 use Rattle.limits.specs.Limits.{max-variables}
 use Rattle.formula.specs.declared.Refusal.{Refusal}
-use Rattle.matched.specs.InnerAccept.{Reads, Takes}
-use Rattle.matched.proofs.AcceptLaws.{accept-accepted, accept-refused}
 use Rattle.walk.specs.Results.{refusing}
 use Rattle.walk.proofs.RefusalLaws.{call-declined}
 use Rattle.enumeration.specs.Values.{checkpoint-values}
@@ -16,16 +13,8 @@ use Rattle.enumeration.proofs.EnterLaws.{tree-of, tree-follows, entered
 use Rattle.enumeration.proofs.entering.enter.Statement.{statement}
 use Rattle.enumeration.proofs.entering.enter.Tie as tie
 
--- what comes of an input that was read
-abbrev taken : (c : tie.After-enum-told) (s : List ℕ) → Reads s (c .before .before .before .args .read) (c .before .before .before .args .f)
-    → Takes s (c .before .before .before .args .f)
-taken c s q = accept-accepted s _ _ (c .before .before .accept .ensures s q) (c .enum-told .given .1)
-
-accept-requires : tie.Need-accept-requires
-accept-requires c κs = search needs
-
-enum-known-outcome : tie.Need-enum-known-outcome
-enum-known-outcome c = search needs
+enum-known-accepted : tie.Need-enum-known-accepted
+enum-known-accepted c = search needs
 
 root-requires : tie.Need-root-requires
 root-requires c κs = search needs
@@ -35,29 +24,27 @@ enum-told c = search needs
 
 enter-formula-requires : tie.Need-enter-formula-requires
 enter-formula-requires c κs =
-    let b = c .before .before .before in
-    let s = b .pre .input in
-    let w = taken c s (b .pre .reads) in
-    (w .fits, record { tree = tree-of s _ w; follows = tree-follows s _ w })
+    let p = c .before .before .pre in
+    let w = p .1 .takes (c .enum-told .given .1) in
+    (w .fits, record { tree = tree-of (p .0) _ w; follows = tree-follows (p .0) _ w })
 
 returns : tie.Need-returns
-returns c s r =
+returns c s d =
     let o = c .before .before in
-    let a = o .before .before in
-    let x = o .outcome .given .0 .0 in
-    let w = accept-refused s _ (a .accept .result) x (a .accept .ensures s r) (o .outcome .given .1) in
+    let x = o .accepted .given .0 .0 in
+    let w = d .declines x (o .accepted .given .1) in
     record {
       begun = λ q. let z : _≡_ {A = ℕ} 0 1 = cc q in absurd (omega arith);
       refused = λ e q b.
-          let d : x ≡ e = cc q in
-          call-declined s x (w .0) _ b (w .1) ∙ ap (λ (y : Refusal). refusing y (checkpoint-values (a .before .args .c))) d;
+          let t : x ≡ e = cc q in
+          call-declined s x (w .0) _ b (w .1) ∙ ap (λ (y : Refusal). refusing y (checkpoint-values (o .before .before .args .c))) t;
     }
 
 returns-2 : tie.Need-returns-2
-returns-2 c s r =
+returns-2 c s d =
     let t = c .before in
-    let b = t .before .before .before in
-    let w = taken t s r in
+    let b = t .before .before in
+    let w = d .takes (t .enum-told .given .1) in
     let full : length (b .args .c .bytes) ≡ max-variables = search (needs, b .good .1 .1) in
     let S = c .enter-formula .ensures (tree-of s _ w) (tree-follows s _ w) in
     record {
@@ -66,13 +53,4 @@ returns-2 c s r =
     }
 
 pub enter-spec : {M : Type 1} → statement M
-enter-spec =
-    tie.close
-    (tie.spec
-    accept-requires
-    enum-known-outcome
-    root-requires
-    enum-told
-    enter-formula-requires
-    returns
-    returns-2)
+enter-spec = tie.close (tie.spec enum-known-accepted root-requires enum-told enter-formula-requires returns returns-2)
