@@ -32,7 +32,7 @@ CRATES = ROOT / 'crates'
 PROOFS = ROOT / 'docs' / 'PROOFS.md'
 STATEMENTS = ('Demands', 'Theorems', 'ListTheorems', 'MarkedCases')
 APART = ('exhaustive',)  # compares the walk with a second lister: no statement rests on it
-OURS = ('enumeration::root', 'matched::accept', 'splitting::choose_free')  # ask nothing, and are for our own crates all the same
+OURS = ('enumeration::root', 'formula::decode', 'masks::lowest', 'masks::meets', 'masks::minus', 'splitting::choose_free')  # ask nothing, and are for our own crates all the same
 
 USE = re.compile(r'Rattle·(\w+?)(?:·\w+)?\.(specs|proofs)\.([\w.-]+?)(?:\.\{(.*)\}|\s+as\s+(\S+?))?;?$')
 MODIFIERS = ('pub', 'abbrev', 'unfoldable')
