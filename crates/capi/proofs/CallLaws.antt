@@ -19,20 +19,20 @@ use Rattle.capi.specs.Interface.{results-size, checkpoint-size, check-ro
 use Rattle.capi.proofs.RowLaws.{beside}
 
 module _ (s results : List ℕ) (a : ℕ) where
-  pub check-unwritten : (length results ≡ results-size → ⊥) → check-called s a results ≡ record { code = 1; results = results }
+  pub check-unwritten : (length results ≡ results-size → ⊥) → check-called s a results ≡ (1, results)
   unfolding check-called
   check-unwritten h = rw (ne-eqb _ _ h)
 
   pub check-written :
       (r : check.VerdictValues) (after : List ℕ) →
       length results ≡ results-size →
-      r ≡ checked s a → after ≡ check-row r → check-called s a results ≡ record { code = 0; results = after }
+      r ≡ checked s a → after ≡ check-row r → check-called s a results ≡ (0, after)
   unfolding check-called
   check-written r after h e f = rw (eq-eqb _ _ h, f, e)
 
 module _ (s buffer results : List ℕ) where
   pub judge-unwritten :
-      (length results ≡ results-size → ⊥) → judge-called s buffer results ≡ record { code = 1; buffer = buffer; results = results }
+      (length results ≡ results-size → ⊥) → judge-called s buffer results ≡ (1, buffer, results)
   unfolding judge-called
   judge-unwritten h = rw (ne-eqb _ _ h)
 
@@ -41,33 +41,33 @@ module _ (s buffer results : List ℕ) where
       length results ≡ results-size →
       r ≡ judge s buffer .answer →
       left ≡ judge s buffer .buffer →
-      after ≡ judge-row r → judge-called s buffer results ≡ record { code = 0; buffer = left; results = after }
+      after ≡ judge-row r → judge-called s buffer results ≡ (0, left, after)
   unfolding judge-called
   judge-written r left after h e l f = rw (eq-eqb _ _ h, f, e, l)
 
 module _ (checkpoint : List ℕ) where
-  pub start-unwritten : (length checkpoint ≡ checkpoint-size → ⊥) → start-called checkpoint ≡ record { code = 1; checkpoint = checkpoint }
+  pub start-unwritten : (length checkpoint ≡ checkpoint-size → ⊥) → start-called checkpoint ≡ (1, checkpoint)
   unfolding start-called
   start-unwritten h = rw (ne-eqb _ _ h)
 
   pub start-written :
       (c : Checkpoint) (after : List ℕ) →
       length checkpoint ≡ checkpoint-size →
-      c ≡ start → after ≡ checkpoint-bytes c → start-called checkpoint ≡ record { code = 0; checkpoint = after }
+      c ≡ start → after ≡ checkpoint-bytes c → start-called checkpoint ≡ (0, after)
   unfolding start-called
   start-written c after h e f = rw (eq-eqb _ _ h, f, e)
 
 module _ (s checkpoint results : List ℕ) (budget : ℕ) where
   pub walk-unwritten :
       (length checkpoint ≡ checkpoint-size → ⊥) →
-      walk-called s checkpoint budget results ≡ record { code = 1; checkpoint = checkpoint; results = results }
+      walk-called s checkpoint budget results ≡ (1, checkpoint, results)
   unfolding walk-called
   walk-unwritten h = rw (ne-eqb _ _ h)
 
   pub walk-unwritten-2 :
       length checkpoint ≡ checkpoint-size →
       (length results ≡ results-size → ⊥) →
-      walk-called s checkpoint budget results ≡ record { code = 1; checkpoint = checkpoint; results = results }
+      walk-called s checkpoint budget results ≡ (1, checkpoint, results)
   unfolding walk-called
   walk-unwritten-2 h k = rw (eq-eqb _ _ h, ne-eqb _ _ k)
 
@@ -87,21 +87,21 @@ module _ (s checkpoint results : List ℕ) (budget : ℕ) where
       walked-values w ≡ walk-call s from budget →
       left ≡ checkpoint-bytes (checkpoint-values (w .checkpoint)) →
       after ≡ walk-row (walked-values w) →
-      walk-called s checkpoint budget results ≡ record { code = 0; checkpoint = left; results = after }
+      walk-called s checkpoint budget results ≡ (0, left, after)
   walk-written from w left after h k f e l g =
       rw (walk-called-is h k, ← f, ← e, l, g, beside (w .answer) (w .steps) (w .expansions) (checkpoint-values (w .checkpoint)))
 
 module _ (s checkpoint models results : List ℕ) where
   pub list-unwritten :
       (length checkpoint ≡ checkpoint-size → ⊥) →
-      list-called s checkpoint models results ≡ record { code = 1; checkpoint = checkpoint; models = models; results = results }
+      list-called s checkpoint models results ≡ (1, checkpoint, models, results)
   unfolding list-called
   list-unwritten h = rw (ne-eqb _ _ h)
 
   pub list-unwritten-2 :
       length checkpoint ≡ checkpoint-size →
       (length results ≡ results-size → ⊥) →
-      list-called s checkpoint models results ≡ record { code = 1; checkpoint = checkpoint; models = models; results = results }
+      list-called s checkpoint models results ≡ (1, checkpoint, models, results)
   unfolding list-called
   list-unwritten-2 h k = rw (eq-eqb _ _ h, ne-eqb _ _ k)
 
@@ -121,7 +121,7 @@ module _ (s checkpoint models results : List ℕ) where
       Delivered (next-models s from (length models)) models brought r →
       left ≡ checkpoint-bytes (checkpoint-values (r .checkpoint)) →
       after ≡ list-row (r .count) (listed-values r) →
-      list-called s checkpoint models results ≡ record { code = 0; checkpoint = left; models = brought; results = after }
+      list-called s checkpoint models results ≡ (0, left, brought, after)
   list-written from r left brought after h k f e l g =
       let x = next-models s from (length models) in
       let c : x .last .checkpoint ≡ checkpoint-values (r .checkpoint) =

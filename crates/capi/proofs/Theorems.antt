@@ -15,7 +15,7 @@ use Rattle.walk.specs.Results.{AnswerKind, says-model, says-spent, says-ended, 
 use Rattle.walk.proofs.ResumedLaws.{call-bytes}
 use Rattle.enumeration.proofs.RefusedLaws.{refuses-or-goes}
 use Rattle.enumeration.proofs.ListTheorems.{next-refused}
-use Rattle.capi.specs.Interface.{results-size, checkpoint-size, WalkCalled, kind-code, walk-row, checkpoint-bytes, checkpoint-in, start-called, walk-told, walk-called, walks-called, list-called}
+use Rattle.capi.specs.Interface.{results-size, checkpoint-size, kind-code, walk-row, checkpoint-bytes, checkpoint-in, start-called, walk-told, walk-called, walks-called, list-called}
 use Rattle.capi.proofs.CallLaws.{start-written, walk-called-is, list-called-is}
 
 -- ---- the bytes of a checkpoint
@@ -47,18 +47,18 @@ refused-kept : (s : List ℕ) (c : Checkpoint) (b : ℕ) → walk-call s c b .ki
 refused-kept s c b h = ⊎-elim (λ w. ap (λ (r : Result). r .checkpoint) (w .1 b)) (λ w. absurd (w .0 b h)) (refuses-or-goes s c)
 
 module _ (s checkpoint results : List ℕ) (h : length checkpoint ≡ checkpoint-size) (k : length results ≡ results-size) where
-  -- A refused norwythai_walk leaves the checkpoint's bytes as they were.
+  -- A refused norwythai_walk leaves the checkpoint's bytes, place 1, as they were; place 2 has the results.
   pub walk-refused : (b : ℕ) → (let after = walk-called s checkpoint b results in
-      getD (after .results) 0 0 ≡ kind-code says-refused → after .checkpoint ≡ checkpoint)
+      getD (after .2) 0 0 ≡ kind-code says-refused → after .1 ≡ checkpoint)
   walk-refused b e =
       let q = walk-called-is s checkpoint results b h k in
       let r = kind-refused _ (rw q at e) in
       rw q (ap checkpoint-bytes (refused-kept s (checkpoint-in checkpoint) b r) ∙ written-back checkpoint h)
 
-  -- A refused norwythai_list has written no model: results[4] is 0, and the models and the checkpoint's bytes are as they were.
+  -- A refused norwythai_list has written no model: results[4] is 0, and the models, place 2, and the checkpoint's bytes, place 1, are as
+  -- they were.
   pub list-refused : (models : List ℕ) → (let after = list-called s checkpoint models results in
-      getD (after .results) 0 0 ≡ kind-code says-refused
-      → (getD (after .results) 4 0 ≡ 0) × (after .models ≡ models) × (after .checkpoint ≡ checkpoint))
+      getD (after .3) 0 0 ≡ kind-code says-refused → (getD (after .3) 4 0 ≡ 0) × (after .2 ≡ models) × (after .1 ≡ checkpoint))
   list-refused models e =
       let q = list-called-is s checkpoint models results h k in
       let w = next-refused s (checkpoint-in checkpoint) (length models) (kind-refused _ (rw q at e)) in
@@ -77,14 +77,14 @@ calls-walked s c results (b ∷ bs) h k =
     let l : length (checkpoint-bytes c) ≡ checkpoint-size = omega arith in
     let r = walk-call s c b in
     rw (walk-called-is s (checkpoint-bytes c) results b l k)
-    (ap (λ (t : List WalkCalled). walk-told r ∷ t) (calls-walked s (r .checkpoint) (walk-row r) bs (call-bytes s c b h) refl))
+    (ap (λ (t : List (ℕ × List ℕ × List ℕ)). walk-told r ∷ t) (calls-walked s (r .checkpoint) (walk-row r) bs (call-bytes s c b h) refl))
 
 -- S10, demand 3, in the interface: after norwythai_start, each norwythai_walk of a list returns 0 and leaves in the results, and as the
 -- checkpoint's 50 bytes, the result and the checkpoint of the walk call that demand 3 is about, whatever stood in the buffers before.
 pub walked-from-start :
     (s checkpoint results bs : List ℕ) →
     length checkpoint ≡ checkpoint-size →
-    length results ≡ results-size → walks-called s (start-called checkpoint .checkpoint) results bs ≡ map walk-told (walk-calls s start bs)
+    length results ≡ results-size → walks-called s (start-called checkpoint .1) results bs ≡ map walk-told (walk-calls s start bs)
 unfolding start checkpoint-of
 walked-from-start s checkpoint results bs h k =
     rw (start-written checkpoint start (checkpoint-bytes start) h refl refl)

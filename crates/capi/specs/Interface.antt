@@ -1,4 +1,4 @@
--- S13.1: the interface to C: for each exported function the number that it returns, and each lent buffer as it is left.
+-- S13.1: the interface to C.
 use Prim.Native.Nat.{ℕ, _+_}
 use mathlib.Core.Bool.{Bool, cond, _&&_}
 use mathlib.Core.List.{List, [], _∷_}
@@ -57,7 +57,8 @@ checkpoint-bytes c = c .mode ∷ c .length ∷ c .bytes
 abbrev pub checkpoint-in : List ℕ → Checkpoint
 checkpoint-in b = record { mode = getD b 0 0; length = getD b 1 0; bytes = drop 2 b }
 
--- ---- the functions. Each writes only into buffers of the fixed lengths: else it returns 1, and all stays as it was
+-- ---- the functions: the number that each returns, then its lent buffers as it leaves them, in the order of its arguments. Each writes
+-- only into buffers of the fixed lengths: else it returns 1, and all stays as it was
 
 abbrev pub results-sized : List ℕ → Bool
 results-sized results = eqb (length results) results-size
@@ -65,86 +66,47 @@ results-sized results = eqb (length results) results-size
 abbrev pub checkpoint-sized : List ℕ → Bool
 checkpoint-sized checkpoint = eqb (length checkpoint) checkpoint-size
 
--- norwythai_check
-pub record CheckCalled : Type 0 where
-  pub code : ℕ
-  pub results : List ℕ
+-- norwythai_check: the input, the assignment, and the results as they were
+unfoldable pub check-called : List ℕ → ℕ → List ℕ → ℕ × List ℕ
+check-called s a results = cond (results-sized results) (0, check-row (checked s a)) (1, results)
 
--- the input, the assignment, and the results as they were
-unfoldable pub check-called : List ℕ → ℕ → List ℕ → CheckCalled
-check-called s a results =
-    cond (results-sized results) (record { code = 0; results = check-row (checked s a) }) (record { code = 1; results = results })
-
--- norwythai_judge
-pub record JudgeCalled : Type 0 where
-  pub code : ℕ
-  pub buffer : List ℕ
-  pub results : List ℕ
-
--- the input, and the pairing buffer and the results as they were
-unfoldable pub judge-called : List ℕ → List ℕ → List ℕ → JudgeCalled
+-- norwythai_judge: the input, and the pairing buffer and the results as they were
+unfoldable pub judge-called : List ℕ → List ℕ → List ℕ → ℕ × List ℕ × List ℕ
 judge-called s buffer results =
     let j = judge s buffer in
-    cond (results-sized results)
-    (record { code = 0; buffer = j .buffer; results = judge-row (j .answer) })
-    (record { code = 1; buffer = buffer; results = results })
+    cond (results-sized results) (0, j .buffer, judge-row (j .answer)) (1, buffer, results)
 
--- norwythai_start
-pub record StartCalled : Type 0 where
-  pub code : ℕ
-  pub checkpoint : List ℕ
-
--- the checkpoint as it was
-unfoldable pub start-called : List ℕ → StartCalled
-start-called checkpoint =
-    cond (checkpoint-sized checkpoint)
-    (record { code = 0; checkpoint = checkpoint-bytes start })
-    (record { code = 1; checkpoint = checkpoint })
-
--- norwythai_walk
-pub record WalkCalled : Type 0 where
-  pub code : ℕ
-  pub checkpoint : List ℕ
-  pub results : List ℕ
+-- norwythai_start: the checkpoint as it was
+unfoldable pub start-called : List ℕ → ℕ × List ℕ
+start-called checkpoint = cond (checkpoint-sized checkpoint) (0, checkpoint-bytes start) (1, checkpoint)
 
 -- a walk call's result in the buffers
-abbrev pub walk-told : Result → WalkCalled
-walk-told r = record { code = 0; checkpoint = checkpoint-bytes (r .checkpoint); results = walk-row r }
+abbrev pub walk-told : Result → ℕ × List ℕ × List ℕ
+walk-told r = (0, checkpoint-bytes (r .checkpoint), walk-row r)
 
--- the input, the checkpoint as it was, the budget, and the results as they were
-unfoldable pub walk-called : List ℕ → List ℕ → ℕ → List ℕ → WalkCalled
+-- norwythai_walk: the input, the checkpoint as it was, the budget, and the results as they were
+unfoldable pub walk-called : List ℕ → List ℕ → ℕ → List ℕ → ℕ × List ℕ × List ℕ
 walk-called s checkpoint budget results =
     cond (checkpoint-sized checkpoint && results-sized results)
     (walk-told (walk-call s (checkpoint-in checkpoint) budget))
-    (record { code = 1; checkpoint = checkpoint; results = results })
+    (1, checkpoint, results)
 
 -- What a list of such calls returns and writes, budget by budget. All get the same input, and nobody else writes the checkpoint or the
 -- results between them.
-unfoldable pub walks-called : List ℕ → List ℕ → List ℕ → List ℕ → List WalkCalled
+unfoldable pub walks-called : List ℕ → List ℕ → List ℕ → List ℕ → List (ℕ × List ℕ × List ℕ)
 walks-called s checkpoint results [] = []
 walks-called s checkpoint results (b ∷ bs) =
     let r = walk-called s checkpoint b results in
-    r ∷ walks-called s (r .checkpoint) (r .results) bs
-
--- norwythai_list
-pub record ListCalled : Type 0 where
-  pub code : ℕ
-  pub checkpoint : List ℕ
-  pub models : List ℕ
-  pub results : List ℕ
+    r ∷ walks-called s (r .1) (r .2) bs
 
 -- what a list of calls brings, in the buffers: the models stand over the first ones
-abbrev pub list-told : List ℕ → Delivery → ListCalled
-list-told models x = record {
-  code = 0;
-  checkpoint = checkpoint-bytes (x .last .checkpoint);
-  models = over (x .models) models;
-  results = list-row (length (x .models)) (x .last);
-}
+abbrev pub list-told : List ℕ → Delivery → ℕ × List ℕ × List ℕ × List ℕ
+list-told models x =
+    (0, checkpoint-bytes (x .last .checkpoint), over (x .models) models, list-row (length (x .models)) (x .last))
 
--- the input, and the checkpoint, the models and the results as they were
-unfoldable pub list-called : List ℕ → List ℕ → List ℕ → List ℕ → ListCalled
+-- norwythai_list: the input, and the checkpoint, the models and the results as they were
+unfoldable pub list-called : List ℕ → List ℕ → List ℕ → List ℕ → ℕ × List ℕ × List ℕ × List ℕ
 list-called s checkpoint models results =
     cond (checkpoint-sized checkpoint && results-sized results)
     (list-told models (next-models s (checkpoint-in checkpoint) (length models)))
-    (record { code = 1; checkpoint = checkpoint; models = models; results = results })
+    (1, checkpoint, models, results)

@@ -153,7 +153,7 @@ fn put_checkpoint(c: Checkpoint, checkpoint: &mut [u8])
 // S4.3: the act check.
 #[no_mangle]
 pub extern "C" fn norwythai_check(input: &[u8], assignment: u64, results: &mut [u64]) -> u32
-    ensures { λ r. ⌜ check-called (now (input .entry)) assignment (now (results .entry)) ≡ record { code = r; results = now (results .exit) } ⌝ }
+    ensures { λ r. ⌜ check-called (now (input .entry)) assignment (now (results .entry)) ≡ (r, now (results .exit)) ⌝ }
 {
     if results.len() != RESULTS_SIZE {
         return 1;
@@ -165,7 +165,7 @@ pub extern "C" fn norwythai_check(input: &[u8], assignment: u64, results: &mut [
 // S5.7: the act judge.
 #[no_mangle]
 pub extern "C" fn norwythai_judge(input: &[u8], buffer: &mut [u8], results: &mut [u64]) -> u32
-    ensures { λ r. ⌜ judge-called (now (input .entry)) (now (buffer .entry)) (now (results .entry)) ≡ record { code = r; buffer = now (buffer .exit); results = now (results .exit) } ⌝ }
+    ensures { λ r. ⌜ judge-called (now (input .entry)) (now (buffer .entry)) (now (results .entry)) ≡ (r, now (buffer .exit), now (results .exit)) ⌝ }
 {
     if results.len() != RESULTS_SIZE {
         return 1;
@@ -177,7 +177,7 @@ pub extern "C" fn norwythai_judge(input: &[u8], buffer: &mut [u8], results: &mut
 // S8.3: the start checkpoint.
 #[no_mangle]
 pub extern "C" fn norwythai_start(checkpoint: &mut [u8]) -> u32
-    ensures { λ r. ⌜ start-called (now (checkpoint .entry)) ≡ record { code = r; checkpoint = now (checkpoint .exit) } ⌝ }
+    ensures { λ r. ⌜ start-called (now (checkpoint .entry)) ≡ (r, now (checkpoint .exit)) ⌝ }
 {
     if checkpoint.len() != CHECKPOINT_SIZE {
         return 1;
@@ -194,7 +194,7 @@ pub extern "C" fn norwythai_walk(
     budget: u32,
     results: &mut [u64],
 ) -> u32
-    ensures { λ r. ⌜ walk-called (now (input .entry)) (now (checkpoint .entry)) budget (now (results .entry)) ≡ record { code = r; checkpoint = now (checkpoint .exit); results = now (results .exit) } ⌝ }
+    ensures { λ r. ⌜ walk-called (now (input .entry)) (now (checkpoint .entry)) budget (now (results .entry)) ≡ (r, now (checkpoint .exit), now (results .exit)) ⌝ }
 {
     if checkpoint.len() != CHECKPOINT_SIZE {
         return 1;
@@ -217,7 +217,7 @@ pub extern "C" fn norwythai_list(
     models: &mut [u64],
     results: &mut [u64],
 ) -> u32
-    ensures { λ r. ⌜ list-called (now (input .entry)) (now (checkpoint .entry)) (now (models .entry)) (now (results .entry)) ≡ record { code = r; checkpoint = now (checkpoint .exit); models = now (models .exit); results = now (results .exit) } ⌝ }
+    ensures { λ r. ⌜ list-called (now (input .entry)) (now (checkpoint .entry)) (now (models .entry)) (now (results .entry)) ≡ (r, now (checkpoint .exit), now (models .exit), now (results .exit)) ⌝ }
 {
     if checkpoint.len() != CHECKPOINT_SIZE {
         return 1;

@@ -13,7 +13,7 @@ use Rattle.masks.specs.Mask.{bit, with, full}
 use Rattle.masks.proofs.BitLaws.{bit-none, bit-with, bit-full}
 use Rattle.masks.proofs.MembersLaws.{mask-same}
 use Rattle.formula.specs.Format.{Literal, Sized}
-use Rattle.formula.specs.Masked.{formula-of}
+use Rattle.formula.specs.InnerMasked.{formula-of}
 use Rattle.splitting.specs.declared.Assignment.{Assignment}
 use Rattle.splitting.specs.Choosing.{choice}
 use Rattle.splitting.specs.Terms.{Sound}

@@ -15,7 +15,8 @@ use Rattle.limits.specs.Limits.{max-clauses}
 use Rattle.lists.specs.Padded.{padded}
 use Rattle.lists.proofs.PaddedLaws.{getD-padded}
 use Rattle.lists.proofs.TestLaws.{and-left, and-right, and-both, or-cases, or-swap}
-use Rattle.masks.specs.Mask.{bit, with, minus}
+use Rattle.masks.specs.Mask.{bit, with}
+use Rattle.masks.specs.InnerMask.{minus}
 use Rattle.masks.proofs.BitLaws.{bit-and, bit-minus, bit-with, bit-with-same}
 use Rattle.masks.proofs.MeetLaws.{both-are, nonempty-or}
 use Rattle.formula.specs.declared.Clause.{Clause}
@@ -27,7 +28,7 @@ use Rattle.formula.specs.InnerDecode.{decode}
 use Rattle.formula.specs.Decoding.{refused}
 use Rattle.formula.specs.Format.{Literal}
 use Rattle.formula.specs.InnerCheck.{clause-holds, all-first, clauses-hold}
-use Rattle.formula.specs.Masked.{no-clause, with-literal, with-literals, clause-of}
+use Rattle.formula.specs.InnerMasked.{no-clause, with-literal, with-literals, clause-of}
 use Rattle.formula.specs.InnerModels.{stands, holds, satisfied, stray}
 use Rattle.formula.proofs.MaskedLaws.{Accepts}
 

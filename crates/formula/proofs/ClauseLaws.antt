@@ -16,7 +16,8 @@ use Rattle.masks.proofs.MembersLaws.{mask-same, member-some}
 use Rattle.formula.specs.declared.Clause.{Clause}
 use Rattle.formula.specs.InnerDecode.{none-yet}
 use Rattle.formula.specs.Format.{Literal, names, names-as, distinct, ClauseOver}
-use Rattle.formula.specs.Masked.{no-clause, with-literal, with-literals, variables, clause-of}
+use Rattle.formula.specs.Masked.{variables}
+use Rattle.formula.specs.InnerMasked.{no-clause, with-literal, with-literals, clause-of}
 use Rattle.formula.specs.InnerFits.{clause-variables, side, ClauseFits}
 use Rattle.formula.proofs.FormatLaws.{distinct-rest}
 

@@ -14,7 +14,7 @@ use Rattle.formula.specs.declared.Refusal.{Refusal}
 use Rattle.formula.specs.InnerDecode.{decode}
 use Rattle.formula.specs.Decoding.{Decoding, readable, refused}
 use Rattle.formula.specs.Format.{Literal, ClauseOver, Sized, Encodes}
-use Rattle.formula.specs.Masked.{no-clause, with-literals, clause-of, formula-of, held, decoded}
+use Rattle.formula.specs.InnerMasked.{no-clause, with-literals, clause-of, formula-of, held, decoded}
 use Rattle.formula.specs.InnerFits.{FormulaFits}
 use Rattle.formula.proofs.ClauseLaws.{clause-fits}
 use Rattle.formula.proofs.OutcomeLaws.{decode-means}

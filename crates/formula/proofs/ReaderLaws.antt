@@ -22,7 +22,7 @@ use Rattle.formula.specs.Format.{Literal, names}
 use Rattle.formula.specs.InnerReader.{count-event, variable-event, literal-event, end-event, finish-event, kind-event, record-event, reader-of, Reads}
 use Rattle.formula.proofs.ClauseLaws.{with-literals-last, clause-names, clause-empty}
 use Rattle.formula.proofs.OneTo.{one-to-most}
-use Rattle.formula.specs.Masked.{no-clause, with-literals, clause-of, held}
+use Rattle.formula.specs.InnerMasked.{no-clause, with-literals, clause-of, held}
 use Rattle.formula.specs.declared.Outcome.the-variants.{Accepted}
 use Rattle.lists.specs.Padded.{padded}
 use Rattle.lists.proofs.PaddedLaws.{padded-set}

@@ -4,9 +4,9 @@ use mathlib.Core.Bool.{Bool, true, not, _&&_, _||_}
 use mathlib.Core.List.{List}
 use lib.Dec.{eqb}
 use lib.ListN.{getD}
-use Rattle.masks.specs.Mask.{meets, minus}
+use Rattle.masks.specs.InnerMask.{meets, minus}
 use Rattle.formula.specs.declared.Clause.{Clause}
-use Rattle.formula.specs.Masked.{no-clause}
+use Rattle.formula.specs.InnerMasked.{no-clause}
 
 -- the positive mask meets the assignment, or the negative mask its complement
 abbrev pub clause-holds : ℕ → Clause → Bool

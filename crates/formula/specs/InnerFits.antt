@@ -6,10 +6,10 @@ use mathlib.Core.Path.{_≡_}
 use lib.Bits.{bitOr}
 use lib.ListN.{getD}
 use Rattle.limits.specs.Limits.{max-variables, max-clauses}
-use Rattle.masks.specs.Mask.{meets}
+use Rattle.masks.specs.InnerMask.{meets}
 use Rattle.formula.specs.declared.Clause.{Clause}
 use Rattle.formula.specs.declared.Formula.{Formula}
-use Rattle.formula.specs.Masked.{no-clause}
+use Rattle.formula.specs.InnerMasked.{no-clause}
 
 -- the variables that the clause names
 abbrev pub clause-variables : Clause → ℕ

@@ -14,7 +14,7 @@ use Rattle.formula.specs.declared.Event.the-variants.{Next, Finished, St
 use Rattle.formula.specs.declared.Reader.{Reader}
 use Rattle.formula.specs.declared.Refusal.the-variants.{Truncated, UnknownKind, Misplaced, BadVariableCount, NoSuchVariable, RepeatedVariable, TooManyClauses, TrailingByte}
 use Rattle.formula.specs.InnerDecode.{Kind, variable-count, literal, clause-end, formula-end, unknown, kind-of, one-to, Reading, records, decode}
-use Rattle.formula.specs.Masked.{no-clause, with-literal, clause-of}
+use Rattle.formula.specs.InnerMasked.{no-clause, with-literal, clause-of}
 use Rattle.formula.specs.InnerFits.{clause-variables}
 
 -- kind 1

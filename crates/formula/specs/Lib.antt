@@ -5,6 +5,7 @@ pub mod Format
 pub mod InnerCheck
 pub mod InnerReader
 pub mod Masked
+pub mod InnerMasked
 pub mod InnerFits
 pub mod Models
 pub mod InnerModels

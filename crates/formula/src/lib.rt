@@ -9,7 +9,7 @@ ghost use mathlib.Core.List.{[]};
 ghost use Rattle.limits.specs.Limits.{max-variables, max-clauses};
 ghost use Rattle.formula.specs.Check.{verdict-values, checked};
 ghost use Rattle.formula.specs.InnerCheck.{clause-holds, clauses-hold};
-ghost use Rattle.formula.specs.Masked.{no-clause, with-literal, formula-of, held, decoded};
+ghost use Rattle.formula.specs.InnerMasked.{no-clause, with-literal, formula-of, held, decoded};
 ghost use Rattle.formula.specs.Decoding.{refused};
 ghost use Rattle.formula.specs.Refusals.{table-row};
 ghost use Rattle.formula.specs.InnerReader.{count-event, variable-event, literal-event, end-event, finish-event, literal-stands, literal-read, record-event, PassesLiterals};

@@ -17,7 +17,8 @@ use Rattle.formula.specs.declared.Refusal.the-variants.{Unmatched}
 use Rattle.formula.specs.InnerDecode.{decode}
 use Rattle.formula.specs.Decoding.{readable, refused}
 use Rattle.formula.specs.Format.{Literal, Sized}
-use Rattle.formula.specs.Masked.{variables, formula-of}
+use Rattle.formula.specs.Masked.{variables}
+use Rattle.formula.specs.InnerMasked.{formula-of}
 use Rattle.formula.proofs.MaskedLaws.{formula-fits}
 use Rattle.matching.specs.declared.Matching.{Matching}
 use Rattle.matching.specs.Result.{packed}

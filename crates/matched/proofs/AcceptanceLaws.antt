@@ -15,7 +15,7 @@ use Rattle.formula.specs.Format.{Literal, Sized}
 use Rattle.formula.specs.Masked.{variables}
 use Rattle.formula.specs.Refusals.{table-row}
 use Rattle.formula.proofs.Demands.{accepted-only, numbers, accepted-all}
-use Rattle.matching.specs.Matched.{union}
+use Rattle.matching.specs.Sets.{union}
 use Rattle.matching.specs.Search.{Outcome, success, failure, outcome, marks}
 use Rattle.matching.proofs.MatchedLaws.{length-marks, marks-le}
 use Rattle.matching.proofs.Theorems.{success-matches, failure-unmatched, failure-tight, failure-marked}

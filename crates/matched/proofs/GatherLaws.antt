@@ -18,10 +18,11 @@ use Rattle.lists.proofs.PaddedLaws.{padded-set, getD-padded, getD-padded-past, 
 use Rattle.lists.proofs.TabulatedLaws.{length-tabulated, getD-tabulated, tabulated-same, tabulated-map}
 use Rattle.formula.specs.declared.Formula.{Formula}
 use Rattle.formula.specs.Format.{Literal, Sized}
-use Rattle.formula.specs.Masked.{no-clause, variables, with-literals, clause-of, formula-of}
+use Rattle.formula.specs.Masked.{variables}
+use Rattle.formula.specs.InnerMasked.{no-clause, with-literals, clause-of, formula-of}
 use Rattle.formula.specs.InnerFits.{clause-variables, FormulaFits}
 use Rattle.formula.proofs.ClauseLaws.{variables-named}
-use Rattle.matching.specs.Matched.{Words}
+use Rattle.matching.specs.Sets.{Words}
 use Rattle.matching.specs.Result.{Clauses}
 use Rattle.matched.specs.InnerAccept.{raised}
 use Rattle.matched.specs.InnerGather.{sets-of}

@@ -10,7 +10,8 @@ use Rattle.masks.specs.Mask.{bit}
 use Rattle.formula.specs.Format.{Literal, ClauseOver, Sized}
 use Rattle.formula.specs.Masked.{variables}
 use Rattle.formula.proofs.ClauseLaws.{variables-bit, variables-lt}
-use Rattle.matching.specs.Matched.{Matches, Words}
+use Rattle.matching.specs.Sets.{Words}
+use Rattle.matching.specs.InnerMatched.{Matches}
 use Rattle.matching.proofs.OutcomeLaws.{words-selected}
 use Rattle.matching.proofs.Theorems.{pigeonhole, sub-list-matched}
 use Rattle.matched.specs.Pairing.{Pairs, Violator, marked}

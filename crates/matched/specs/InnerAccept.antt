@@ -10,7 +10,7 @@ use Rattle.formula.specs.declared.Refusal.{Refusal}
 use Rattle.formula.specs.InnerDecode.{decode}
 use Rattle.formula.specs.Decoding.{readable}
 use Rattle.formula.specs.Format.{Literal, Sized}
-use Rattle.formula.specs.Masked.{formula-of, decoded}
+use Rattle.formula.specs.InnerMasked.{formula-of, decoded}
 use Rattle.formula.specs.InnerFits.{FormulaFits}
 use Rattle.matched.specs.declared.Row.{Row}
 use Rattle.matched.specs.Acceptance.{Acceptance, accepted, declined, acceptance}

@@ -4,7 +4,7 @@ use mathlib.Core.List.{List}
 use lib.ListN.{getD}
 use Rattle.lists.specs.Tabulated.{tabulated}
 use Rattle.formula.specs.declared.Clause.{Clause}
-use Rattle.formula.specs.Masked.{no-clause}
+use Rattle.formula.specs.InnerMasked.{no-clause}
 use Rattle.formula.specs.InnerFits.{clause-variables}
 
 -- the variables that each of the first n clauses of an array names

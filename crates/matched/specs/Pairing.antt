@@ -8,7 +8,7 @@ use lib.ListN.{length, getD}
 use Rattle.formula.specs.Format.{Literal, names, Encodes}
 use Rattle.formula.specs.Masked.{variables}
 use Rattle.masks.specs.Mask.{size}
-use Rattle.matching.specs.Matched.{union, selected}
+use Rattle.matching.specs.Sets.{union, selected}
 
 -- a matching (request: pairing): vs has a variable for each clause in order, one that the clause names, none twice
 pub record Pairs (cs : List (List Literal)) (vs : List ℕ) : Type 0 where

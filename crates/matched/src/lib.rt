@@ -9,7 +9,7 @@ ghost use Rattle.limits.specs.Limits.{max-clauses};
 ghost use Rattle.lists.specs.Over.{over};
 ghost use Rattle.lists.specs.Padded.{padded};
 ghost use Rattle.formula.specs.Format.{Literal, Sized};
-ghost use Rattle.formula.specs.Masked.{formula-of};
+ghost use Rattle.formula.specs.InnerMasked.{formula-of};
 ghost use Rattle.formula.specs.InnerFits.{FormulaFits};
 ghost use Rattle.matching.specs.Result.{packed};
 ghost use Rattle.matching.specs.Search.{outcome};

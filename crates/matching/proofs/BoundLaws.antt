@@ -10,7 +10,8 @@ use lib.Seq.{getD-take, length-take-le}
 use lib.Dec.{eqb}
 use borrow.Author.Tests.{eqb-true, eqb-false}
 use Rattle.lists.proofs.TestLaws.{bool-cases}
-use Rattle.matching.specs.Matched.{Matches, Words}
+use Rattle.matching.specs.Sets.{Words}
+use Rattle.matching.specs.InnerMatched.{Matches}
 use Rattle.matching.specs.Search.{owner, Search, begin, expand, search-from, search-bound, rematch-from, rematch, next-search}
 use Rattle.matching.specs.Inner.{Partial}
 use Rattle.matching.proofs.Counting.{lt-or-le}

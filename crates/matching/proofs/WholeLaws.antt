@@ -16,7 +16,7 @@ use Rattle.lists.specs.Padded.{padded}
 use Rattle.lists.proofs.PaddedLaws.{padded-none, take-padded}
 use Rattle.lists.proofs.StoreLaws.{padded-store, held-length}
 use Rattle.masks.proofs.BitLaws.{bit-below}
-use Rattle.matching.specs.Matched.{Words}
+use Rattle.matching.specs.Sets.{Words}
 use Rattle.matching.specs.Search.{owner, Search, begin, front, search-from, rematch-from, search-bound, next-search, success, failure, match-rest, outcome, marks}
 use Rattle.lists.proofs.TabulatedLaws.{tabulated-of}
 use Rattle.matching.specs.Inner.{at, owners-of, Tables, search-of, SearchSound, Owned, Augments, augmented, Augmented}

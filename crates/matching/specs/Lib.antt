@@ -1,4 +1,5 @@
-pub mod Matched
+pub mod Sets
+pub mod InnerMatched
 pub mod Search
 pub mod Result
 pub mod Inner

@@ -11,7 +11,7 @@ ghost use Rattle.masks.specs.Mask.{bit, members};
 ghost use Rattle.matching.specs.Search.{see, scan, expand, search-from, begin, rematch, search-bound, no-links, outcome, marks};
 ghost use Rattle.matching.specs.Inner.{at, search-of, SearchSound, Holds, Owned, Apart, Augments, Tables, Stored, Augmented};
 ghost use Rattle.matching.specs.Result.{Clauses, packed};
-ghost use Rattle.matching.specs.Matched.{Words};
+ghost use Rattle.matching.specs.Sets.{Words};
 
 // If complete, the first bytes of `table` are the variables of the clauses and `marked` is 0; otherwise a marked clause has 1 there and
 // another 0, and `marked` clauses are marked. The bytes after those of the clauses are 0.

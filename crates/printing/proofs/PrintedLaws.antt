@@ -21,7 +21,7 @@ use Rattle.formula.specs.Refusals.{table-row}
 use Rattle.formula.specs.Table.{Beginning, written, Given, no-kind, kind-unknown, kind-misplaced, no-body, count-bad, variable-unknown, variable-repeated, clause-extra, byte-extra}
 use Rattle.formula.proofs.ClauseLaws.{variables-lt}
 use Rattle.formula.proofs.Demands.{accepted-only, accepted-all, refused-only, numbers}
-use Rattle.matching.specs.Matched.{union}
+use Rattle.matching.specs.Sets.{union}
 use Rattle.matching.proofs.MatchedLaws.{selected-few}
 use Rattle.matching.proofs.Theorems.{pigeonhole}
 use Rattle.matched.specs.Acceptance.{Acceptance, accepted, declined, acceptance}

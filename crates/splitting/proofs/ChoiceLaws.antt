@@ -10,13 +10,14 @@ use borrow.Author.Tests.{not-true, not-false}
 use Rattle.lists.proofs.TestLaws.{bool-clash}
 use Rattle.lists.proofs.SublistLaws.{sub-within, sub-length}
 use Rattle.masks.specs.Mask.{size}
-use Rattle.matching.specs.Matched.{Matched}
+use Rattle.matching.specs.InnerMatched.{Matched}
 use Rattle.formula.specs.Format.{Literal}
 use Rattle.formula.specs.Masked.{variables}
 use Rattle.splitting.specs.Nodes.{assign, named, lowest-with}
 use Rattle.splitting.specs.Stripping.{stripped}
 use Rattle.splitting.specs.Choosing.{trial, first-passing, candidates, among, listed, last, emptied, last-listed, by-left, by-remaining}
-use Rattle.splitting.specs.Terms.{Below, NonePure, Sound, Satisfies, Covers, opened}
+use Rattle.splitting.specs.Terms.{Below, NonePure, Sound, Covers, opened}
+use Rattle.splitting.proofs.ModelLaws.{Satisfies}
 use Rattle.splitting.proofs.ClauseLaws.{named-by, named-within}
 use Rattle.splitting.proofs.SearchLaws.{lowest-found}
 use Rattle.splitting.proofs.StrippingLaws.{left-sub, left-none-pure}

@@ -18,13 +18,14 @@ use Rattle.lists.proofs.EveryLaws.{every-of, every-getD}
 use Rattle.lists.proofs.SublistLaws.{element-place}
 use Rattle.lists.proofs.TabulatedLaws.{length-tabulated}
 use Rattle.lists.proofs.TestLaws.{and-left, and-right, or-cases, or-none, bool-cases, bool-clash}
-use Rattle.masks.specs.Mask.{bit, with, minus, lowest, members}
+use Rattle.masks.specs.Mask.{bit, with, members}
+use Rattle.masks.specs.InnerMask.{minus, lowest}
 use Rattle.masks.proofs.BitLaws.{bit-or, bit-xor, bit-minus, bit-none}
 use Rattle.masks.proofs.MembersLaws.{members-are}
 use Rattle.matching.specs.Search.{outcome, succeeds, expansions}
 use Rattle.formula.specs.declared.Clause.{Clause}
 use Rattle.formula.specs.declared.Formula.{Formula}
-use Rattle.formula.specs.Masked.{no-clause}
+use Rattle.formula.specs.InnerMasked.{no-clause}
 use Rattle.formula.specs.InnerFits.{side, clause-variables}
 use Rattle.splitting.specs.declared.Assignment.{Assignment}
 use Rattle.splitting.specs.declared.Choice.{Choice}

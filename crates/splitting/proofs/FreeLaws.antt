@@ -8,7 +8,7 @@ use Rattle.lists.proofs.TestLaws.{and-left, and-right, and-both, or-left}
 use Rattle.formula.specs.declared.Clause.{Clause}
 use Rattle.formula.specs.declared.Formula.{Formula}
 use Rattle.formula.specs.InnerCheck.{all-first}
-use Rattle.formula.specs.Masked.{no-clause}
+use Rattle.formula.specs.InnerMasked.{no-clause}
 use Rattle.splitting.specs.declared.Assignment.{Assignment}
 use Rattle.splitting.specs.declared.Survey.{Survey}
 use Rattle.splitting.specs.InnerChoose.{set-to, satisfied-under, left-under, open-clauses, node, survey-from, survey-of, all-satisfied, free-choice, mask-choice}

@@ -5,7 +5,8 @@ use mathlib.Core.List.{List, [], _∷_}
 use mathlib.Core.Path.{_≡_, refl}
 use native.Mathlib.Omega.{arith}
 use lib.ListN.{length, getD}
-use Rattle.masks.specs.Mask.{bit, without, lowest, members}
+use Rattle.masks.specs.Mask.{bit, members}
+use Rattle.masks.specs.InnerMask.{without, lowest}
 use Rattle.masks.proofs.BitLaws.{bit-none}
 use Rattle.masks.proofs.MembersLaws.{members-none, members-are}
 use Rattle.splitting.specs.InnerChoose.{greatest}

@@ -8,14 +8,15 @@ use lib.Bits.{bitOr, bitXor}
 use lib.Dec.{eqb}
 use borrow.Author.Tests.{eqb-true, eqb-false}
 use Rattle.lists.proofs.TestLaws.{and-left, eqb-comm, bool-clash}
-use Rattle.masks.specs.Mask.{bit, with, minus, lowest, members}
+use Rattle.masks.specs.Mask.{bit, with, members}
+use Rattle.masks.specs.InnerMask.{minus, lowest}
 use Rattle.masks.proofs.MembersLaws.{some-member, member-some, members-none}
 use Rattle.masks.proofs.BitLaws.{bit-with, bit-minus, bit-none}
 use Rattle.matching.specs.Search.{Outcome, outcome, succeeds, expansions}
 use Rattle.formula.specs.declared.Clause.{Clause}
 use Rattle.formula.specs.declared.Formula.{Formula}
 use Rattle.formula.specs.Format.{Literal, names}
-use Rattle.formula.specs.Masked.{clause-of, formula-of}
+use Rattle.formula.specs.InnerMasked.{clause-of, formula-of}
 use Rattle.formula.specs.InnerFits.{clause-variables}
 use Rattle.formula.proofs.FormatLaws.{clause-more}
 use Rattle.splitting.specs.declared.Assignment.{Assignment}

@@ -11,7 +11,8 @@ use Rattle.masks.specs.Mask.{bit}
 use Rattle.masks.proofs.BitLaws.{bit-or, bit-xor, bit-none}
 use Rattle.formula.specs.declared.Clause.{Clause}
 use Rattle.formula.specs.Format.{Literal, names, names-as}
-use Rattle.formula.specs.Masked.{variables, clause-of}
+use Rattle.formula.specs.Masked.{variables}
+use Rattle.formula.specs.InnerMasked.{clause-of}
 use Rattle.formula.specs.InnerFits.{clause-variables}
 use Rattle.formula.proofs.ClauseLaws.{clause-side, clause-empty, variables-named, named-as}
 use Rattle.splitting.specs.declared.Survey.{Survey}

@@ -13,13 +13,14 @@ use Rattle.limits.specs.Limits.{max-clauses}
 use Rattle.lists.specs.Padded.{padded}
 use Rattle.lists.proofs.PaddedLaws.{getD-padded}
 use Rattle.lists.proofs.TestLaws.{or-swap, eqb-comm, bool-cases, bool-clash}
-use Rattle.masks.specs.Mask.{bit, with, without, meets}
+use Rattle.masks.specs.Mask.{bit, with}
+use Rattle.masks.specs.InnerMask.{without, meets}
 use Rattle.masks.proofs.BitLaws.{bit-and, bit-or, bit-with, bit-minus, bit-without, bit-none}
 use Rattle.masks.proofs.MeetLaws.{meets-with}
 use Rattle.masks.proofs.MembersLaws.{mask-same}
 use Rattle.formula.specs.declared.Clause.{Clause}
 use Rattle.formula.specs.Format.{Literal, names, names-as, distinct}
-use Rattle.formula.specs.Masked.{no-clause, clause-of, formula-of}
+use Rattle.formula.specs.InnerMasked.{no-clause, clause-of, formula-of}
 use Rattle.formula.specs.InnerFits.{side}
 use Rattle.formula.proofs.ClauseLaws.{clause-side}
 use Rattle.formula.proofs.FormatLaws.{distinct-rest}

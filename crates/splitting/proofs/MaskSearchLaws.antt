@@ -8,7 +8,8 @@ use native.Mathlib.Nat.{eq-or-lt-of-le}
 use native.Mathlib.Omega.{arith}
 use lib.Pow.{pow-mono}
 use Rattle.lists.proofs.TestLaws.{bool-clash}
-use Rattle.masks.specs.Mask.{bit, lowest, members, only-if}
+use Rattle.masks.specs.Mask.{bit, members, only-if}
+use Rattle.masks.specs.InnerMask.{lowest}
 use Rattle.masks.proofs.BitLaws.{bit-none}
 use Rattle.masks.proofs.MembersLaws.{lowest-is, mask-lt, members-wide}
 use Rattle.matching.proofs.Counting.{lt-or-le}

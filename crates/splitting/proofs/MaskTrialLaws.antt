@@ -5,7 +5,8 @@ use mathlib.Core.List.{_∷_}
 use mathlib.Core.Path.{_≡_, refl, sym, ap, _∙_}
 use native.Mathlib.Omega.{arith}
 use lib.ListN.{length}
-use Rattle.masks.specs.Mask.{without, lowest, members}
+use Rattle.masks.specs.Mask.{members}
+use Rattle.masks.specs.InnerMask.{without, lowest}
 use Rattle.masks.proofs.BitLaws.{minus-lt, bit-none}
 use Rattle.masks.proofs.MembersLaws.{lowest-is, members-none, members-lowest}
 use Rattle.matching.specs.declared.Matching.{Matching}

@@ -2,7 +2,7 @@
 use Prim.Native.Nat.{ℕ, zero, suc, _-_, _≤_, _<_}
 use mathlib.Core.Path.{_≡_, refl, sym, _∙_, ap, subst}
 use mathlib.Core.Bool.{Bool, true, false, not, cond}
-use mathlib.Core.List.{List, [], _∷_, map, List·Memᴰ·head, List·Memᴰ·tail, List·Memᴰ·cases-cons, List·Memᴰ·not-nil}
+use mathlib.Core.List.{List, [], _∷_, map, List·Memᴰ, List·Memᴰ·head, List·Memᴰ·tail, List·Memᴰ·cases-cons, List·Memᴰ·not-nil}
 use mathlib.Core.Logic.{⊎-elim}
 use native.Mathlib.Omega.{arith}
 use lib.ListN.{length, getD, length-map}
@@ -12,7 +12,7 @@ use Rattle.lists.proofs.TestLaws.{both-signs, bool-cases, bool-clash, or-left, 
 use Rattle.lists.proofs.SublistLaws.{element-place}
 use Rattle.masks.specs.Mask.{bit, with}
 use Rattle.masks.proofs.BitLaws.{bit-none, bit-with-same, bit-with-other}
-use Rattle.matching.specs.Matched.{Matched}
+use Rattle.matching.specs.InnerMatched.{Matched}
 use Rattle.matching.specs.Search.{owner}
 use Rattle.matching.proofs.Counting.{below-cases}
 use Rattle.matching.proofs.OwnerLaws.{owner-is}
@@ -23,11 +23,15 @@ use Rattle.formula.proofs.ClauseLaws.{named-as}
 use Rattle.formula.proofs.FormatLaws.{distinct-rest}
 use Rattle.splitting.specs.Nodes.{less, assign, remaining, occurs, named}
 use Rattle.splitting.specs.Stripping.{not-naming, stripped}
-use Rattle.splitting.specs.Terms.{Below, Satisfies, Agrees}
+use Rattle.splitting.specs.Terms.{Below, Agrees}
 use Rattle.splitting.proofs.ClauseLaws.{literal-names, names-literal, names-some, less-of, less-other, occurs-in, named-in, pure-ways}
 use Rattle.splitting.proofs.StrippingLaws.{not-naming-in, strip-ind}
 use Rattle.splitting.proofs.NodeLaws.{assign-in, assign-of, named-remaining}
 use Rattle.splitting.proofs.MatchedLaws.{matches-names}
+
+-- every clause has a variable standing the way that the clause names it
+abbrev pub Satisfies : (ℕ → Bool) → List (List Literal) → Type 0
+Satisfies a cs = (c : List Literal) → List·Memᴰ c cs → (v : ℕ) × (names-as c v (a v) ≡ true)
 
 -- ── Assigning ────────────────────────────────────────────────────────────────────────────────────────────────────────
 

@@ -22,7 +22,7 @@ use Rattle.matching.proofs.ResultLaws.{packed-expansions}
 use Rattle.matching.proofs.Theorems.{outcome-cost}
 use Rattle.formula.specs.declared.Clause.{Clause}
 use Rattle.formula.specs.declared.Formula.{Formula}
-use Rattle.formula.specs.Masked.{no-clause}
+use Rattle.formula.specs.InnerMasked.{no-clause}
 use Rattle.formula.specs.InnerFits.{clause-variables, side, FormulaFits}
 use Rattle.splitting.specs.declared.Assignment.{Assignment}
 use Rattle.splitting.specs.InnerChoose.{assigned, satisfied-under, left-under, open-clauses, node, formula-at, Small, matched-node, matching-at}

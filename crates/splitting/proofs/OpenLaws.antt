@@ -14,9 +14,9 @@ use Rattle.formula.specs.Models.{Model}
 use Rattle.formula.proofs.FormatLaws.{names-append, clause-more}
 use Rattle.splitting.specs.Nodes.{remaining, named}
 use Rattle.splitting.specs.Choosing.{unassigned-of, choice}
-use Rattle.splitting.specs.Terms.{Below, Sound, Satisfies, Trail, Agrees, Covers, ModelAt, Unassigned, opened}
+use Rattle.splitting.specs.Terms.{Below, Sound, Trail, Agrees, Covers, ModelAt, Unassigned, opened}
 use Rattle.splitting.proofs.NodeLaws.{named-assign, remaining-snoc, named-remaining, below-remaining}
-use Rattle.splitting.proofs.ModelLaws.{satisfies-remaining, satisfies-same, under, under-other, under-agrees, under-satisfies, mask, mask-above, mask-below, mask-model, model-satisfies}
+use Rattle.splitting.proofs.ModelLaws.{Satisfies, satisfies-remaining, satisfies-same, under, under-other, under-agrees, under-satisfies, mask, mask-above, mask-below, mask-model, model-satisfies}
 use Rattle.splitting.proofs.SoundLaws.{sound-satisfies}
 use Rattle.splitting.proofs.ChoiceLaws.{chosen-free, chosen-open, chosen-closed}
 

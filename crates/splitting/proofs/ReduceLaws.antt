@@ -8,7 +8,8 @@ use native.Mathlib.Omega.{arith}
 use lib.Bits.{bitXor, or-lt, xor-lt}
 use borrow.Author.Tests.{eq-eqb, ne-eqb}
 use Rattle.lists.specs.Every.{Every}
-use Rattle.masks.specs.Mask.{bit, with, lowest}
+use Rattle.masks.specs.Mask.{bit, with}
+use Rattle.masks.specs.InnerMask.{lowest}
 use Rattle.masks.proofs.MembersLaws.{Lowest, lowest-is}
 use Rattle.formula.specs.declared.Clause.{Clause}
 use Rattle.formula.specs.declared.Formula.{Formula}

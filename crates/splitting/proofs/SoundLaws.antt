@@ -10,20 +10,20 @@ use borrow.Author.Tests.{eqb-true, eqb-false, not-true}
 use Rattle.lists.proofs.SublistLaws.{Within, sub-within, no-elements}
 use Rattle.lists.proofs.TestLaws.{and-left, and-right, and-both, bool-cases, bool-clash, or-left, or-right}
 use Rattle.masks.specs.Mask.{full}
-use Rattle.matching.specs.Matched.{Matched}
+use Rattle.matching.specs.InnerMatched.{Matched}
 use Rattle.formula.specs.Format.{Literal, names, names-as, distinct}
 use Rattle.formula.specs.Masked.{variables}
 use Rattle.formula.proofs.ClauseLaws.{named-as}
 use Rattle.splitting.specs.Nodes.{less, assign, occurs, named, upward}
 use Rattle.splitting.specs.Stripping.{stripped}
 use Rattle.splitting.specs.Choosing.{among, listed, last, emptied}
-use Rattle.splitting.specs.Terms.{Below, NonePure, Sound, Satisfies}
+use Rattle.splitting.specs.Terms.{Below, NonePure, Sound}
 use Rattle.splitting.proofs.ClauseLaws.{names-some, less-of, occurs-in, occurs-append, occurs-less, named-some, named-by, not-pure, pure-not, other-way}
 use Rattle.splitting.proofs.SearchLaws.{among-here, among-more, among-cases, among-none, among-append, among-left, among-right, last-among, last-append, upward-of, upward-in}
 use Rattle.splitting.proofs.StrippingLaws.{left-sub, left-none-pure, none-noted, left-keeps, noted-named, unnoted-left, none-noted-but}
 use Rattle.splitting.proofs.NodeLaws.{Origin, assign-origin, assign-sub, below-assign, emptied-some, emptied-none}
 use Rattle.splitting.proofs.MatchedLaws.{sub-matched}
-use Rattle.splitting.proofs.ModelLaws.{satisfies-assign, left-satisfies, matched-satisfies}
+use Rattle.splitting.proofs.ModelLaws.{Satisfies, satisfies-assign, left-satisfies, matched-satisfies}
 
 -- a matched list is sound
 pub matched-sound : (n : ℕ) (cs : List (List Literal)) → Matched (map variables cs) → Sound n cs

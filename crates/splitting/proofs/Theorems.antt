@@ -8,7 +8,7 @@ use native.Mathlib.Omega.{arith}
 use lib.ListN.{length}
 use Rattle.lists.specs.Every.{Every}
 use Rattle.masks.specs.Mask.{bit, size}
-use Rattle.matching.specs.Matched.{Matched}
+use Rattle.matching.specs.InnerMatched.{Matched}
 use Rattle.formula.specs.Format.{Literal, names, ClauseOver}
 use Rattle.formula.specs.Models.{Model}
 use Rattle.formula.specs.Masked.{variables}

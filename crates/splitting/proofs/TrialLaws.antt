@@ -11,7 +11,8 @@ use Rattle.lists.proofs.TestLaws.{bool-clash}
 use Rattle.lists.proofs.SublistLaws.{getD-element}
 use Rattle.lists.proofs.EveryLaws.{every-of}
 use Rattle.masks.specs.Mask.{bit, size}
-use Rattle.matching.specs.Matched.{Matched, Words}
+use Rattle.matching.specs.Sets.{Words}
+use Rattle.matching.specs.InnerMatched.{Matched}
 use Rattle.matching.specs.Search.{succeeds, expansions}
 use Rattle.formula.specs.Format.{Literal}
 use Rattle.formula.specs.Masked.{variables}

@@ -7,7 +7,8 @@ use lib.Dec.{eqb}
 use lib.ListN.{length, getD}
 use Rattle.limits.specs.Limits.{max-clauses}
 use Rattle.lists.specs.Tabulated.{tabulated}
-use Rattle.masks.specs.Mask.{bit, with, minus, meets, lowest, members}
+use Rattle.masks.specs.Mask.{bit, with, members}
+use Rattle.masks.specs.InnerMask.{minus, meets, lowest}
 use Rattle.matching.specs.declared.Matching.{Matching}
 use Rattle.matching.specs.Result.{packed}
 use Rattle.matching.specs.Search.{Outcome, outcome, succeeds, expansions}
@@ -15,7 +16,7 @@ use Rattle.formula.specs.declared.Clause.{Clause}
 use Rattle.formula.specs.declared.Formula.{Formula}
 use Rattle.formula.specs.Format.{Literal}
 use Rattle.formula.specs.InnerCheck.{all-first}
-use Rattle.formula.specs.Masked.{no-clause}
+use Rattle.formula.specs.InnerMasked.{no-clause}
 use Rattle.formula.specs.InnerFits.{side, clause-variables}
 use Rattle.splitting.specs.declared.Assignment.{Assignment}
 use Rattle.splitting.specs.declared.Choice.{Choice}

@@ -5,8 +5,8 @@ use mathlib.Core.Bool.{Bool, true, false}
 use mathlib.Core.List.{List, map, List·Memᴰ}
 use mathlib.Core.Logic.{_⊎_}
 use Rattle.masks.specs.Mask.{bit}
-use Rattle.matching.specs.Matched.{Matched}
-use Rattle.formula.specs.Format.{Literal, names, names-as, ClauseOver}
+use Rattle.matching.specs.InnerMatched.{Matched}
+use Rattle.formula.specs.Format.{Literal, names, ClauseOver}
 use Rattle.formula.specs.Masked.{variables}
 use Rattle.formula.specs.Models.{Model}
 use Rattle.splitting.specs.declared.Choice.{Choice}
@@ -24,10 +24,6 @@ NonePure cs = (v : ℕ) → pure cs v ≡ false
 -- What stripping leaves is matched (definition 5.2 of the source: pure literal matched). This is the invariant of the walk.
 abbrev pub Sound : ℕ → List (List Literal) → Type 0
 Sound n cs = Matched (map variables (stripped n cs .left))
-
--- every clause has a variable standing the way that the clause names it
-abbrev pub Satisfies : (ℕ → Bool) → List (List Literal) → Type 0
-Satisfies a cs = (c : List Literal) → List·Memᴰ c cs → (v : ℕ) × (names-as c v (a v) ≡ true)
 
 -- a trail is, like a clause, a list of literals over variables below n, none twice
 abbrev pub Trail : ℕ → List Literal → Type 0

@@ -5,7 +5,7 @@ use mathlib.Core.Path.{sym, ap, _∙_}
 use Prim.Native.Nat.{_-_}
 use lib.ListN.{length}
 use Rattle.formula.specs.InnerReader.{Reads}
-use Rattle.formula.specs.Masked.{held, decoded}
+use Rattle.formula.specs.InnerMasked.{held, decoded}
 use Rattle.formula.proofs.ReaderLaws.{reads-start, whole, Turn, turn-next, turn-finished, turn-stopped}
 use Rattle.formula.proofs.decode.Statement.{statement}
 use Rattle.formula.proofs.decode.Tie as tie

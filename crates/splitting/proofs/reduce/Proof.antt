@@ -7,7 +7,8 @@ use borrow.Author.Needs.{needs}
 use lib.Bits.{bitXor}
 use lib.ListN.{length}
 use Rattle.limits.specs.Limits.{max-clauses}
-use Rattle.masks.specs.Mask.{bit, lowest}
+use Rattle.masks.specs.Mask.{bit}
+use Rattle.masks.specs.InnerMask.{lowest}
 use Rattle.formula.specs.declared.Formula.{Formula}
 use Rattle.splitting.specs.declared.Survey.{Survey}
 use Rattle.splitting.specs.InnerChoose.{node, unassigned, clauses-in, formula-in, survey-of, pure-of, reduce-from}

@@ -1,0 +1,22 @@
+-- S5.1, S5.5: clauses by their masks, the sets of variables that they name.
+use Prim.Native.Nat.{ℕ, _<_, _^_}
+use mathlib.Core.Bool.{cond}
+use mathlib.Core.List.{List, [], _∷_}
+use lib.ListN.{length, getD}
+use lib.Dec.{eqb}
+use lib.Bits.{bitOr}
+
+-- each clause is a 64-bit mask: its variables are below 64
+abbrev pub Words : List ℕ → Type 0
+Words sets = (i : ℕ) → i < length sets → getD sets i 0 < 2 ^ 64
+
+-- what the clauses together name
+unfoldable pub union : List ℕ → ℕ
+union [] = 0
+union (set ∷ sets) = bitOr set (union sets)
+
+-- the clauses whose mark is not 0
+unfoldable pub selected : List ℕ → List ℕ → List ℕ
+selected [] sets = []
+selected (mark ∷ marks) [] = []
+selected (mark ∷ marks) (set ∷ sets) = cond (eqb mark 0) (selected marks sets) (set ∷ selected marks sets)
