@@ -31,7 +31,7 @@ ROOT = pathlib.Path(__file__).resolve().parent.parent
 CRATES = ROOT / 'crates'
 PROOFS = ROOT / 'docs' / 'PROOFS.md'
 STATEMENTS = ('Demands', 'Theorems', 'ListTheorems', 'MarkedCases')
-APART = ('exhaustive',)  # compares the walk with a second lister: no statement rests on it
+APART = ('exhaustive', 'vectors')  # for tests: no statement rests on them
 OURS = ('enumeration::root', 'formula::decode', 'masks::lowest', 'masks::meets', 'masks::minus', 'splitting::choose_free')  # ask nothing, and are for our own crates all the same
 
 USE = re.compile(r'Rattle·(\w+?)(?:·\w+)?\.(specs|proofs)\.([\w.-]+?)(?:\.\{(.*)\}|\s+as\s+(\S+?))?;?$')

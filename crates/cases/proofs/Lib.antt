@@ -1,9 +1,4 @@
-pub mod CheckingLaws
-pub mod ComparingLaws
-pub mod FrameLaws
-pub mod JudgingLaws
 pub mod PrintsLaws
 pub mod RunLaws
-pub mod TotalsLaws
 pub mod TryingLaws
 pub mod WalkingLaws

@@ -12,9 +12,9 @@ use Rattle.lists.specs.Over.{over}
 use Rattle.printing.specs.Printed.{printed}
 use Rattle.printing.specs.Printing.{max-input, max-print, Printing, unwritten, printing}
 use Rattle.printing.proofs.PrintLaws.{count-within}
-use Rattle.cases.specs.declared.corpus.Vector.{Vector}
-use Rattle.cases.specs.Comparing.{first-wrong}
-use Rattle.cases.specs.Corpus.{two-bytes}
+use Rattle.vectors.specs.declared.corpus.Vector.{Vector}
+use Rattle.vectors.specs.Comparing.{first-wrong}
+use Rattle.vectors.specs.Corpus.{two-bytes}
 use Rattle.cases.specs.Prints.{text-of, all-stand, prints, print-agrees}
 
 -- what print counts of the buffer is the text

@@ -6,14 +6,14 @@ use native.Mathlib.Omega.{arith}
 use borrow.Author.Tests.{lt-ltb, le-ltb}
 use lib.ListN.{length}
 use Rattle.walk.specs.Checkpoints.{Checkpoint, start}
-use Rattle.cases.specs.declared.corpus.Framed.the-variants.{Whole, Broken}
-use Rattle.cases.specs.declared.corpus.Vector.{Vector}
+use Rattle.vectors.specs.declared.corpus.Framed.the-variants.{Whole, Broken}
+use Rattle.vectors.specs.declared.corpus.Vector.{Vector}
 use Rattle.cases.specs.declared.runs.Act.{Act}
-use Rattle.cases.specs.declared.totals.Totals.{Totals}
-use Rattle.cases.specs.Corpus.{framed}
+use Rattle.vectors.specs.declared.totals.Totals.{Totals}
+use Rattle.vectors.specs.Corpus.{framed}
 use Rattle.cases.specs.Runs.{size-of, act-agrees, leaves, run-from, run-of}
-use Rattle.cases.specs.Totals.{counted}
-use Rattle.cases.proofs.FrameLaws.{within}
+use Rattle.vectors.specs.Totals.{counted}
+use Rattle.vectors.proofs.FrameLaws.{within}
 
 -- at the end of the bytes, and at a vector that runs past it, a run stops
 run-done :

@@ -13,9 +13,9 @@ use Rattle.enumeration.specs.declared.calls.Answer.{Answer}
 use Rattle.enumeration.specs.declared.calls.Answer.the-variants.{Model, Spent, Ended, Refused}
 use Rattle.enumeration.specs.declared.calls.Walked.{Walked}
 use Rattle.enumeration.specs.Values.{checkpoint-values, answer-values, walked-values}
-use Rattle.cases.specs.declared.corpus.Vector.{Vector}
+use Rattle.vectors.specs.declared.corpus.Vector.{Vector}
 use Rattle.cases.specs.declared.walking.Told.{Told}
-use Rattle.cases.specs.Corpus.{four-bytes}
+use Rattle.vectors.specs.Corpus.{four-bytes}
 use Rattle.cases.specs.Walking.{stored-checkpoint-size, walk-written, expected-call, walk-alike, origin, called, checkpoint-wrong, start-agrees, walk-agrees}
 
 -- a byte of the trail is two places on in the checkpoint

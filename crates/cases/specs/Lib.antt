@@ -1,10 +1,4 @@
-pub mod Answers
-pub mod Checking
-pub mod Comparing
-pub mod Corpus
-pub mod Judging
 pub mod Prints
 pub mod Runs
-pub mod Totals
 pub mod Trying
 pub mod Walking

@@ -6,9 +6,9 @@ use lib.Dec.{eqb, ltb}
 use lib.ListN.{length, take, drop}
 use Rattle.printing.specs.Printed.{printed}
 use Rattle.printing.specs.Printing.{max-input}
-use Rattle.cases.specs.declared.corpus.Vector.{Vector}
-use Rattle.cases.specs.Comparing.{first-wrong}
-use Rattle.cases.specs.Corpus.{two-bytes}
+use Rattle.vectors.specs.declared.corpus.Vector.{Vector}
+use Rattle.vectors.specs.Comparing.{first-wrong}
+use Rattle.vectors.specs.Corpus.{two-bytes}
 
 -- what print writes: nothing for an input that it does not read
 abbrev pub text-of : List ℕ → List ℕ

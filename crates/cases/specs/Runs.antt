@@ -6,17 +6,17 @@ use mathlib.Core.Path.{_≡_}
 use lib.Dec.{ltb}
 use lib.ListN.{length}
 use Rattle.walk.specs.Checkpoints.{Checkpoint, start}
-use Rattle.cases.specs.declared.corpus.Vector.{Vector}
-use Rattle.cases.specs.declared.corpus.Framed.the-variants.{Whole, Broken}
+use Rattle.vectors.specs.declared.corpus.Vector.{Vector}
+use Rattle.vectors.specs.declared.corpus.Framed.the-variants.{Whole, Broken}
 use Rattle.cases.specs.declared.runs.Act.{Act}
 use Rattle.cases.specs.declared.runs.Act.the-variants.{Check, Judge, Start, Walk, Compare, Print}
 use Rattle.cases.specs.declared.runs.Run.{Run}
-use Rattle.cases.specs.declared.totals.Totals.{Totals}
-use Rattle.cases.specs.Checking.{check-agrees}
-use Rattle.cases.specs.Corpus.{framed}
-use Rattle.cases.specs.Judging.{judge-agrees}
+use Rattle.vectors.specs.declared.totals.Totals.{Totals}
+use Rattle.vectors.specs.Checking.{check-agrees}
+use Rattle.vectors.specs.Corpus.{framed}
+use Rattle.vectors.specs.Judging.{judge-agrees}
 use Rattle.cases.specs.Prints.{print-agrees}
-use Rattle.cases.specs.Totals.{counted, Grown}
+use Rattle.vectors.specs.Totals.{counted, Grown}
 use Rattle.cases.specs.Trying.{compare-agrees}
 use Rattle.cases.specs.Walking.{stored-checkpoint-size, start-agrees, walk-agrees, walk-leaves}
 

@@ -10,12 +10,12 @@ use Rattle.walk.specs.Checkpoints.{Checkpoint, start}
 use Rattle.walk.specs.WalkCall.{walk-call}
 use Rattle.walk.specs.Results.{AnswerKind, says-model, says-spent, says-ended, says-refused, Result}
 use Rattle.enumeration.specs.Values.{checkpoint-values}
-use Rattle.cases.specs.declared.corpus.Vector.{Vector}
+use Rattle.vectors.specs.declared.corpus.Vector.{Vector}
 use Rattle.cases.specs.declared.walking.Compared.{Compared}
 use Rattle.cases.specs.declared.walking.Told.{Told}
-use Rattle.cases.specs.Answers.{plain, expected, same-answer}
-use Rattle.cases.specs.Comparing.{first-wrong}
-use Rattle.cases.specs.Corpus.{four-bytes, eight-bytes}
+use Rattle.vectors.specs.Answers.{plain, expected, same-answer}
+use Rattle.vectors.specs.Comparing.{first-wrong}
+use Rattle.vectors.specs.Corpus.{four-bytes, eight-bytes}
 
 -- how the corpus writes what an answer says
 abbrev pub kind-byte : AnswerKind → ℕ

@@ -19,25 +19,20 @@
 // - formulas: none. The answer says that the walk was not compared with a trial of all assignments (7), or that both have the same
 //   models (8), with their number as the place.
 // tools/corpus.py writes the files.
-mod answers;
-mod checking;
-mod comparing;
-mod corpus;
-mod judging;
 mod prints;
-mod report;
 mod runs;
-mod totals;
 mod trying;
 mod walking;
 
 ghost use Prim.Native.Nat.{_<_};
 ghost use lib.ListN.{length};
 ghost use Rattle.cases.specs.Runs.{AfterFile};
-ghost use Rattle.cases.specs.Totals.{RoomFor};
+ghost use Rattle.vectors.specs.Totals.{RoomFor};
 use runs::Act;
 use runs::run_all;
-use totals::Totals;
+use vectors::report;
+use vectors::totals;
+use vectors::totals::Totals;
 
 // The vectors of one file, counted on from the totals so far.
 fn run_file(t: Totals, name: &[u8], act: Act) -> Totals

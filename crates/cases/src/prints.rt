@@ -3,10 +3,10 @@ ghost use Prim.Native.Nat.{_+_, _≤_};
 ghost use mathlib.Core.Path.{_≡_};
 ghost use lib.ListN.{length};
 ghost use Rattle.cases.specs.Prints.{all-stand, prints, print-agrees};
-use crate::comparing::first_wrong;
-use crate::corpus::Vector;
-use crate::corpus::two_bytes;
-use crate::report;
+use vectors::comparing::first_wrong;
+use vectors::corpus::Vector;
+use vectors::corpus::two_bytes;
+use vectors::report;
 
 // As many bytes as must be, and wrong at none.
 fn agree(wanted: usize, count: usize, wrong: usize) -> bool

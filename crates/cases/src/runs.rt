@@ -3,22 +3,22 @@ ghost use Prim.Native.Nat.{_+_, _≤_};
 ghost use lib.ListN.{length};
 ghost use Rattle.enumeration.specs.Values.{checkpoint-values};
 ghost use Rattle.cases.specs.Runs.{size-of, FieldsOf, act-agrees, leaves, Ran};
-ghost use Rattle.cases.specs.Totals.{RoomFor};
+ghost use Rattle.vectors.specs.Totals.{RoomFor};
 ghost use Rattle.cases.specs.Walking.{Gives};
-use crate::checking::check_vector;
-use crate::corpus::Framed;
-use crate::corpus::Vector;
-use crate::corpus::frame;
-use crate::judging::judge_vector;
 use crate::prints::print_vector;
-use crate::totals;
-use crate::totals::Totals;
 use crate::trying::compare_vector;
 use crate::walking::CHECKPOINT_SIZE;
 use crate::walking::Compared;
 use crate::walking::start_vector;
 use crate::walking::walk_vector;
 use enumeration::Checkpoint;
+use vectors::checking::check_vector;
+use vectors::corpus::Framed;
+use vectors::corpus::Vector;
+use vectors::corpus::frame;
+use vectors::judging::judge_vector;
+use vectors::totals;
+use vectors::totals::Totals;
 
 pub enum Act {
     Check,

@@ -6,18 +6,18 @@ ghost use lib.ListN.{length, getD, take, drop};
 ghost use Rattle.limits.specs.Limits.{max-variables};
 ghost use Rattle.enumeration.specs.Values.{checkpoint-values, walked-values};
 ghost use Rattle.cases.specs.Walking.{walk-written, expected-call, stored-checkpoint-size, walk-alike, checkpoint-at, origin, called, checkpoint-wrong, start-agrees, walk-agrees, walk-leaves, Gives};
-use crate::answers::Answer;
-use crate::answers::bare;
-use crate::answers::equal;
-use crate::answers::expected_at;
-use crate::answers::refusal_answer;
-use crate::comparing::first_wrong;
-use crate::corpus::Vector;
-use crate::corpus::eight_bytes;
-use crate::corpus::four_bytes;
-use crate::report;
 use enumeration::Checkpoint;
 use enumeration::Walked;
+use vectors::answers::Answer;
+use vectors::answers::bare;
+use vectors::answers::equal;
+use vectors::answers::expected_at;
+use vectors::answers::refusal_answer;
+use vectors::comparing::first_wrong;
+use vectors::corpus::Vector;
+use vectors::corpus::eight_bytes;
+use vectors::corpus::four_bytes;
+use vectors::report;
 
 // The bytes of a checkpoint: its mode, its length and its trail.
 pub const CHECKPOINT_SIZE: usize = 2 + limits::MAX_VARIABLES;

@@ -41,7 +41,7 @@ abbrev pub added : Outcome → ℕ
 added Accepted = 1
 added (Refused r) = 0
 
--- w holds what comes of an input beside its formula f: the row stands in its table
+-- w holds what comes of an input beside its formula f: the table's first bytes, with what is added, are the row
 pub record Represents (a : Acceptance) (f : Formula) (w : Row) : Type 0 where
   pub outcome : w .outcome ≡ outcome-of a
   pub formula : HasClauses a f

@@ -1,4 +1,4 @@
--- S5.1, S5.5: clauses by their masks, the sets of variables that they name.
+-- S5.5: clauses by their masks, the sets of variables that they name.
 use Prim.Native.Nat.{ℕ, _<_, _^_}
 use mathlib.Core.Bool.{cond}
 use mathlib.Core.List.{List, [], _∷_}

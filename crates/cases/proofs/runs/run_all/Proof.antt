@@ -6,10 +6,10 @@ use native.Mathlib.Omega.{arith}
 use lib.ListN.{length}
 use Rattle.enumeration.specs.Values.{checkpoint-values}
 use Rattle.cases.specs.Runs.{size-of}
-use Rattle.cases.specs.Totals.{Grown}
-use Rattle.cases.proofs.FrameLaws.{Within, within}
+use Rattle.vectors.specs.Totals.{Grown}
+use Rattle.vectors.proofs.FrameLaws.{Within, within}
 use Rattle.cases.proofs.RunLaws.{Stands, stands-first, stands-next, stands-broken, stands-done}
-use Rattle.cases.proofs.TotalsLaws.{counted-grown}
+use Rattle.vectors.proofs.TotalsLaws.{counted-grown}
 use borrow.Author.Needs.{needs}
 use Rattle.cases.proofs.runs.run_all.Statement.{statement}
 use Rattle.cases.proofs.runs.run_all.Tie as tie

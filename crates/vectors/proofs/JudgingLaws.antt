@@ -1,0 +1,53 @@
+-- Laws of `judge-filled` and `judge-agrees`.
+use Prim.Native.Nat.{ℕ, _+_, _-_}
+use mathlib.Core.List.{List, _++_}
+use mathlib.Core.Path.{_≡_, refl}
+use lib.ListN.{getD, take, drop}
+use Rattle.limits.specs.Limits.{max-clauses}
+use Rattle.formula.specs.declared.Refusal.{Refusal}
+use Rattle.formula.specs.declared.Refusal.the-variants.{ShortBuffer, Truncated, UnknownKind, Misplaced, BadVariableCount, NoSuchVariable, RepeatedVariable, TooManyClauses, TrailingByte, Unmatched, ForeignCheckpoint, StrayVariable}
+use Rattle.formula.specs.Refusals.{table-row}
+use Rattle.matched.specs.Judge.{JudgementValues, judge}
+use Rattle.vectors.specs.declared.answers.Answer.{Answer}
+use Rattle.vectors.specs.declared.corpus.Vector.{Vector}
+use Rattle.vectors.specs.declared.judging.Judged.{Judged}
+use Rattle.vectors.specs.Answers.{expected}
+use Rattle.vectors.specs.Comparing.{first-wrong}
+use Rattle.vectors.specs.Judging.{number-code, judge-written, filled, judge-filled, judge-alike, judge-agrees}
+
+-- every refusal has a number
+pub refusal-code : (r : Refusal) → number-code (table-row r .number) ≡ 2
+refusal-code (ShortBuffer p) = refl
+refusal-code (Truncated p) = refl
+refusal-code (UnknownKind p) = refl
+refusal-code (Misplaced p) = refl
+refusal-code (BadVariableCount p) = refl
+refusal-code (NoSuchVariable p) = refl
+refusal-code (RepeatedVariable p) = refl
+refusal-code (TooManyClauses p) = refl
+refusal-code (TrailingByte p) = refl
+refusal-code (Unmatched p) = refl
+refusal-code (ForeignCheckpoint p) = refl
+refusal-code (StrayVariable p) = refl
+
+-- what the call gives, from what its parts give
+pub judge-filled-of :
+    (s array buffer : List ℕ) (size fill : ℕ) (values : JudgementValues) (answer : Answer) →
+    array ≡ filled fill →
+    answer ≡ judge-written values →
+    values ≡ judge s (take size array) .answer →
+    buffer ≡ judge s (take size array) .buffer →
+    record { answer = answer; array = buffer ++ drop size array } ≡ judge-filled s size fill
+unfolding judge-filled
+judge-filled-of s array buffer size fill values answer f a v b = rw (a, v, b, f)
+
+-- the comparison is that of `judge-agrees`, since each side is what its function ensures
+pub compared :
+    (s : List ℕ) (v : Vector) (wanted : Answer) (size : ℕ) (got : Judged) (wrong : ℕ) →
+    wanted ≡ expected s (v .end) →
+    size ≡ getD s (v .end + 6) 0 →
+    got ≡ judge-filled (take (v .end - v .start) (drop (v .start) s)) size (getD s (v .end + 7) 0) →
+    wrong ≡ first-wrong s (v .end + 8) max-clauses (getD s (v .end + 7) 0) (got .array) →
+    judge-alike wanted (got .answer) wrong ≡ judge-agrees s v
+unfolding judge-agrees
+compared s v wanted size got wrong w z g f = rw (w, f, g, z)

@@ -1,0 +1,5 @@
+pub mod CheckingLaws
+pub mod ComparingLaws
+pub mod FrameLaws
+pub mod JudgingLaws
+pub mod TotalsLaws

@@ -1,0 +1,44 @@
+-- `judge_filled`: what the call ensures, and the rest of the array.
+use mathlib.Core.Path.{_≡_, sym}
+use native.Mathlib.Omega.{arith}
+use lib.ListN.{length, length-replicate}
+use lib.Seq.{length-take-le}
+use borrow.Author.Needs.{needs}
+use Rattle.vectors.proofs.JudgingLaws.{judge-filled-of}
+use Rattle.vectors.proofs.judging.judge_filled.Statement.{statement}
+use Rattle.vectors.proofs.judging.judge_filled.Tie as tie
+
+filled-requires : tie.Need-filled-requires
+filled-requires c κs = search needs
+
+array-borrow-prefix-array : tie.Need-array-borrow-prefix-array
+array-borrow-prefix-array c = search needs
+
+slice-aggregate-find-matching : tie.Need-slice-aggregate-find-matching
+slice-aggregate-find-matching c =
+    let l : length (c .before .filled .result) ≡ 256 =
+    rw (c .before .filled .ensures) (length-replicate 256 (c .before .before .before .args .fill)) in
+    sym (length-take-le _ _ (omega arith))
+
+find-matching-requires : tie.Need-find-matching-requires
+find-matching-requires c κs = search needs
+
+answer-of-requires : tie.Need-answer-of-requires
+answer-of-requires c κs = search needs
+
+returns : tie.Need-returns
+returns c =
+    let m = c .before .before in
+    judge-filled-of _ _ _ _ _ _ _ (m .before .before .filled .ensures) (c .answer-of .ensures)
+    (m .find-matching .ensures .0) (m .find-matching .ensures .1)
+
+pub judge-filled-spec : {M : Type 1} → statement M
+judge-filled-spec =
+    tie.close
+    (tie.spec
+    filled-requires
+    array-borrow-prefix-array
+    slice-aggregate-find-matching
+    find-matching-requires
+    answer-of-requires
+    returns)

@@ -1,0 +1,6 @@
+pub mod Answers
+pub mod Checking
+pub mod Comparing
+pub mod Corpus
+pub mod Judging
+pub mod Totals

@@ -1,0 +1,91 @@
+// The vectors of judge: each answer and the lent buffer compared with the expected ones.
+ghost use Prim.Native.Nat.{_+_, _≤_};
+ghost use mathlib.Core.Path.{_≡_};
+ghost use lib.ListN.{length, replicate};
+ghost use Rattle.matched.specs.Judge.{judgement-values};
+ghost use Rattle.vectors.specs.Judging.{judge-written, judge-filled, judge-alike, judge-agrees};
+use crate::answers::Answer;
+use crate::answers::equal;
+use crate::answers::expected_at;
+use crate::answers::refusal_answer;
+use crate::comparing::first_wrong;
+use crate::comparing::wanted_byte;
+use crate::corpus::Vector;
+use crate::corpus::wide;
+use crate::report;
+use matched::Judgement;
+
+// What a call gives: its answer, and the array whose first bytes were lent as the buffer.
+pub struct Judged {
+    pub answer: Answer,
+    pub array: [u8; 256],
+}
+
+fn answer_of(j: Judgement) -> Answer
+    ensures { λ r. ⌜ r ≡ judge-written (judgement-values j) ⌝ }
+{
+    match j {
+        Judgement::Accepted(n, m) => Answer {
+            says: 3,
+            number: 0,
+            place: 0,
+            variables: n as u64,
+            clauses: m as u64,
+        },
+        Judgement::Refused(refusal) => refusal_answer(refusal),
+    }
+}
+
+fn filled(fill: u8) -> [u8; 256]
+    ensures { λ r. ⌜ r ≡ replicate 256 fill ⌝ }
+{
+    [fill; 256]
+}
+
+// Judges an input, with a filled buffer of the given size.
+fn judge_filled(input: &[u8], size: usize, fill: u8) -> Judged
+    requires { ⌜ size ≤ 256 ⌝ }
+    ensures { λ r. ⌜ r ≡ judge-filled (now (input .entry)) size fill ⌝ }
+{
+    let mut array = filled(fill);
+    let answer = answer_of(matched::find_matching(input, &mut array[..size]));
+    Judged { answer, array }
+}
+
+// The answers are the same, and the array is wrong nowhere.
+fn agree(wanted: Answer, got: Answer, wrong: usize) -> bool
+    ensures { λ r. ⌜ r ≡ judge-alike wanted got wrong ⌝ }
+{
+    if equal(wanted, got) {
+        return wrong == 256;
+    }
+    false
+}
+
+// Whether judge gives the expected answer and leaves the expected bytes; a difference is printed.
+pub fn judge_vector(bytes: &[u8], v: Vector) -> bool
+    requires { ⌜ (v .start ≤ v .end) × (v .end + 104 ≤ length (now bytes)) ⌝ }
+    ensures { λ r. ⌜ r ≡ judge-agrees (now (bytes .entry)) v ⌝ }
+{
+    let start = v.start;
+    let end = v.end;
+    let wanted = expected_at(bytes, end);
+    let size = wide(bytes[end + 6]) as usize;
+    let fill = bytes[end + 7];
+    let got = judge_filled(&bytes[start..end], size, fill);
+    let answer = got.answer;
+    let array = got.array;
+    let wrong = first_wrong(bytes, end + 8, limits::MAX_CLAUSES, fill, &array);
+    if agree(wanted, answer, wrong) {
+        return true;
+    }
+    report::difference(v.number, wanted, answer);
+    if wrong < 256 {
+        report::wrong_byte(
+            wrong,
+            wanted_byte(bytes, end + 8, limits::MAX_CLAUSES, fill, wrong),
+            array[wrong],
+        );
+    }
+    false
+}
