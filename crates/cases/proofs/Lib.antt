@@ -1,3 +1,4 @@
+pub mod JudgingLaws
 pub mod PrintsLaws
 pub mod RunLaws
 pub mod TryingLaws

@@ -1,3 +1,4 @@
+pub mod Judging
 pub mod Prints
 pub mod Runs
 pub mod Trying

@@ -14,7 +14,7 @@ use Rattle.cases.specs.declared.runs.Run.{Run}
 use Rattle.vectors.specs.declared.totals.Totals.{Totals}
 use Rattle.vectors.specs.Checking.{check-agrees}
 use Rattle.vectors.specs.Corpus.{framed}
-use Rattle.vectors.specs.Judging.{judge-agrees}
+use Rattle.cases.specs.Judging.{judge-agrees}
 use Rattle.cases.specs.Prints.{print-agrees}
 use Rattle.vectors.specs.Totals.{counted, Grown}
 use Rattle.cases.specs.Trying.{compare-agrees}

@@ -19,6 +19,7 @@
 // - formulas: none. The answer says that the walk was not compared with a trial of all assignments (7), or that both have the same
 //   models (8), with their number as the place.
 // tools/corpus.py writes the files.
+mod judging;
 mod prints;
 mod runs;
 mod trying;

@@ -5,6 +5,7 @@ ghost use Rattle.enumeration.specs.Values.{checkpoint-values};
 ghost use Rattle.cases.specs.Runs.{size-of, FieldsOf, act-agrees, leaves, Ran};
 ghost use Rattle.vectors.specs.Totals.{RoomFor};
 ghost use Rattle.cases.specs.Walking.{Gives};
+use crate::judging::judge_vector;
 use crate::prints::print_vector;
 use crate::trying::compare_vector;
 use crate::walking::CHECKPOINT_SIZE;
@@ -16,7 +17,6 @@ use vectors::checking::check_vector;
 use vectors::corpus::Framed;
 use vectors::corpus::Vector;
 use vectors::corpus::frame;
-use vectors::judging::judge_vector;
 use vectors::totals;
 use vectors::totals::Totals;
 

@@ -1,5 +1,4 @@
 pub mod CheckingLaws
 pub mod ComparingLaws
 pub mod FrameLaws
-pub mod JudgingLaws
 pub mod TotalsLaws

@@ -2,5 +2,4 @@ pub mod Answers
 pub mod Checking
 pub mod Comparing
 pub mod Corpus
-pub mod Judging
 pub mod Totals

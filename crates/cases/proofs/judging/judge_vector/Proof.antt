@@ -1,10 +1,10 @@
 -- `judge_vector`: the comparison is that of `judge-agrees`, since each side is what its function ensures.
 use mathlib.Core.Path.{_≡_, sym, _∙_}
 use borrow.Author.Needs.{needs}
-use Rattle.vectors.specs.Judging.{judge-agrees}
-use Rattle.vectors.proofs.JudgingLaws.{compared}
-use Rattle.vectors.proofs.judging.judge_vector.Statement.{statement}
-use Rattle.vectors.proofs.judging.judge_vector.Tie as tie
+use Rattle.cases.specs.Judging.{judge-agrees}
+use Rattle.cases.proofs.JudgingLaws.{compared}
+use Rattle.cases.proofs.judging.judge_vector.Statement.{statement}
+use Rattle.cases.proofs.judging.judge_vector.Tie as tie
 
 -- the call, the buffer's size, the expected answer, and the entry
 abbrev judging : tie.After-agree → tie.After-judge-filled

@@ -6,11 +6,11 @@ use lib.Dec.{eqb}
 use lib.ListN.{getD, take, drop, replicate}
 use Rattle.limits.specs.Limits.{max-clauses}
 use Rattle.matched.specs.Judge.{JudgementValues, judge}
 use Rattle.vectors.specs.declared.answers.Answer.{Answer}
 use Rattle.vectors.specs.declared.corpus.Vector.{Vector}
-use Rattle.vectors.specs.declared.judging.Judged.{Judged}
+use Rattle.cases.specs.declared.judging.Judged.{Judged}
 use Rattle.vectors.specs.Answers.{expected, same-answer}
 use Rattle.vectors.specs.Comparing.{first-wrong}
 
 -- how the corpus writes what an answer says, by the refusal's number: matched if there is none
 abbrev pub number-code : ℕ → ℕ

@@ -3,17 +3,17 @@ ghost use Prim.Native.Nat.{_+_, _≤_};
 ghost use mathlib.Core.Path.{_≡_};
 ghost use lib.ListN.{length, replicate};
 ghost use Rattle.matched.specs.Judge.{judgement-values};
-ghost use Rattle.vectors.specs.Judging.{judge-written, judge-filled, judge-alike, judge-agrees};
-use crate::answers::Answer;
-use crate::answers::equal;
-use crate::answers::expected_at;
-use crate::answers::refusal_answer;
-use crate::comparing::first_wrong;
-use crate::comparing::wanted_byte;
-use crate::corpus::Vector;
-use crate::corpus::wide;
-use crate::report;
+ghost use Rattle.cases.specs.Judging.{judge-written, judge-filled, judge-alike, judge-agrees};
 use matched::Judgement;
+use vectors::answers::Answer;
+use vectors::answers::equal;
+use vectors::answers::expected_at;
+use vectors::answers::refusal_answer;
+use vectors::comparing::first_wrong;
+use vectors::comparing::wanted_byte;
+use vectors::corpus::Vector;
+use vectors::corpus::wide;
+use vectors::report;
 
 // What a call gives: its answer, and the array whose first bytes were lent as the buffer.
 pub struct Judged {

@@ -8,12 +8,12 @@ use Rattle.formula.specs.declared.Refusal.{Refusal}
 use Rattle.formula.specs.declared.Refusal.the-variants.{ShortBuffer, Truncated, UnknownKind, Misplaced, BadVariableCount, NoSuchVariable, RepeatedVariable, TooManyClauses, TrailingByte, Unmatched, ForeignCheckpoint, StrayVariable}
 use Rattle.formula.specs.Refusals.{table-row}
 use Rattle.matched.specs.Judge.{JudgementValues, judge}
 use Rattle.vectors.specs.declared.answers.Answer.{Answer}
 use Rattle.vectors.specs.declared.corpus.Vector.{Vector}
-use Rattle.vectors.specs.declared.judging.Judged.{Judged}
+use Rattle.cases.specs.declared.judging.Judged.{Judged}
 use Rattle.vectors.specs.Answers.{expected}
 use Rattle.vectors.specs.Comparing.{first-wrong}
-use Rattle.vectors.specs.Judging.{number-code, judge-written, filled, judge-filled, judge-alike, judge-agrees}
+use Rattle.cases.specs.Judging.{number-code, judge-written, filled, judge-filled, judge-alike, judge-agrees}
 
 -- every refusal has a number
 pub refusal-code : (r : Refusal) → number-code (table-row r .number) ≡ 2

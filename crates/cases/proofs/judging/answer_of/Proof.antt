@@ -1,8 +1,8 @@
 -- `answer_of`: by the cases of the judgement.
 use borrow.Author.Needs.{needs}
-use Rattle.vectors.proofs.JudgingLaws.{refusal-code}
-use Rattle.vectors.proofs.judging.answer_of.Statement.{statement}
-use Rattle.vectors.proofs.judging.answer_of.Tie as tie
+use Rattle.cases.proofs.JudgingLaws.{refusal-code}
+use Rattle.cases.proofs.judging.answer_of.Statement.{statement}
+use Rattle.cases.proofs.judging.answer_of.Tie as tie
 
 enum-known-j : tie.Need-enum-known-j
 enum-known-j c = search needs

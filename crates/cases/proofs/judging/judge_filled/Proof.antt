@@ -4,9 +4,9 @@ use native.Mathlib.Omega.{arith}
 use lib.ListN.{length, length-replicate}
 use lib.Seq.{length-take-le}
 use borrow.Author.Needs.{needs}
-use Rattle.vectors.proofs.JudgingLaws.{judge-filled-of}
-use Rattle.vectors.proofs.judging.judge_filled.Statement.{statement}
-use Rattle.vectors.proofs.judging.judge_filled.Tie as tie
+use Rattle.cases.proofs.JudgingLaws.{judge-filled-of}
+use Rattle.cases.proofs.judging.judge_filled.Statement.{statement}
+use Rattle.cases.proofs.judging.judge_filled.Tie as tie
 
 filled-requires : tie.Need-filled-requires
 filled-requires c κs = search needs
