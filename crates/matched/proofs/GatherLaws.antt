@@ -22,7 +22,6 @@ use Rattle.formula.specs.Masked.{variables}
 use Rattle.formula.specs.InnerMasked.{no-clause, with-literals, clause-of, formula-of}
 use Rattle.formula.specs.InnerFits.{clause-variables, FormulaFits}
 use Rattle.formula.proofs.ClauseLaws.{variables-named}
-use Rattle.matching.specs.Sets.{Words}
 use Rattle.matching.specs.Result.{Clauses}
 use Rattle.matched.specs.InnerAccept.{raised}
 use Rattle.matched.specs.InnerGather.{sets-of}
@@ -69,9 +68,6 @@ module _ (f : Formula) (fits : FormulaFits f) where
       let p : 2 ^ f .variables ≤ 2 ^ 64 = pow-mono n in
       rw (getD-tabulated (λ j. clause-variables (getD (f .clauses) j no-clause)) (f .count) i 0 l)
       (or-lt 64 (c .positive) (c .negative) (omega (arith, w .below true)) (omega (arith, w .below false)))
-
-  pub sets-words : Words (sets f)
-  sets-words i l = sets-word i (rw sets-length at l)
 
   -- the array of the sets is what the matching asks
   pub sets-clauses : Clauses (padded max-clauses 0 (sets f)) (f .count)
