@@ -9,8 +9,10 @@ use Rattle.matched.proofs.JudgeLaws.{told, judge-short, accepted-judged
 use Rattle.matched.proofs.find_matching.Statement.{statement}
 use Rattle.matched.proofs.find_matching.Tie as tie
 
--- what comes of the input, and that the buffer has room
-abbrev represented : (a : tie.After-accept) → Represents (acceptance (a .before .before .before .before .before .before .args .input .now)) (a .before .before .decode .result .formula) (a .accept .result)
+-- what comes of the input
+abbrev represented : (a : tie.After-accept)
+    → (let d = a .before .before in
+       Represents (acceptance (d .before .before .before .before .args .input .now)) (d .decode .result .formula) (a .accept .result))
 represented a = a .accept .ensures _ (a .before .before .decode .ensures)
 
 -- ---- what is answered
