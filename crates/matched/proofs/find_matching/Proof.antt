@@ -12,7 +12,7 @@ use Rattle.matched.proofs.find_matching.Tie as tie
 -- what comes of the input
 abbrev represented : (a : tie.After-accept)
     → (let d = a .before .before in
-       Represents (acceptance (d .before .before .before .before .args .input .now)) (d .decode .result .formula) (a .accept .result))
+    Represents (acceptance (d .before .before .before .before .args .input .now)) (d .decode .result .formula) (a .accept .result))
 represented a = a .accept .ensures _ (a .before .before .decode .ensures)
 
 -- ---- what is answered
