@@ -15,8 +15,8 @@ use Rattle.enumeration.specs.declared.listing.Listed.{Listed}
 use Rattle.enumeration.specs.declared.calls.Walked.{Walked}
 use Rattle.enumeration.specs.Values.{checkpoint-values, walked-values, listed-values}
 use Rattle.enumeration.specs.Lists.{Delivered, next-models}
-use Rattle.capi.specs.Interface.{results-size, checkpoint-size, check-row, judge-row, walk-row, list-row, checkpoint-bytes, checkpoint-in, check-called, judge-called, start-called, walk-told, walk-called, list-told, list-called}
-use Rattle.capi.proofs.RowLaws.{beside}
+use Rattle.capi.specs.Interface.{results-size, checkpoint-size, check-results, judge-results, walk-results, list-results, checkpoint-bytes, checkpoint-in, check-called, judge-called, start-called, walk-told, walk-called, list-told, list-called}
+use Rattle.capi.proofs.ResultsLaws.{beside}
 
 module _ (s results : List ℕ) (a : ℕ) where
   pub check-unwritten : (length results ≡ results-size → ⊥) → check-called s a results ≡ (1, results)
@@ -26,7 +26,7 @@ module _ (s results : List ℕ) (a : ℕ) where
   pub check-written :
       (r : check.VerdictValues) (after : List ℕ) →
       length results ≡ results-size →
-      r ≡ checked s a → after ≡ check-row r → check-called s a results ≡ (0, after)
+      r ≡ checked s a → after ≡ check-results r → check-called s a results ≡ (0, after)
   unfolding check-called
   check-written r after h e f = rw (eq-eqb _ _ h, f, e)
 
@@ -41,7 +41,7 @@ module _ (s buffer results : List ℕ) where
       length results ≡ results-size →
       r ≡ judge s buffer .answer →
       left ≡ judge s buffer .buffer →
-      after ≡ judge-row r → judge-called s buffer results ≡ (0, left, after)
+      after ≡ judge-results r → judge-called s buffer results ≡ (0, left, after)
   unfolding judge-called
   judge-written r left after h e l f = rw (eq-eqb _ _ h, f, e, l)
 
@@ -86,7 +86,7 @@ module _ (s checkpoint results : List ℕ) (budget : ℕ) where
       from ≡ checkpoint-in checkpoint →
       walked-values w ≡ walk-call s from budget →
       left ≡ checkpoint-bytes (checkpoint-values (w .checkpoint)) →
-      after ≡ walk-row (walked-values w) →
+      after ≡ walk-results (walked-values w) →
       walk-called s checkpoint budget results ≡ (0, left, after)
   walk-written from w left after h k f e l g =
       rw (walk-called-is h k, ← f, ← e, l, g, beside (w .answer) (w .steps) (w .expansions) (checkpoint-values (w .checkpoint)))
@@ -120,13 +120,13 @@ module _ (s checkpoint models results : List ℕ) where
       from ≡ checkpoint-in checkpoint →
       Delivered (next-models s from (length models)) models brought r →
       left ≡ checkpoint-bytes (checkpoint-values (r .checkpoint)) →
-      after ≡ list-row (r .count) (listed-values r) →
+      after ≡ list-results (r .count) (listed-values r) →
       list-called s checkpoint models results ≡ (0, left, brought, after)
   list-written from r left brought after h k f e l g =
       let x = next-models s from (length models) in
       let c : x .last .checkpoint ≡ checkpoint-values (r .checkpoint) =
       ap (λ (q : Result). q .checkpoint) (sym (e .last)) ∙ beside (r .answer) 0 0 (checkpoint-values (r .checkpoint)) in
       let p : left ≡ checkpoint-bytes (x .last .checkpoint) = l ∙ ap checkpoint-bytes (sym c) in
-      let q : after ≡ list-row (length (x .models)) (x .last) =
-      g ∙ ap (list-row (r .count)) (e .last) ∙ ap (λ (n : ℕ). list-row n (x .last)) (e .count) in
+      let q : after ≡ list-results (length (x .models)) (x .last) =
+      g ∙ ap (list-results (r .count)) (e .last) ∙ ap (λ (n : ℕ). list-results n (x .last)) (e .count) in
       rw (list-called-is h k, ← f, p, q, e .written)

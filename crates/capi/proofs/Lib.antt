@@ -1,4 +1,4 @@
 pub mod CallLaws
-pub mod RowLaws
+pub mod ResultsLaws
 pub mod SliceLaws
 pub mod Theorems

@@ -15,7 +15,7 @@ use Rattle.walk.specs.Results.{AnswerKind, says-model, says-spent, says-ended, 
 use Rattle.walk.proofs.ResumedLaws.{call-bytes}
 use Rattle.enumeration.proofs.RefusedLaws.{refuses-or-goes}
 use Rattle.enumeration.proofs.ListTheorems.{next-refused}
-use Rattle.capi.specs.Interface.{results-size, checkpoint-size, kind-code, walk-row, checkpoint-bytes, checkpoint-in, start-called, walk-told, walk-called, walks-called, list-called}
+use Rattle.capi.specs.Interface.{results-size, checkpoint-size, kind-code, walk-results, checkpoint-bytes, checkpoint-in, start-called, walk-told, walk-called, walks-called, list-called}
 use Rattle.capi.proofs.CallLaws.{start-written, walk-called-is, list-called-is}
 
 -- ---- the bytes of a checkpoint
@@ -77,7 +77,7 @@ calls-walked s c results (b ∷ bs) h k =
     let l : length (checkpoint-bytes c) ≡ checkpoint-size = omega arith in
     let r = walk-call s c b in
     rw (walk-called-is s (checkpoint-bytes c) results b l k)
-    (ap (λ (t : List (ℕ × List ℕ × List ℕ)). walk-told r ∷ t) (calls-walked s (r .checkpoint) (walk-row r) bs (call-bytes s c b h) refl))
+    (ap (λ (t : List (ℕ × List ℕ × List ℕ)). walk-told r ∷ t) (calls-walked s (r .checkpoint) (walk-results r) bs (call-bytes s c b h) refl))
 
 -- S10, demand 3, in the interface: after norwythai_start, each norwythai_walk of a list returns 0 and leaves in the results, and as the
 -- checkpoint's 50 bytes, the result and the checkpoint of the walk call that demand 3 is about, whatever stood in the buffers before.

@@ -31,20 +31,20 @@ kind-code says-spent = 1
 kind-code says-ended = 2
 kind-code says-refused = 3
 
-abbrev pub check-row : check.VerdictValues → List ℕ
-check-row a = said-code (a .said) ∷ 0 ∷ a .number ∷ a .place ∷ 0 ∷ 0 ∷ []
+abbrev pub check-results : check.VerdictValues → List ℕ
+check-results a = said-code (a .said) ∷ 0 ∷ a .number ∷ a .place ∷ 0 ∷ 0 ∷ []
 
 -- accepted if there is no refusal's number; at the end the numbers of variables and of clauses
-abbrev pub judge-row : judging.JudgementValues → List ℕ
-judge-row a = cond (eqb (a .number) 0) 0 3 ∷ 0 ∷ a .number ∷ a .place ∷ a .variables ∷ a .clauses ∷ []
+abbrev pub judge-results : judging.JudgementValues → List ℕ
+judge-results a = cond (eqb (a .number) 0) 0 3 ∷ 0 ∷ a .number ∷ a .place ∷ a .variables ∷ a .clauses ∷ []
 
 -- the model, or 0; at the end the steps and the expansions
-abbrev pub walk-row : Result → List ℕ
-walk-row r = kind-code (r .kind) ∷ r .model ∷ r .number ∷ r .place ∷ r .steps ∷ r .expansions ∷ []
+abbrev pub walk-results : Result → List ℕ
+walk-results r = kind-code (r .kind) ∷ r .model ∷ r .number ∷ r .place ∷ r .steps ∷ r .expansions ∷ []
 
 -- the last call's answer, and how many models were brought
-abbrev pub list-row : ℕ → Result → List ℕ
-list-row count r = kind-code (r .kind) ∷ r .model ∷ r .number ∷ r .place ∷ count ∷ 0 ∷ []
+abbrev pub list-results : ℕ → Result → List ℕ
+list-results count r = kind-code (r .kind) ∷ r .model ∷ r .number ∷ r .place ∷ count ∷ 0 ∷ []
 
 -- ---- checkpoints: 50 bytes, the mode, the length and the trail
 
@@ -58,7 +58,7 @@ abbrev pub checkpoint-in : List ℕ → Checkpoint
 checkpoint-in b = record { mode = getD b 0 0; length = getD b 1 0; bytes = drop 2 b }
 
 -- ---- the functions: the number that each returns, then its lent buffers as it leaves them, in the order of its arguments. Each writes
--- only into buffers of the fixed lengths: else it returns 1, and all stays as it was
+-- only if results and checkpoint have their lengths: else it returns 1, and all stays as it was
 
 abbrev pub results-sized : List ℕ → Bool
 results-sized results = eqb (length results) results-size
@@ -68,13 +68,13 @@ checkpoint-sized checkpoint = eqb (length checkpoint) checkpoint-size
 
 -- norwythai_check: the input, the assignment, and the results as they were
 unfoldable pub check-called : List ℕ → ℕ → List ℕ → ℕ × List ℕ
-check-called s a results = cond (results-sized results) (0, check-row (checked s a)) (1, results)
+check-called s a results = cond (results-sized results) (0, check-results (checked s a)) (1, results)
 
 -- norwythai_judge: the input, and the pairing buffer and the results as they were
 unfoldable pub judge-called : List ℕ → List ℕ → List ℕ → ℕ × List ℕ × List ℕ
 judge-called s buffer results =
     let j = judge s buffer in
-    cond (results-sized results) (0, j .buffer, judge-row (j .answer)) (1, buffer, results)
+    cond (results-sized results) (0, j .buffer, judge-results (j .answer)) (1, buffer, results)
 
 -- norwythai_start: the checkpoint as it was
 unfoldable pub start-called : List ℕ → ℕ × List ℕ
@@ -82,7 +82,7 @@ start-called checkpoint = cond (checkpoint-sized checkpoint) (0, checkpoint-byte
 
 -- a walk call's result in the buffers
 abbrev pub walk-told : Result → ℕ × List ℕ × List ℕ
-walk-told r = (0, checkpoint-bytes (r .checkpoint), walk-row r)
+walk-told r = (0, checkpoint-bytes (r .checkpoint), walk-results r)
 
 -- norwythai_walk: the input, the checkpoint as it was, the budget, and the results as they were
 unfoldable pub walk-called : List ℕ → List ℕ → ℕ → List ℕ → ℕ × List ℕ × List ℕ
@@ -102,7 +102,7 @@ walks-called s checkpoint results (b ∷ bs) =
 -- what a list of calls brings, in the buffers: the models stand over the first ones
 abbrev pub list-told : List ℕ → Delivery → ℕ × List ℕ × List ℕ × List ℕ
 list-told models x =
-    (0, checkpoint-bytes (x .last .checkpoint), over (x .models) models, list-row (length (x .models)) (x .last))
+    (0, checkpoint-bytes (x .last .checkpoint), over (x .models) models, list-results (length (x .models)) (x .last))
 
 -- norwythai_list: the input, and the checkpoint, the models and the results as they were
 unfoldable pub list-called : List ℕ → List ℕ → List ℕ → List ℕ → ℕ × List ℕ × List ℕ × List ℕ

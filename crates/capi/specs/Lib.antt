@@ -1,2 +1,2 @@
-pub mod InnerRow
+pub mod InnerResults
 pub mod Interface

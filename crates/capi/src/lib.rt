@@ -8,8 +8,8 @@ ghost use Rattle.formula.specs.Refusals.{table-row};
 ghost use Rattle.matched.specs.Judge as judging;
 ghost use Rattle.walk.specs.Checkpoints as walk;
 ghost use Rattle.enumeration.specs.Values.{checkpoint-values, answer-values, walked-values, listed-values};
-ghost use Rattle.capi.specs.InnerRow.{numbers};
-ghost use Rattle.capi.specs.Interface.{results-size, check-row, judge-row, walk-row, list-row, checkpoint-size, checkpoint-bytes, checkpoint-in, check-called, judge-called, start-called, walk-called, list-called};
+ghost use Rattle.capi.specs.InnerResults.{numbers};
+ghost use Rattle.capi.specs.Interface.{results-size, check-results, judge-results, walk-results, list-results, checkpoint-size, checkpoint-bytes, checkpoint-in, check-called, judge-called, start-called, walk-called, list-called};
 use enumeration::Checkpoint;
 use enumeration::Listed;
 use enumeration::Walked;
@@ -25,7 +25,7 @@ const CHECKPOINT_SIZE: usize = 2 + limits::MAX_VARIABLES;
 
 // The results of a call, in the order in which they are written. judge has the numbers of variables and clauses in place of the
 // steps and expansions, list the number of models in place of the steps.
-struct Row {
+struct Results {
     answer: u64,
     model: u64,
     number: u64,
@@ -35,10 +35,10 @@ struct Row {
 }
 
 // An answer that is no refusal.
-fn plain_row(answer: u64, model: u64, steps: u64, expansions: u64) -> Row
+fn plain_results(answer: u64, model: u64, steps: u64, expansions: u64) -> Results
     ensures { λ r. ⌜ r ≡ record { answer = answer; model = model; number = 0; place = 0; steps = steps; expansions = expansions } ⌝ }
 {
-    Row {
+    Results {
         answer,
         model,
         number: 0,
@@ -48,10 +48,10 @@ fn plain_row(answer: u64, model: u64, steps: u64, expansions: u64) -> Row
     }
 }
 
-fn refusal_row(refusal: Refusal, steps: u64, expansions: u64) -> Row
+fn refusal_results(refusal: Refusal, steps: u64, expansions: u64) -> Results
     ensures { λ r. ⌜ r ≡ record { answer = 3; model = 0; number = table-row refusal .number; place = table-row refusal .place; steps = steps; expansions = expansions } ⌝ }
 {
-    Row {
+    Results {
         answer: 3,
         model: 0,
         number: formula::number_of(refusal),
@@ -61,52 +61,52 @@ fn refusal_row(refusal: Refusal, steps: u64, expansions: u64) -> Row
     }
 }
 
-fn check_row(v: Verdict) -> Row
-    ensures { λ r. ⌜ numbers r ≡ check-row (check.verdict-values v) ⌝ }
+fn check_results(v: Verdict) -> Results
+    ensures { λ r. ⌜ numbers r ≡ check-results (check.verdict-values v) ⌝ }
 {
     match v {
-        Verdict::Model => plain_row(0, 0, 0, 0),
-        Verdict::NotModel => plain_row(1, 0, 0, 0),
-        Verdict::Refused(refusal) => refusal_row(refusal, 0, 0),
+        Verdict::Model => plain_results(0, 0, 0, 0),
+        Verdict::NotModel => plain_results(1, 0, 0, 0),
+        Verdict::Refused(refusal) => refusal_results(refusal, 0, 0),
     }
 }
 
-fn judge_row(j: Judgement) -> Row
-    ensures { λ r. ⌜ numbers r ≡ judge-row (judging.judgement-values j) ⌝ }
+fn judge_results(j: Judgement) -> Results
+    ensures { λ r. ⌜ numbers r ≡ judge-results (judging.judgement-values j) ⌝ }
 {
     match j {
-        Judgement::Accepted(n, m) => plain_row(0, 0, n as u64, m as u64),
-        Judgement::Refused(refusal) => refusal_row(refusal, 0, 0),
+        Judgement::Accepted(n, m) => plain_results(0, 0, n as u64, m as u64),
+        Judgement::Refused(refusal) => refusal_results(refusal, 0, 0),
     }
 }
 
-fn answer_row(answer: enumeration::Answer, steps: u64, expansions: u64) -> Row
-    ensures { λ r. ⌜ ((c : walk.Checkpoint) → numbers r ≡ walk-row (answer-values answer steps expansions c)) ⌝ }
+fn answer_results(answer: enumeration::Answer, steps: u64, expansions: u64) -> Results
+    ensures { λ r. ⌜ ((c : walk.Checkpoint) → numbers r ≡ walk-results (answer-values answer steps expansions c)) ⌝ }
 {
     match answer {
-        enumeration::Answer::Model(model) => plain_row(0, model, steps, expansions),
-        enumeration::Answer::Spent => plain_row(1, 0, steps, expansions),
-        enumeration::Answer::Ended => plain_row(2, 0, steps, expansions),
-        enumeration::Answer::Refused(refusal) => refusal_row(refusal, steps, expansions),
+        enumeration::Answer::Model(model) => plain_results(0, model, steps, expansions),
+        enumeration::Answer::Spent => plain_results(1, 0, steps, expansions),
+        enumeration::Answer::Ended => plain_results(2, 0, steps, expansions),
+        enumeration::Answer::Refused(refusal) => refusal_results(refusal, steps, expansions),
     }
 }
 
-fn walk_row(w: Walked) -> Row
-    ensures { λ r. ⌜ numbers r ≡ walk-row (walked-values w) ⌝ }
+fn walk_results(w: Walked) -> Results
+    ensures { λ r. ⌜ numbers r ≡ walk-results (walked-values w) ⌝ }
 {
     let answer = w.answer;
-    answer_row(answer, w.steps, w.expansions)
+    answer_results(answer, w.steps, w.expansions)
 }
 
-fn list_row(l: Listed) -> Row
-    ensures { λ r. ⌜ numbers r ≡ list-row (l .count) (listed-values l) ⌝ }
+fn list_results(l: Listed) -> Results
+    ensures { λ r. ⌜ numbers r ≡ list-results (l .count) (listed-values l) ⌝ }
 {
     let answer = l.answer;
-    answer_row(answer, l.count as u64, 0)
+    answer_results(answer, l.count as u64, 0)
 }
 
 // Writes the results.
-fn put_row(r: Row, results: &mut [u64])
+fn put_results(r: Results, results: &mut [u64])
     requires { ⌜ length (now results) ≡ results-size ⌝ }
     ensures { λ _. ⌜ now (results .exit) ≡ numbers r ⌝ }
 {
@@ -158,7 +158,7 @@ pub extern "C" fn norwythai_check(input: &[u8], assignment: u64, results: &mut [
     if results.len() != RESULTS_SIZE {
         return 1;
     }
-    put_row(check_row(formula::check(input, assignment)), results);
+    put_results(check_results(formula::check(input, assignment)), results);
     0
 }
 
@@ -170,7 +170,10 @@ pub extern "C" fn norwythai_judge(input: &[u8], buffer: &mut [u8], results: &mut
     if results.len() != RESULTS_SIZE {
         return 1;
     }
-    put_row(judge_row(matched::find_matching(input, buffer)), results);
+    put_results(
+        judge_results(matched::find_matching(input, buffer)),
+        results,
+    );
     0
 }
 
@@ -205,7 +208,7 @@ pub extern "C" fn norwythai_walk(
     let w = enumeration::walk(input, checkpoint_in(checkpoint), budget);
     let after = w.checkpoint;
     put_checkpoint(after, checkpoint);
-    put_row(walk_row(w), results);
+    put_results(walk_results(w), results);
     0
 }
 
@@ -228,6 +231,6 @@ pub extern "C" fn norwythai_list(
     let l = enumeration::list(input, checkpoint_in(checkpoint), models);
     let after = l.checkpoint;
     put_checkpoint(after, checkpoint);
-    put_row(list_row(l), results);
+    put_results(list_results(l), results);
     0
 }

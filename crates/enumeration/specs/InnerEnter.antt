@@ -1,4 +1,4 @@
--- Where a call on an input begins.
+-- From which state a call goes on.
 use Prim.Native.Nat.{ℕ, _<_}
 use mathlib.Core.Bool.{true, false}
 use mathlib.Core.List.{List}

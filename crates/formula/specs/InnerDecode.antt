@@ -127,7 +127,7 @@ read-record len r (k ∷ s) =
     (refuse (UnknownKind (r .at)))
 
 -- record after record. The first number is at least the count of the bytes that are left, and a record has a byte or
--- two: where it is 0 no byte is left. `records-unbounded` in proofs/Demands.antt says that it is never what stops reading.
+-- two: where it is 0 no byte is left. `records-unbounded` in proofs/BoundLaws.antt says that it is never what stops reading.
 unfoldable pub records : ℕ → ℕ → Reading → List ℕ → Decoding
 records zero len r s = refused (Truncated len)
 records (suc k) len r s = elim (read-record len r s) [ next r′ s′ ↦ records k len r′ s′ | stop d ↦ d ]

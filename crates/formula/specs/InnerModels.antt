@@ -6,7 +6,7 @@ use lib.Dec.{eqb}
 use Rattle.masks.specs.Mask.{bit}
 use Rattle.formula.specs.Format.{Literal}
 
--- the same as tests: the variable stands the way that the literal names it
+-- the variable stands the way that the literal names it
 abbrev pub stands : ℕ → Literal → Bool
 stands a l = Bool·beq (bit a (l .variable)) (l .positive)
 

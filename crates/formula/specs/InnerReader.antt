@@ -1,4 +1,4 @@
--- What the reader's functions compute over masks, record by record; proofs/ReaderLaws.antt ties it to Decode.
+-- What the reader's functions compute over masks, record by record; proofs/ReaderLaws.antt ties it to InnerDecode.
 use Prim.Native.Nat.{ℕ, _+_, _-_, _≤_}
 use mathlib.Core.Bool.{Bool, false, not, cond, _&&_, _||_}
 use mathlib.Core.List.{List, map}
@@ -91,7 +91,7 @@ literal-read s r = record {
   current = with-literal (r .current) (getD s (r .at + 1) 0 - 1) (eqb (getD s (r .at) 0) 2);
 }
 
--- the reader at a reading, and the event that a step is
+-- the reader at a reading
 abbrev pub reader-of : Reading → Reader
 reader-of g = record { at = g .at; variables = g .variables; count = length (g .ended); current = clause-of (g .current) }
 

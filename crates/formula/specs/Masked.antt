@@ -1,4 +1,4 @@
--- S4.1: sets of variables as masks.
+-- S4.1: the variables of a clause as a mask.
 use Prim.Native.Nat.{ℕ}
 use mathlib.Core.List.{List, [], _∷_}
 use Rattle.masks.specs.Mask.{with}

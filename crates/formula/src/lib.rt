@@ -43,7 +43,7 @@ pub enum Refusal {
     StrayVariable(usize),
 }
 
-// How reading ended.
+// Accepted or refused: by the reader, and above it by acceptance and on entering a walk.
 pub enum Outcome {
     Accepted,
     Refused(Refusal),

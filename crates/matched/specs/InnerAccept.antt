@@ -29,8 +29,8 @@ HasClauses (accepted n cs row) f = f ≡ formula-of n cs
 HasClauses (declined r row) f = Unit {0}
 
 -- the reader's answer to an input is this outcome with this formula
-abbrev pub Reads : List ℕ → Outcome → Formula → Type 0
-Reads s o f = record { outcome = o; formula = f } ≡ decoded s
+abbrev pub ReaderGives : List ℕ → Outcome → Formula → Type 0
+ReaderGives s o f = record { outcome = o; formula = f } ≡ decoded s
 
 -- the numbers of a list, each plus k
 abbrev pub raised : ℕ → List ℕ → List ℕ

@@ -1,6 +1,7 @@
 // Which inputs are accepted, each with its matching or a violator, and the act judge (S5.6, S5.7).
 //
-// `accept` says to every act what comes of the input that it has read; judge writes it into a lent buffer.
+// `accept` says what comes of an input (`acceptance`) to judge, walk, list and print, which have read it; judge writes it into a lent
+// buffer.
 ghost use mathlib.Core.List.{List};
 ghost use mathlib.Core.Path.{_≡_};
 ghost use Prim.Native.Nat.{ℕ, _+_, _<_, _≤_};
@@ -14,7 +15,7 @@ ghost use Rattle.formula.specs.InnerFits.{FormulaFits};
 ghost use Rattle.matching.specs.Result.{packed};
 ghost use Rattle.matching.specs.Search.{outcome};
 ghost use Rattle.matched.specs.Acceptance.{acceptance, formula-acceptance};
-ghost use Rattle.matched.specs.InnerAccept.{Reads, raised, Represents};
+ghost use Rattle.matched.specs.InnerAccept.{ReaderGives, raised, Represents};
 ghost use Rattle.matched.specs.InnerGather.{sets-of};
 ghost use Rattle.matched.specs.Judge.{judgement-values, judge};
 use formula::Formula;
@@ -22,8 +23,9 @@ use formula::Outcome;
 use formula::Refusal;
 use matching::Matching;
 
-// What comes of an input, beside its formula: whether it is accepted, and the first `length` bytes of the table: the variable of each
-// clause, from 0; or, where it can't be matched, 1 for a marked clause and 0 for another. An input that can't be read has no bytes.
+// What comes of an input (`acceptance`), beside its formula: whether it is accepted, and the first `length` bytes of the table: the
+// variable of each clause, from 0; or, where it can't be matched, 1 for a marked clause and 0 for another. An input that can't be read
+// has no bytes.
 pub struct Row {
     pub outcome: Outcome,
     pub length: usize,
@@ -84,8 +86,8 @@ fn match_row(f: Formula) -> Row
 
 // S5.6: what comes of an input, by the reader's answer. The formula stays with the caller: to hand it on would be to copy it.
 pub fn accept(outcome: Outcome, f: Formula) -> Row
-    requires { ⌜ ((s : List ℕ) × Reads s outcome f) ⌝ }
-    ensures { λ r. ⌜ ((s : List ℕ) → Reads s outcome f → Represents (acceptance s) f r) ⌝ }
+    requires { ⌜ ((s : List ℕ) × ReaderGives s outcome f) ⌝ }
+    ensures { λ r. ⌜ ((s : List ℕ) → ReaderGives s outcome f → Represents (acceptance s) f r) ⌝ }
 {
     match outcome {
         Outcome::Refused(refusal) => Row {

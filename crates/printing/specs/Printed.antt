@@ -38,7 +38,7 @@ model-line n a steps expansions = line-of (digits n a ∷ decimal steps ∷ deci
 abbrev pub end-line : ℕ → ℕ → List ℕ
 end-line steps expansions = line-of (end-word ∷ decimal steps ∷ decimal expansions ∷ [])
 
--- S12.2: the line in place of what is not printed: `more`
+-- S12.1: the line in place of what is not printed: `more`
 abbrev pub more-line : List ℕ
 more-line = line-of (more-word ∷ [])
 
@@ -60,7 +60,7 @@ abbrev pub max-models : ℕ
 max-models = 1000
 
 -- The lines with k entries of the plain walk behind and room for j models more. A call of the plain machine on an ample budget goes on
--- to the next model or to the end, so its steps and expansions are those between two lines. S12.2: without room the print closes with
+-- to the next model or to the end, so its steps and expansions are those between two lines. S12.1: without room the print closes with
 -- `more`, whether or not there is another model.
 unfoldable pub walk-lines : Task → ℕ → ℕ → List ℕ
 walk-lines T zero k = more-line

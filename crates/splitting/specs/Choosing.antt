@@ -89,6 +89,6 @@ by-remaining n unassigned (c ∷ cs) = by-left n (c ∷ cs) (stripped n (c ∷ c
 abbrev pub unassigned-of : ℕ → List Literal → ℕ → Bool
 unassigned-of scope t v = bit scope v && not (names t v)
 
--- S6.1: the choice at the node of the trail t; `scope` has the variables that a model covers
+-- S6.1: the choice at the node of the trail t; `scope` has the variables to assign
 unfoldable pub choice : ℕ → ℕ → List (List Literal) → List Literal → Choice
 choice n scope cs t = by-remaining n (unassigned-of scope t) (remaining t cs)

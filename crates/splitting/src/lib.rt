@@ -460,7 +460,7 @@ fn last_listed(
     }
 }
 
-// The choice where some clause is open, whichever variables a model covers.
+// The choice where some clause is open, whichever variables are to be assigned.
 fn choose_open(f: Formula, a: Assignment) -> Choice
     requires { ⌜ Small f × (survey-of (node f a) .any ≡ true) ⌝ }
     ensures { λ r. ⌜ ((scope : ℕ) → r ≡ mask-choice f scope a) ⌝ }
@@ -489,7 +489,7 @@ pub fn choose_free(scope: u64, a: Assignment) -> Choice
     both_open(masks::lowest(masks::minus(scope, a.trues | a.falses)), 0)
 }
 
-// The choice at the node of the assignment; `scope` has the variables that a model covers.
+// The choice at the node of the assignment; `scope` has the variables to assign.
 pub fn choose(f: Formula, scope: u64, a: Assignment) -> Choice
     requires { ⌜ FormulaFits f ⌝ }
     ensures { λ r. ⌜ r ≡ mask-choice f scope a ⌝ }

@@ -1,4 +1,4 @@
-// The lines that the program prints.
+// The lines that the program `cases` prints.
 use crate::answers::Answer;
 use crate::corpus::wide;
 use crate::totals::Totals;

@@ -151,7 +151,7 @@ module _ (s : List ℕ) (n : ℕ) (cs : List (List Literal)) (encodes : Encodes 
   pub within-budget : (bs : List ℕ) (b : ℕ) → walk-call s (last-checkpoint s start bs) b .steps ≤ b
   within-budget bs b = laws.calls-within s T P walks bs b
 
-  -- S8.1: from the checkpoint of the end every call says ended, with no step made
+  -- S8.2: from the checkpoint of the end every call says ended, with no step made
   pub from-end : (b : ℕ) → walk-call s (checkpoint-of 4 []) b ≡ answered ended 0 0 (checkpoint-of 4 [])
   from-end b = laws.call-over s T P walks b
 

@@ -1,4 +1,4 @@
--- `norwythai_check`: nothing is written, or the row of the answer.
+-- `norwythai_check`: nothing is written, or the results of the answer.
 use mathlib.Core.Path.{_∙_}
 use borrow.Author.Needs.{needs}
 use Rattle.capi.proofs.CallLaws.{check-unwritten, check-written}
@@ -13,11 +13,11 @@ returns c =
 check-requires : tie.Need-check-requires
 check-requires c κs = search needs
 
-check-row-requires : tie.Need-check-row-requires
-check-row-requires c κs = search needs
+check-results-requires : tie.Need-check-results-requires
+check-results-requires c κs = search needs
 
-put-row-requires : tie.Need-put-row-requires
-put-row-requires c κs = search needs
+put-results-requires : tie.Need-put-results-requires
+put-results-requires c κs = search needs
 
 same-length : tie.Need-same-length
 same-length c = search needs
@@ -28,9 +28,9 @@ returns-2 c =
     let a = e .before .before .before .args in
     check-written (a .input .now) (a .results .now) (a .assignment) _ _ (e .if1 .left)
     (c .before .before .before .before .before .check .ensures)
-    (c .before .before .put-row .ensures ∙ c .before .before .before .before .check-row .ensures)
+    (c .before .before .put-results .ensures ∙ c .before .before .before .before .check-results .ensures)
 
 pub norwythai-check-spec : {M : Type 1} → statement M
 norwythai-check-spec =
     tie.close
-    (tie.spec returns check-requires check-row-requires put-row-requires same-length returns-2)
+    (tie.spec returns check-requires check-results-requires put-results-requires same-length returns-2)

@@ -1,4 +1,4 @@
--- `norwythai_judge`: nothing is written, or the row of the answer beside the buffer.
+-- `norwythai_judge`: nothing is written, or the results of the answer beside the buffer.
 use mathlib.Core.Path.{_∙_}
 use borrow.Author.Needs.{needs}
 use Rattle.capi.proofs.CallLaws.{judge-unwritten, judge-written}
@@ -13,11 +13,11 @@ returns c =
 find-matching-requires : tie.Need-find-matching-requires
 find-matching-requires c κs = search needs
 
-judge-row-requires : tie.Need-judge-row-requires
-judge-row-requires c κs = search needs
+judge-results-requires : tie.Need-judge-results-requires
+judge-results-requires c κs = search needs
 
-put-row-requires : tie.Need-put-row-requires
-put-row-requires c κs = search needs
+put-results-requires : tie.Need-put-results-requires
+put-results-requires c κs = search needs
 
 same-length : tie.Need-same-length
 same-length c = search needs
@@ -33,7 +33,7 @@ returns-2 c =
     judge-written (a .input .now) (a .buffer .now) (a .results .now) _ _ _ (e .if1 .left)
     (m .find-matching .ensures .0)
     (m .find-matching .ensures .1)
-    (c .before .before .put-row .ensures ∙ c .before .before .before .before .judge-row .ensures)
+    (c .before .before .put-results .ensures ∙ c .before .before .before .before .judge-results .ensures)
 
 pub norwythai-judge-spec : {M : Type 1} → statement M
 norwythai-judge-spec =
@@ -41,8 +41,8 @@ norwythai-judge-spec =
     (tie.spec
     returns
     find-matching-requires
-    judge-row-requires
-    put-row-requires
+    judge-results-requires
+    put-results-requires
     same-length
     same-length-2
     returns-2)

@@ -1,4 +1,4 @@
--- `norwythai_list`: nothing is written, or the models, the row of the last result and its checkpoint.
+-- `norwythai_list`: nothing is written, or the models, the results of the last call and its checkpoint.
 use mathlib.Core.Path.{_∙_}
 use borrow.Author.Needs.{needs}
 use Rattle.capi.proofs.CallLaws.{list-unwritten, list-unwritten-2, list-written}
@@ -24,11 +24,11 @@ list-requires c κs = search needs
 put-checkpoint-requires : tie.Need-put-checkpoint-requires
 put-checkpoint-requires c κs = search needs
 
-list-row-requires : tie.Need-list-row-requires
-list-row-requires c κs = search needs
+list-results-requires : tie.Need-list-results-requires
+list-results-requires c κs = search needs
 
-put-row-requires : tie.Need-put-row-requires
-put-row-requires c κs = search needs
+put-results-requires : tie.Need-put-results-requires
+put-results-requires c κs = search needs
 
 same-length : tie.Need-same-length
 same-length c = search needs
@@ -51,7 +51,7 @@ returns-3 c =
     (m .before .before .checkpoint-in .ensures)
     (m .list .ensures)
     (p .put-checkpoint .ensures)
-    (c .before .before .put-row .ensures ∙ c .before .before .before .before .list-row .ensures)
+    (c .before .before .put-results .ensures ∙ c .before .before .before .before .list-results .ensures)
 
 pub norwythai-list-spec : {M : Type 1} → statement M
 norwythai-list-spec =
@@ -62,8 +62,8 @@ norwythai-list-spec =
     checkpoint-in-requires
     list-requires
     put-checkpoint-requires
-    list-row-requires
-    put-row-requires
+    list-results-requires
+    put-results-requires
     same-length
     same-length-2
     same-length-3

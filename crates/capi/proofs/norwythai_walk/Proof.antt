@@ -1,4 +1,4 @@
--- `norwythai_walk`: nothing is written, or the row of the result and its checkpoint.
+-- `norwythai_walk`: nothing is written, or the results of the call and its checkpoint.
 use mathlib.Core.Path.{_∙_}
 use borrow.Author.Needs.{needs}
 use Rattle.capi.proofs.CallLaws.{walk-unwritten, walk-unwritten-2, walk-written}
@@ -24,11 +24,11 @@ walk-requires c κs = search needs
 put-checkpoint-requires : tie.Need-put-checkpoint-requires
 put-checkpoint-requires c κs = search needs
 
-walk-row-requires : tie.Need-walk-row-requires
-walk-row-requires c κs = search needs
+walk-results-requires : tie.Need-walk-results-requires
+walk-results-requires c κs = search needs
 
-put-row-requires : tie.Need-put-row-requires
-put-row-requires c κs = search needs
+put-results-requires : tie.Need-put-results-requires
+put-results-requires c κs = search needs
 
 same-length : tie.Need-same-length
 same-length c = search needs
@@ -48,7 +48,7 @@ returns-3 c =
     (w .before .checkpoint-in .ensures)
     (w .walk .ensures)
     (p .put-checkpoint .ensures)
-    (c .before .before .put-row .ensures ∙ c .before .before .before .before .walk-row .ensures)
+    (c .before .before .put-results .ensures ∙ c .before .before .before .before .walk-results .ensures)
 
 pub norwythai-walk-spec : {M : Type 1} → statement M
 norwythai-walk-spec =
@@ -59,8 +59,8 @@ norwythai-walk-spec =
     checkpoint-in-requires
     walk-requires
     put-checkpoint-requires
-    walk-row-requires
-    put-row-requires
+    walk-results-requires
+    put-results-requires
     same-length
     same-length-2
     returns-3)

@@ -195,7 +195,7 @@ mod tests {
     use super::*;
     use crate::compare::compare_line;
 
-    /// The specification's example, S8.2: clauses (1, 2) and (not 1, not 2).
+    /// The specification's example, S12.3: clauses (1, 2) and (not 1, not 2).
     const EXAMPLE: &[u8] = &[1, 2, 2, 1, 2, 2, 4, 3, 1, 3, 2, 4, 5];
 
     #[test]

@@ -1,4 +1,4 @@
--- Laws of the results: what a row has for each case of an answer.
+-- Laws of the results: what they are for each case of an answer.
 use Prim.Native.Nat.{ℕ}
 use mathlib.Core.Bool.{cond}
 use mathlib.Core.Path.{_≡_, refl}
@@ -10,7 +10,7 @@ use Rattle.walk.specs.Checkpoints.{Checkpoint}
 use Rattle.enumeration.specs.declared.calls.Answer.{Answer}
 use Rattle.enumeration.specs.declared.calls.Answer.the-variants.{Model, Spent, Ended, Refused}
 use Rattle.enumeration.specs.Values.{answer-values}
-use Rattle.capi.specs.Interface.{walk-row, list-row}
+use Rattle.capi.specs.Interface.{walk-results, list-results}
 
 -- a refusal's number is never 0
 pub refused-code : (r : Refusal) → _≡_ {A = ℕ} (cond (eqb (table-row r .number) 0) 0 3) 3
@@ -27,8 +27,8 @@ refused-code (Unmatched p) = refl
 refused-code (ForeignCheckpoint p) = refl
 refused-code (StrayVariable p) = refl
 
--- the row of a list is that of a walk, with the number of models in place of the steps
-pub counted : (a : Answer) (n : ℕ) (c : Checkpoint) → walk-row (answer-values a n 0 c) ≡ list-row n (answer-values a 0 0 c)
+-- the results of a list are those of a walk, with the number of models in place of the steps
+pub counted : (a : Answer) (n : ℕ) (c : Checkpoint) → walk-results (answer-values a n 0 c) ≡ list-results n (answer-values a 0 0 c)
 counted (Model m) n c = refl
 counted Spent n c = refl
 counted Ended n c = refl

@@ -1,9 +1,9 @@
--- `put_row`: six stores into six places.
+-- `put_results`: six stores into six places.
 use lib.ListN.{length-set}
 use borrow.Author.Needs.{needs}
 use Rattle.capi.proofs.SliceLaws.{overwritten}
-use Rattle.capi.proofs.put_row.Statement.{statement}
-use Rattle.capi.proofs.put_row.Tie as tie
+use Rattle.capi.proofs.put_results.Statement.{statement}
+use Rattle.capi.proofs.put_results.Tie as tie
 
 slice-write-results : tie.Need-slice-write-results
 slice-write-results c = search needs
@@ -29,8 +29,8 @@ same-length c = search needs
 returns : tie.Need-returns
 returns c = overwritten (c .args .results .now) _ _ _ _ _ _ (c .pre)
 
-pub put-row-spec : {M : Type 1} → statement M
-put-row-spec =
+pub put-results-spec : {M : Type 1} → statement M
+put-results-spec =
     tie.close
     (tie.spec
     slice-write-results

@@ -1,7 +1,0 @@
--- The six numbers of a row, in the order in which they are written.
-use Prim.Native.Nat.{ℕ}
-use mathlib.Core.List.{List, [], _∷_}
-use Rattle.capi.specs.declared.Row.{Row}
-
-abbrev pub numbers : Row → List ℕ
-numbers r = r .answer ∷ r .model ∷ r .number ∷ r .place ∷ r .steps ∷ r .expansions ∷ []
