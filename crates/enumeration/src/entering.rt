@@ -16,7 +16,7 @@ use formula::Formula;
 use formula::Outcome;
 use formula::Refusal;
 
-// Whether a call may begin, and the state to go on from.
+// Whether a call may go on, and the state to go on from; beside a refusal any state.
 pub struct Entered {
     pub outcome: Outcome,
     pub state: State,

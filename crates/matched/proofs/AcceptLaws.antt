@@ -5,10 +5,10 @@ use mathlib.Core.List.{List, [], _∷_, map}
 use mathlib.Core.Path.{_≡_, refl, sym, ap, _∙_}
 use native.Mathlib.Numerals.{add-one}
 use native.Mathlib.Omega.{arith}
-use lib.ListN.{length, take, getD, length-map}
+use lib.ListN.{length, take, getD, replicate, length-map}
 use Rattle.limits.specs.Limits.{max-clauses}
 use Rattle.lists.specs.Padded.{padded}
-use Rattle.lists.proofs.PaddedLaws.{getD-padded, take-padded}
+use Rattle.lists.proofs.PaddedLaws.{padded-none, getD-padded, take-padded}
 use Rattle.masks.proofs.BitLaws.{bit-below}
 use Rattle.formula.specs.declared.Formula.{Formula}
 use Rattle.formula.specs.declared.Outcome.the-variants as outcomes
@@ -67,6 +67,10 @@ module _ (l : List ℕ) where
   table-small : ((i : ℕ) → i < length l → getD l i 0 < 255) → (i : ℕ) → i < length l → getD (padded max-clauses 0 l) i 0 < 255
   table-small h i w = rw (getD-padded max-clauses 0 l i 0 w) (h i w)
 
+  -- zeros follow them
+  table-rest : padded max-clauses 0 l ≡ padded max-clauses 0 (take (length l) (padded max-clauses 0 l))
+  table-rest = ap (padded max-clauses 0) (sym (take-padded max-clauses 0 l))
+
 -- a list with nothing added
 raised-none : (l : List ℕ) → raised 0 l ≡ l
 raised-none [] = refl
@@ -105,6 +109,7 @@ module _ (n : ℕ) (cs : List (List Literal)) (z : Sized n cs) (f : Formula) (q 
                 let h : i < length (map variables cs) = rw (← (w .one-each)) l in
                 omega (arith, bit-below 64 (getD vs i 0) (getD (map variables cs) i 0) (masks-words z i h) (w .named i h))));
             bytes = rw (k, t) (table-raised vs 1 ∙ raised-one vs);
+            rest = rw (k, t) (table-rest vs);
           }
       at (failure taken x) p u = absurd (false≢true (sym (ap (λ (y : Matching). y .complete) u) ∙ d))
 
@@ -127,6 +132,7 @@ module _ (n : ℕ) (cs : List (List Literal)) (z : Sized n cs) (f : Formula) (q 
             length = k;
             small = rw (k, t) (table-small ms (λ i l. omega (arith, marks-le (length cs) taken i (rw (length-marks (length cs) taken) at l))));
             bytes = rw (k, t) (table-raised ms 0 ∙ raised-none ms);
+            rest = rw (k, t) (table-rest ms);
           }
 
 -- ---- an input
@@ -139,6 +145,13 @@ module _ (s : List ℕ) where
   read-represents n cs e f r w = rw e w
 
   -- one that was refused has no bytes
-  pub refused-represents : (e : Refusal) → decode s ≡ refused e → (f : Formula) (t : List ℕ)
-      → Represents (acceptance s) f (record { outcome = outcomes.Refused e; length = 0; table = t })
-  refused-represents e q f t = rw (unreadable-declined s e q) (record { outcome = refl; formula = tt; length = refl; small = λ i l. absurd (omega arith); bytes = refl })
+  pub refused-represents : (e : Refusal) → decode s ≡ refused e → (f : Formula)
+      → Represents (acceptance s) f (record { outcome = outcomes.Refused e; length = 0; table = replicate max-clauses 0 })
+  refused-represents e q f = rw (unreadable-declined s e q) (record {
+    outcome = refl;
+    formula = tt;
+    length = refl;
+    small = λ i l. absurd (omega arith);
+    bytes = refl;
+    rest = sym (padded-none max-clauses 0);
+  })

@@ -3,6 +3,8 @@ use Prim.Native.Nat.{ℕ, _+_, _<_}
 use mathlib.Core.List.{List, map}
 use mathlib.Core.Path.{_≡_}
 use lib.ListN.{length, take, getD}
+use Rattle.limits.specs.Limits.{max-clauses}
+use Rattle.lists.specs.Padded.{padded}
 use Rattle.formula.specs.declared.Formula.{Formula}
 use Rattle.formula.specs.declared.Outcome.{Outcome}
 use Rattle.formula.specs.declared.Outcome.the-variants.{Accepted, Refused}
@@ -41,13 +43,14 @@ abbrev pub added : Outcome → ℕ
 added Accepted = 1
 added (Refused r) = 0
 
--- w holds what comes of an input beside its formula f: the table's first bytes, with what is added, are the row
+-- w holds what comes of an input beside its formula f: the table's first bytes, with what is added, are the row, and zeros follow
 pub record Represents (a : Acceptance) (f : Formula) (w : Row) : Type 0 where
   pub outcome : w .outcome ≡ outcome-of a
   pub formula : HasClauses a f
   pub length : w .length ≡ length (row-of a)
   pub small : (i : ℕ) → i < w .length → getD (w .table) i 0 < 255
   pub bytes : raised (added (w .outcome)) (take (w .length) (w .table)) ≡ row-of a
+  pub rest : w .table ≡ padded max-clauses 0 (take (w .length) (w .table))
 
 -- the input is accepted, and f is its formula in masks
 pub record Takes (s : List ℕ) (f : Formula) : Type 0 where

@@ -25,7 +25,7 @@ use matching::Matching;
 
 // What comes of an input (`acceptance`), beside its formula: whether it is accepted, and the first `length` bytes of the table: the
 // variable of each clause, from 0; or, where it can't be matched, 1 for a marked clause and 0 for another. An input that can't be read
-// has no bytes.
+// has no bytes. Zeros follow.
 pub struct Row {
     pub outcome: Outcome,
     pub length: usize,

@@ -15,7 +15,7 @@ match-row-requires : tie.Need-match-row-requires
 match-row-requires c κs = decoded-accepted _ _ (c .before .before .pre .1) (c .enum-told .given .1) .fits
 
 returns : tie.Need-returns
-returns c s e = refused-represents s _ (decoded-refused s _ _ e (c .before .outcome .given .1)) _ _
+returns c s e = refused-represents s _ (decoded-refused s _ _ e (c .before .outcome .given .1)) _
 
 returns-2 : tie.Need-returns-2
 returns-2 c s e =
