@@ -7,7 +7,7 @@ use mathlib.Core.Path.{_≡_, refl, sym, ap, _∙_}
 use lib.ListN.{length}
 use Rattle.limits.specs.Limits.{max-variables}
 use Rattle.formula.specs.declared.Refusal.{Refusal}
-use Rattle.formula.specs.Format.{Literal, formula-bytes, max-bytes, Encodes}
+use Rattle.formula.specs.Format.{Literal, formula-bytes, Sized, max-bytes, Encodes}
 use Rattle.formula.specs.InnerDecode.{decode}
 use Rattle.formula.specs.Decoding.{readable, refused}
 use Rattle.formula.specs.Refusals.{table-row}
@@ -28,6 +28,10 @@ accepted-only s n cs e = rw e at (decode-means s)
 -- S10, demand 1: every encoded formula is accepted, as the formula that it encodes
 pub accepted-all : (s : List ℕ) (n : ℕ) (cs : List (List Literal)) → Encodes s n cs → decode s ≡ readable n cs
 accepted-all s n cs = decode-gives s (readable n cs)
+
+-- S2.3: what is read keeps to the limits: 1 to 48 variables, at most 96 clauses over them, and in each of them no variable twice
+pub accepted-fits : (s : List ℕ) (n : ℕ) (cs : List (List Literal)) → decode s ≡ readable n cs → Sized n cs
+accepted-fits s n cs e = accepted-only s n cs e .sized
 
 -- S10, demand 1: a refusal is given only where its row of the table (S3.1) applies and no earlier check fails (S3.2)
 pub refused-only : (s : List ℕ) (r : Refusal) → decode s ≡ refused r → Refuses s r

@@ -1,29 +1,19 @@
 -- The tests of check decide what a model is.
 use Prim.Native.Nat.{ℕ, _+_, _-_, _/_, _^_, _≤_}
-use mathlib.Core.Bool.{Bool, true, false, not, _||_, Bool·beq, true≢false, or-true}
+use mathlib.Core.Bool.{Bool, true, false, not, _||_, true≢false, or-true}
 use mathlib.Core.List.{List, [], _∷_, List·Memᴰ, List·Memᴰ·head, List·Memᴰ·tail, List·Memᴰ·cases-cons, List·Memᴰ·not-nil}
 use mathlib.Core.Logic.{_⊎_, inl, inr}
 use mathlib.Core.Path.{_≡_, refl, sym, ap, _∙_, subst}
 use native.Mathlib.Omega.{arith}
 use lib.Dec.{eqb}
 use borrow.Author.Tests.{eqb-false, not-true, ne-eqb}
-use Rattle.lists.proofs.TestLaws.{and-left, and-right, and-both, or-cases}
+use Rattle.lists.proofs.TestLaws.{and-left, and-right, and-both, or-cases, signs-equal, sign-itself}
 use Rattle.masks.specs.Mask.{bit}
 use Rattle.masks.proofs.BitLaws.{bit-shift}
 use Rattle.masks.proofs.MembersLaws.{some-member, member-some}
 use Rattle.formula.specs.Format.{Literal}
 use Rattle.formula.specs.Models.{Model}
 use Rattle.formula.specs.InnerModels.{stands, holds, satisfied, stray}
-
-same-of : (b c : Bool) → Bool·beq b c ≡ true → b ≡ c
-same-of true true e = refl
-same-of true false e = sym e
-same-of false true e = e
-same-of false false e = refl
-
-of-same : (b c : Bool) → b ≡ c → Bool·beq b c ≡ true
-of-same b true e = rw e
-of-same b false e = rw e
 
 -- a literal that stands
 abbrev Standing : ℕ → List Literal → Type 0
@@ -35,7 +25,7 @@ holds-some a [] e = absurd (true≢false (sym e))
 holds-some a (l ∷ c) e = go (or-cases (stands a l) (holds a c) e) (holds-some a c)
   where
     go : (stands a l ≡ true) ⊎ (holds a c ≡ true) → (holds a c ≡ true → Standing a c) → Standing a (l ∷ c)
-    go (inl h) ih = (l, List·Memᴰ·head refl, same-of (bit a (l .variable)) (l .positive) h)
+    go (inl h) ih = (l, List·Memᴰ·head refl, signs-equal (bit a (l .variable)) (l .positive) h)
     go (inr h) ih = let w = ih h in (w .0, List·Memᴰ·tail (w .1), w .2)
 
 some-holds : (a : ℕ) (c : List Literal) → Standing a c → holds a c ≡ true
@@ -44,7 +34,7 @@ some-holds a [] w = absurd (List·Memᴰ·not-nil (w .1))
 some-holds a (l ∷ c) w = go (List·Memᴰ·cases-cons (w .1)) (some-holds a c)
   where
     go : (w .0 ≡ l) ⊎ List·Memᴰ (w .0) c → (Standing a c → holds a c ≡ true) → stands a l || holds a c ≡ true
-    go (inl e) ih = rw (of-same (bit a (l .variable)) (l .positive) (subst (λ (k : Literal). bit a (k .variable) ≡ k .positive) e (w .2)))
+    go (inl e) ih = let q : bit a (l .variable) ≡ l .positive = subst (λ (k : Literal). bit a (k .variable) ≡ k .positive) e (w .2) in rw (q, sign-itself (l .positive))
     go (inr m) ih = rw (ih (w .0, m, w .2)) (or-true (stands a l))
 
 -- every clause has a literal that stands

@@ -14,7 +14,7 @@ use Rattle.formula.specs.Decoding.{Decoding, readable, refused}
 use Rattle.formula.specs.Format.{Literal, Sized}
 use Rattle.formula.specs.Masked.{variables}
 use Rattle.formula.specs.Refusals.{table-row}
-use Rattle.formula.proofs.Demands.{accepted-only, numbers, accepted-all}
+use Rattle.formula.proofs.Demands.{accepted-only, accepted-all, accepted-fits, numbers}
 use Rattle.matching.specs.Sets.{union}
 use Rattle.matching.specs.Search.{Outcome, success, failure, outcome, marks}
 use Rattle.matching.proofs.MatchedLaws.{length-marks, marks-le}
@@ -45,17 +45,14 @@ pub data Comes (s : List ℕ) : Acceptance → Type 0 where
   unreadable : (r : Refusal) → decode s ≡ refused r → Comes s (declined r [])
 
 module _ (s : List ℕ) where
-  sized-of : {n : ℕ} {cs : List (List Literal)} → decode s ≡ readable n cs → Sized n cs
-  sized-of {n} {cs} reads = accepted-only s n cs reads .sized
-
   pub comes : Comes s (acceptance s)
   unfolding acceptance
   comes = by (decode s) refl
     where
       at : (n : ℕ) (cs : List (List Literal)) → decode s ≡ readable n cs → (o : Outcome) → outcome (map variables cs) ≡ o → Comes s (by-outcome n cs o)
-      at n cs reads (success vs e) p = paired n cs vs reads (matches-pairs cs vs (success-matches (map variables cs) vs e (masks-words (sized-of reads)) p))
+      at n cs reads (success vs e) p = paired n cs vs reads (matches-pairs cs vs (success-matches (map variables cs) vs e (masks-words (accepted-fits s n cs reads)) p))
       at n cs reads (failure taken e) p =
-          let w = masks-words (sized-of reads) in
+          let w = masks-words (accepted-fits s n cs reads) in
           let m : length (map variables cs) ≡ length cs = length-map cs variables in
           let ms = marks (length cs) taken in
           let count : length (marked ms cs) ≡ length taken = rw m at (failure-marked (map variables cs) taken e w p) in
@@ -77,7 +74,7 @@ module _ (s : List ℕ) where
           let b : ds ≡ cs = cc in
           let c : map suc vs ≡ row = cc in
           rw (← a, ← b, ← c)
-          (record { reads = reads; sized = sized-of reads; vs = vs; pairs = w; from-1 = refl; sound = matched-sound k ds (vs, pairs-matches ds vs w) })
+          (record { reads = reads; sized = accepted-fits s k ds reads; vs = vs; pairs = w; from-1 = refl; sound = matched-sound k ds (vs, pairs-matches ds vs w) })
       by (unpaired k ds ms reads v none) q = let z : _≡_ {A = ℕ} 0 1 = cc in absurd (omega arith)
       by (unreadable r e) q = let z : _≡_ {A = ℕ} 0 1 = cc in absurd (omega arith)
 
@@ -128,6 +125,6 @@ module _ (s : List ℕ) where
   row-few = by comes
     where
       by : {a : Acceptance} → Comes s a → length (row-of a) ≤ max-clauses
-      by (paired n cs vs reads w) = omega (arith, length-map vs suc, w .one-each, sized-of reads .few)
-      by (unpaired n cs ms reads v none) = omega (arith, v .one-each, sized-of reads .few)
+      by (paired n cs vs reads w) = omega (arith, length-map vs suc, w .one-each, accepted-fits s n cs reads .few)
+      by (unpaired n cs ms reads v none) = omega (arith, v .one-each, accepted-fits s n cs reads .few)
       by (unreadable r e) = omega arith

@@ -20,7 +20,7 @@ use Rattle.formula.specs.Masked.{variables}
 use Rattle.formula.specs.Refusals.{table-row}
 use Rattle.formula.specs.Table.{Beginning, written, Given, no-kind, kind-unknown, kind-misplaced, no-body, count-bad, variable-unknown, variable-repeated, clause-extra, byte-extra}
 use Rattle.formula.proofs.ClauseLaws.{variables-lt}
-use Rattle.formula.proofs.Demands.{accepted-only, accepted-all, refused-only, numbers}
+use Rattle.formula.proofs.Demands.{accepted-only, accepted-all, accepted-fits, refused-only, numbers}
 use Rattle.matching.specs.Sets.{union}
 use Rattle.matching.proofs.MatchedLaws.{selected-few}
 use Rattle.matching.proofs.Theorems.{pigeonhole}
@@ -161,7 +161,7 @@ printed-length s h = go (acceptance s) refl
         by (paired n cs vs reads w) q = let z : _≡_ {A = ℕ} 0 1 = cc in absurd (omega arith)
         by (unpaired n cs ms reads v none) q =
             let e : Unmatched (length (marked ms cs)) ≡ r = cc in
-            let f = accepted-only s n cs reads .sized .few in
+            let f = accepted-fits s n cs reads .few in
             let k = selected-few ms (map variables cs) in
             let l = refused-line-length 10 (length (marked ms cs)) (omega arith) (omega (arith, length-map cs variables)) in
             rw (← e) (omega arith)

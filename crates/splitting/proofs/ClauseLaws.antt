@@ -6,7 +6,7 @@ use mathlib.Core.List.{List, [], _∷_, _++_, map, List·Memᴰ, List·Memᴰ·h
 use mathlib.Core.Logic.{⊎-elim}
 use lib.Dec.{eqb}
 use borrow.Author.Tests.{eqb-true, eq-eqb, ne-eqb}
-use Rattle.lists.proofs.TestLaws.{and-left, and-right, and-both, or-cases, bool-cases, bool-clash, or-left, or-right}
+use Rattle.lists.proofs.TestLaws.{and-left, and-right, and-both, or-cases, bool-cases, bool-clash, or-left, or-right, signs-equal, sign-itself}
 use Rattle.lists.proofs.SublistLaws.{Within}
 use Rattle.formula.specs.Format.{Literal, names, names-as}
 use Rattle.formula.proofs.ClauseLaws.{named-as}
@@ -23,13 +23,9 @@ literal-names (k ∷ c) l m =
     ⊎-elim
     (λ (e : l ≡ k).
     or-left (eqb (k .variable) (l .variable) && Bool·beq (k .positive) (l .positive)) (names-as c (l .variable) (l .positive))
-    (rw e (and-both (eqb (k .variable) (k .variable)) (Bool·beq (k .positive) (k .positive)) (eq-eqb (k .variable) (k .variable) refl) (same (k .positive)))))
+    (rw e (and-both (eqb (k .variable) (k .variable)) (Bool·beq (k .positive) (k .positive)) (eq-eqb (k .variable) (k .variable) refl) (sign-itself (k .positive)))))
     (λ more. or-right (eqb (k .variable) (l .variable) && Bool·beq (k .positive) (l .positive)) (names-as c (l .variable) (l .positive)) (literal-names c l more))
     (List·Memᴰ·cases-cons m)
-  where
-    same : (b : Bool) → Bool·beq b b ≡ true
-    same true = refl
-    same false = refl
 
 -- and a named variable has a literal
 pub names-literal : (c : List Literal) (v : ℕ) (s : Bool) → names-as c v s ≡ true → (l : Literal) × List·Memᴰ l c × (l .variable ≡ v) × (l .positive ≡ s)
@@ -41,16 +37,10 @@ names-literal (k ∷ c) v s t =
       k,
       List·Memᴰ·head refl,
       eqb-true (k .variable) v (and-left (eqb (k .variable) v) (Bool·beq (k .positive) s) h),
-      same (k .positive) s (and-right (eqb (k .variable) v) (Bool·beq (k .positive) s) h),
+      signs-equal (k .positive) s (and-right (eqb (k .variable) v) (Bool·beq (k .positive) s) h),
     ))
     (λ h. let w = names-literal c v s h in (w .0, List·Memᴰ·tail (w .1), w .2, w .3))
     (or-cases (eqb (k .variable) v && Bool·beq (k .positive) s) (names-as c v s) t)
-  where
-    same : (a b : Bool) → Bool·beq a b ≡ true → a ≡ b
-    same true true e = refl
-    same true false e = bool-clash e refl
-    same false true e = bool-clash e refl
-    same false false e = refl
 
 -- what is named is named one way
 pub names-some : (c : List Literal) (v : ℕ) → names c v ≡ true → (s : Bool) × (names-as c v s ≡ true)
