@@ -84,11 +84,11 @@ pub fn decode(input: &[u8]) -> Result<Formula, Refusal> {
     loop {
         match kind_at(input, at)? {
             2 => {
-                open.positive |= decode_literal(input, at, formula.variables, open)?;
+                open.positive |= decode_literal(input, at, formula.variables, open.negative)?;
                 at += 2;
             }
             3 => {
-                open.negative |= decode_literal(input, at, formula.variables, open)?;
+                open.negative |= decode_literal(input, at, formula.variables, open.positive)?;
                 at += 2;
             }
             4 if formula.count == MAX_CLAUSES => return Err(Refusal::new(8, at)),
@@ -139,14 +139,20 @@ fn decode_variables(input: &[u8]) -> Result<usize, Refusal> {
     }
 }
 
-/// The variable, as a mask, of the literal at an offset, which the open clause must not name yet.
-fn decode_literal(input: &[u8], at: usize, variables: usize, open: Clause) -> Result<u64, Refusal> {
+/// The variable, as a mask, of the literal at an offset: refused by 7 if the open clause names it the other way. To a clause that
+/// names it the same way it adds nothing.
+fn decode_literal(
+    input: &[u8],
+    at: usize,
+    variables: usize,
+    other_way: u64,
+) -> Result<u64, Refusal> {
     let number = usize::from(body_at(input, at)?);
     if number == 0 || number > variables {
         return Err(Refusal::new(6, at));
     }
     let variable = bit(number - 1);
-    if open.named() & variable != 0 {
+    if other_way & variable != 0 {
         return Err(Refusal::new(7, at));
     }
     Ok(variable)

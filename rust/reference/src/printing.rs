@@ -4,12 +4,15 @@ use crate::formula::{decode, Refusal};
 use crate::walking::{Answer, Progress, Walker, LIST_BUDGET};
 use std::fmt::Write;
 
+/// The program that prints a walk takes this many bytes as the whole input, whatever follows.
+const MOST_INPUT: usize = 16_384;
+
 /// After this many models the printed walk says `more`.
 const MOST_MODELS: usize = 1000;
 
-/// What the program that prints a walk writes for an input.
+/// What the program that prints a walk writes for its standard input (S12).
 pub fn print(input: &[u8]) -> String {
-    match print_models(input) {
+    match print_models(&input[..input.len().min(MOST_INPUT)]) {
         Ok(text) => text,
         Err(refusal) => format!("refused {} {}\n", refusal.number, refusal.place),
     }

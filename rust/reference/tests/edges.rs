@@ -65,6 +65,84 @@ fn refusals_of_reading() {
 }
 
 #[test]
+fn a_literal_counts_once() {
+    // Clauses as they are written, and the same without repeats.
+    let cases: [(&[i8], &[i8]); 5] = [
+        (&[1, 1], &[1]),
+        (&[-1, -1], &[-1]),
+        (&[1, 2, 1], &[1, 2]),
+        (&[-2, 1, -2, 1, 1], &[-2, 1]),
+        (&[-1; 50], &[-1]),
+    ];
+    for (written, counted) in cases {
+        let [written, counted] = [written, counted].map(|clause| encode(2, &[clause.to_vec()]));
+        assert_eq!(
+            decode(&written).unwrap().clauses(),
+            decode(&counted).unwrap().clauses()
+        );
+        assert_eq!(print(&written), print(&counted));
+    }
+    // In two clauses it counts in both.
+    assert_eq!(
+        judge(&encode(1, &[vec![1, 1], vec![1]]), &mut [0; 96]),
+        Err(refusal(10, 2))
+    );
+}
+
+#[test]
+fn refusals_among_repeats() {
+    let behind_96 = |end: &[u8]| [&[1, 1], &[4; 96][..], end].concat();
+    let cases: [(&[u8], Refusal); 11] = [
+        // both ways: at the record that has the other sign
+        (&[1, 2, 2, 1, 2, 1, 3, 1, 4, 5], refusal(7, 6)),
+        (&[1, 2, 3, 1, 3, 1, 2, 2, 2, 1, 2, 1], refusal(7, 8)),
+        // a number that no variable has
+        (&[1, 2, 2, 1, 2, 1, 2, 0], refusal(6, 6)),
+        (&[1, 2, 3, 3, 3, 3, 4, 5], refusal(6, 2)),
+        // the end within a clause
+        (&[1, 1, 2, 1, 2, 1, 5], refusal(4, 6)),
+        // cut behind a repeat and within one
+        (&[1, 1, 2, 1, 2, 1], refusal(2, 6)),
+        (&[1, 1, 2, 1, 2], refusal(2, 5)),
+        // behind 96 clauses
+        (&behind_96(&[2, 1, 2, 1, 4, 5]), refusal(8, 102)),
+        (&behind_96(&[2, 1, 2, 1, 3, 1, 4, 5]), refusal(7, 102)),
+        (&behind_96(&[2, 1, 2, 1, 2, 2, 4, 5]), refusal(6, 102)),
+        (&behind_96(&[2, 1, 2, 1, 5]), refusal(4, 102)),
+    ];
+    for (input, expected) in cases {
+        assert_eq!(decode(input).unwrap_err(), expected, "{input:?}");
+    }
+}
+
+#[test]
+fn an_input_may_have_any_length() {
+    // The most without repeats: 96 clauses that name every variable.
+    let wide: Vec<i8> = (1..=48).collect();
+    let fullest = encode(48, &vec![wide; 96]);
+    assert_eq!(fullest.len(), 9315);
+    assert!(decode(&fullest).is_ok());
+    for length in [9_316, 16_386, 2_000_000] {
+        let input = encode(2, &[vec![1; (length - 4) / 2]]);
+        assert_eq!(input.len(), length);
+        assert_eq!(check(&input, 1), Ok(true));
+        assert_eq!(check(&input, 2), Ok(false));
+    }
+}
+
+#[test]
+fn print_takes_16_384_bytes_as_the_whole() {
+    let text = "switches 2 rules 1\n10 2 0\n11 2 0\nend 2 0\n";
+    let mut input = encode(2, &[vec![1; 8190]]);
+    assert_eq!(input.len(), 16_384);
+    assert_eq!(print(&input), text);
+    input.push(9);
+    assert_eq!(print(&input), text);
+    assert_eq!(decode(&input).unwrap_err(), refusal(9, 16_384));
+    assert_eq!(print(&encode(2, &[vec![1; 8191]])), "refused 2 16384\n");
+}
+
+#[test]
 fn unmatched_formulas_have_a_violator() {
     let mut buffer = [170; 96];
     assert_eq!(judge(&[1, 1, 4, 5], &mut buffer), Err(refusal(10, 1)));
