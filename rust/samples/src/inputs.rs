@@ -53,7 +53,7 @@ fn ring(variables: usize, length: usize) -> Clauses {
 }
 
 /// Clauses in which each variable stands as often as all others, with both signs and in random places. A clause that would name
-/// one twice is shorter.
+/// one both ways is shorter.
 fn balanced(random: &mut Random, variables: usize, length: usize) -> Clauses {
     let mut literals: Vec<i8> = Vec::new();
     for i in 0..length as i8 {
@@ -64,17 +64,42 @@ fn balanced(random: &mut Random, variables: usize, length: usize) -> Clauses {
     for at in 0..literals.len() {
         let literal = literals.swap_remove(random.below(literals.len()));
         let clause: &mut Vec<i8> = &mut clauses[at / length];
-        if !clause.contains(&literal) && !clause.contains(&-literal) {
+        if !clause.contains(&-literal) {
             clause.push(literal);
         }
     }
     clauses
 }
 
-/// A readable formula, matched or not.
-fn some_formula(random: &mut Random) -> Vec<u8> {
+/// Puts one of the clause's literals into it once more, or with the sign -1 its complement, at a random place.
+fn put_again(random: &mut Random, clause: &mut Vec<i8>, sign: i8) {
+    if !clause.is_empty() {
+        let literal = sign * random.pick(clause);
+        clause.insert(random.below(clause.len() + 1), literal);
+    }
+}
+
+/// Repeats literals within their clauses: none in half of the formulas, few or many in the others. In one of a hundred some
+/// clause has so many that no input without repeats is as long, and half of these inputs are longer than the printing program takes.
+fn repeat_literals(random: &mut Random, clauses: &mut Clauses) {
+    let most = random.pick(&[0, 0, 0, 1, 3, 20]);
+    for clause in clauses.iter_mut() {
+        for _ in 0..random.below(most + 1) {
+            put_again(random, clause, 1);
+        }
+    }
+    if !clauses.is_empty() && random.percent(1) {
+        let long = random.below(clauses.len());
+        for _ in 0..random.between(4_700, 12_000) {
+            put_again(random, &mut clauses[long], 1);
+        }
+    }
+}
+
+/// The number of variables and the clauses of a readable formula, matched or not.
+fn some_parts(random: &mut Random) -> (usize, Clauses) {
     let n = some_variables(random);
-    let clauses = match random.below(12) {
+    let mut clauses = match random.below(12) {
         0 => some_clauses(random, n, n, (3, 3), 50),
         1 => {
             let count = random.between(0, n);
@@ -97,6 +122,13 @@ fn some_formula(random: &mut Random) -> Vec<u8> {
             some_clauses(random, n, count, (0, 4), 50)
         }
     };
+    repeat_literals(random, &mut clauses);
+    (n, clauses)
+}
+
+/// A readable formula, matched or not.
+fn some_formula(random: &mut Random) -> Vec<u8> {
+    let (n, clauses) = some_parts(random);
     encode(n, &clauses)
 }
 
@@ -115,11 +147,23 @@ fn formula_at_a_limit(random: &mut Random) -> Vec<u8> {
     let n = random.pick(&[1, 2, 48]);
     let count = random.pick(&[0, 1, 95, 96, 97, 98]);
     let lengths = random.pick(&[(0, 0), (1, 1), (0, 48), (48, 48)]);
-    let mut input = encode(n, &some_clauses(random, n, count, lengths, 50));
+    let mut clauses = some_clauses(random, n, count, lengths, 50);
+    repeat_literals(random, &mut clauses);
+    let mut input = encode(n, &clauses);
     if random.percent(50) {
         input[1] = random.pick(&[0, 1, 48, 49, 255]);
     }
     input
+}
+
+/// A formula but for a clause that names a variable both ways; one without literals stays as it is.
+fn contradictory(random: &mut Random) -> Vec<u8> {
+    let (n, mut clauses) = some_parts(random);
+    if !clauses.is_empty() {
+        let at = random.below(clauses.len());
+        put_again(random, &mut clauses[at], -1);
+    }
+    encode(n, &clauses)
 }
 
 /// A formula with some damage; it may still be a formula.
@@ -166,8 +210,35 @@ pub fn some_input(random: &mut Random, is_matched: fn(&[u8]) -> bool) -> Vec<u8>
     match random.below(20) {
         0..=11 => some_matched_formula(random, is_matched),
         12 | 13 => some_formula(random),
-        14..=16 => damaged(random),
+        14 => contradictory(random),
+        15 | 16 => damaged(random),
         17 | 18 => formula_at_a_limit(random),
         _ => noise(random),
+    }
+}
+
+#[cfg(test)]
+mod tests {
+    use super::*;
+    use std::collections::BTreeSet;
+
+    #[test]
+    fn many_formulas_repeat_literals_and_some_are_long() {
+        let mut random = Random::new(1);
+        let (mut repeats, mut long) = (0, 0);
+        for _ in 0..1_000 {
+            let (n, clauses) = some_parts(&mut random);
+            let mut once = clauses.clone();
+            for clause in &mut once {
+                let literals: BTreeSet<i8> = clause.iter().copied().collect();
+                assert!(literals.iter().all(|l| !literals.contains(&-l)));
+                *clause = literals.into_iter().collect();
+            }
+            let length = encode(n, &clauses).len();
+            repeats += usize::from(length > encode(n, &once).len());
+            long += usize::from(length > 16_384);
+        }
+        assert!(repeats > 300, "{repeats}");
+        assert!((2..20).contains(&long), "{long}");
     }
 }

@@ -6,8 +6,9 @@ use norwythai_reference::{
 };
 use norwythai_samples::{some_assignment, some_budget, some_checkpoint, some_input, Random};
 
-/// A longer printed walk is written only for one input of so many, since a vector of it takes most of a file of the corpus.
-const LONG_TEXT: usize = 5_000;
+/// A longer input or printed walk takes much of a file of the corpus. Such an input is given to fewer calls, and such a walk is
+/// written only for one input of so many, which is no long one itself.
+const LONG: usize = 5_000;
 const ONE_LONG_OF: usize = 16;
 
 /// A line of an act, with the fields that follow.
@@ -128,8 +129,11 @@ fn is_matched(input: &[u8]) -> bool {
 fn act_lines(from: &str, random: &mut Random, input: &[u8]) -> Vec<String> {
     let mut lines = Vec::new();
     let mut known = Vec::new();
+    let calls = if input.len() > LONG { 1 } else { 4 };
     if is_matched(input) {
-        let budgets: Vec<u32> = (0..random.below(12)).map(|_| some_budget(random)).collect();
+        let budgets: Vec<u32> = (0..random.below(3 * calls))
+            .map(|_| some_budget(random))
+            .collect();
         let (chain, checkpoints) = chain_line(from, input, &budgets);
         lines.push(chain);
         known = checkpoints;
@@ -140,7 +144,7 @@ fn act_lines(from: &str, random: &mut Random, input: &[u8]) -> Vec<String> {
             answer_parts(first.progress.answer).1,
         ));
     }
-    for _ in 0..3 {
+    for _ in 0..calls {
         lines.push(check_line(from, input, some_assignment(random, input)));
     }
     lines.push(judge_line(from, input, 96, random.byte()));
@@ -152,7 +156,7 @@ fn act_lines(from: &str, random: &mut Random, input: &[u8]) -> Vec<String> {
         &start_checkpoint(),
         some_budget(random),
     ));
-    for _ in 0..4 {
+    for _ in 0..calls {
         let given = some_checkpoint(random, &known);
         lines.push(walk_line(from, input, &given, some_budget(random)));
     }
@@ -181,8 +185,8 @@ pub fn generated_vectors(seed: u64, count: usize) -> Vec<String> {
         let input = some_input(&mut random, is_matched);
         lines.extend(act_lines(from, &mut random, &input));
         let text = print(&input);
-        let is_long = text.len() > LONG_TEXT;
-        if !is_long || long_texts % ONE_LONG_OF == 0 {
+        let is_long = text.len() > LONG;
+        if !is_long || (long_texts % ONE_LONG_OF == 0 && input.len() <= LONG) {
             lines.push(printed_line(from, &input, &text));
         }
         long_texts += usize::from(is_long);
