@@ -27,8 +27,9 @@
  *   4     the clause ends                                      none
  *   5     the formula ends; nothing may follow                 none
  *
- * At most 96 clauses. An assignment is a 64-bit number: variable v, counted from 1, is true if bit v - 1 is set. A model is an
- * assignment in which every clause has a literal that is true, and no variable above n is.
+ * At most 96 clauses. A literal that stands in its clause twice or more often counts once, so an input may be of any length. An
+ * assignment is a 64-bit number: variable v, counted from 1, is true if bit v - 1 is set. A model is an assignment in which every clause
+ * has a literal that is true, and no variable above n is.
  *
  * THE RESULTS are NORWYTHAI_RESULTS numbers:
  *
@@ -55,7 +56,7 @@
  *    4      misplaced        a record of this kind may not come here             its kind byte
  *    5      bad kit          n is not 1 to 48                                    its kind byte
  *    6      no such switch   a literal's variable is not 1 to n                  its kind byte
- *    7      named twice      the clause already has the variable                 its kind byte
+ *    7      named twice      the clause already names the variable the other way its kind byte
  *    8      too many rules   a 97th clause ends                                  its kind byte
  *    9      tail             the input goes on behind kind 5                     first byte behind
  *   10      over-ruled       the clauses can't be matched with variables         number of marked clauses

@@ -11,10 +11,7 @@
 
 #include "../../include/norwythai.h"
 
-enum {
-    INPUT_MOST = 16384, /* a readable input has at most 9315 bytes */
-    PAGE_MOST = 1000
-};
+enum { PAGE_MOST = 1000 };
 
 /* What stands where in the results. */
 enum { ANSWER = 0, NUMBER = 2, PLACE = 3, VARIABLES = 4, WRITTEN = 4 };
@@ -30,15 +27,31 @@ static int refused(const uint64_t *results) {
     return EXIT_FAILURE;
 }
 
-/* Reads a whole file of at most INPUT_MOST bytes. Returns 0 if that could be done. */
-static int read_input(const char *name, uint8_t *input, size_t *length) {
+/* Reads a whole file, of any length, into memory that the caller frees. Returns null if that could not be done. An empty file has an
+   address, too: the library takes no null pointer. */
+static uint8_t *read_input(const char *name, size_t *length) {
     FILE *file = fopen(name, "rb");
     if (file == NULL) {
-        return 1;
+        return NULL;
     }
-    *length = fread(input, 1, INPUT_MOST, file);
-    int bad = ferror(file) || (*length == INPUT_MOST && getc(file) != EOF);
-    return fclose(file) != 0 || bad;
+    uint8_t *input = NULL;
+    size_t room = 0;
+    *length = 0;
+    while (*length == room) {
+        uint8_t *larger = realloc(input, 2 * room + 4096);
+        if (larger == NULL) {
+            break;
+        }
+        input = larger;
+        room = 2 * room + 4096;
+        *length += fread(input + *length, 1, room - *length, file);
+    }
+    int bad = *length == room || ferror(file); /* no more room, or a failed read */
+    if (fclose(file) != 0 || bad) {
+        free(input);
+        return NULL;
+    }
+    return input;
 }
 
 /* Prints the first variables of an assignment, variable 1 first. Returns 0 if that could be done. */
@@ -51,20 +64,11 @@ static int print_assignment(uint64_t assignment, uint64_t variables) {
     return putchar('\n') == EOF;
 }
 
-int main(int argc, char **argv) {
-    static uint8_t input[INPUT_MOST];
+/* Prints all models in pages of so many, and gives the program's status. */
+static int print_pages(const uint8_t *input, size_t length, size_t size) {
     static uint64_t models[PAGE_MOST];
     uint8_t buffer[NORWYTHAI_BUFFER], checkpoint[NORWYTHAI_CHECKPOINT];
     uint64_t results[NORWYTHAI_RESULTS];
-    size_t length;
-
-    long size = argc == 3 ? strtol(argv[2], NULL, 10) : 0;
-    if (size < 1 || size > PAGE_MOST) {
-        return fail("usage: pages FILE SIZE, with a size of 1 to 1000");
-    }
-    if (read_input(argv[1], input, &length) != 0) {
-        return fail("the file can't be read, or is too long");
-    }
 
     /* Whether the formula is matched, and how many variables it has. */
     if (norwythai_judge(input, length, buffer, NORWYTHAI_BUFFER, results, NORWYTHAI_RESULTS) != 0) {
@@ -80,8 +84,7 @@ int main(int argc, char **argv) {
     }
     for (unsigned long page = 1;; page++) {
         /* The checkpoint is all that goes from one page to the next: it may be kept, sent and brought back in between. */
-        if (norwythai_list(input, length, checkpoint, NORWYTHAI_CHECKPOINT, models, (size_t)size, results,
-                           NORWYTHAI_RESULTS) != 0) {
+        if (norwythai_list(input, length, checkpoint, NORWYTHAI_CHECKPOINT, models, size, results, NORWYTHAI_RESULTS) != 0) {
             return fail("an array has the wrong length");
         }
         if (results[ANSWER] == NORWYTHAI_REFUSED) {
@@ -100,4 +103,19 @@ int main(int argc, char **argv) {
         }
     }
     return fflush(stdout) == 0 ? EXIT_SUCCESS : fail("the output can't be written");
+}
+
+int main(int argc, char **argv) {
+    long size = argc == 3 ? strtol(argv[2], NULL, 10) : 0;
+    if (size < 1 || size > PAGE_MOST) {
+        return fail("usage: pages FILE SIZE, with a size of 1 to 1000");
+    }
+    size_t length;
+    uint8_t *input = read_input(argv[1], &length);
+    if (input == NULL) {
+        return fail("the file can't be read");
+    }
+    int status = print_pages(input, length, (size_t)size);
+    free(input);
+    return status;
 }

@@ -53,24 +53,31 @@ impl FormulaBuilder {
         })
     }
 
-    /// Adds a clause. If that is an error, nothing is added.
+    /// Adds a clause. A literal that it has more than once counts once, as in reading: it is written once, at its first place. To name
+    /// a variable both ways is an error. If there is an error, nothing is added.
     pub fn clause(&mut self, literals: &[Literal]) -> Result<&mut Self, BuildError> {
         let clause = self.clauses;
         if clause == MAX_CLAUSES {
             return Err(BuildError::TooManyClauses);
         }
-        let mut named = 0_u64;
-        for &Literal { variable, .. } in literals {
+        let mut different: Vec<Literal> = Vec::new();
+        for &literal in literals {
+            let Literal { variable, value } = literal;
             if !(1..=self.variables).contains(&variable) {
                 return Err(BuildError::NoSuchVariable { clause, variable });
             }
-            let bit = 1 << (variable - 1);
-            if named & bit != 0 {
-                return Err(BuildError::RepeatedVariable { clause, variable });
+            let complement = Literal {
+                variable,
+                value: !value,
+            };
+            if different.contains(&complement) {
+                return Err(BuildError::ComplementaryLiteral { clause, variable });
             }
-            named |= bit;
+            if !different.contains(&literal) {
+                different.push(literal);
+            }
         }
-        for literal in literals {
+        for literal in different {
             let kind = if literal.value { 2 } else { 3 };
             self.bytes.extend([kind, literal.variable]);
         }
@@ -103,8 +110,8 @@ pub enum BuildError {
         /// The number of the variable.
         variable: u8,
     },
-    /// A clause names a variable twice.
-    RepeatedVariable {
+    /// A clause has a literal and its complement: it names the variable both ways.
+    ComplementaryLiteral {
         /// The clause, counted from 0.
         clause: usize,
         /// The number of the variable.
@@ -129,9 +136,11 @@ impl fmt::Display for BuildError {
                 "clause {} names variable {variable}, which the formula doesn't have",
                 clause + 1
             ),
-            BuildError::RepeatedVariable { clause, variable } => {
-                write!(f, "clause {} names variable {variable} twice", clause + 1)
-            }
+            BuildError::ComplementaryLiteral { clause, variable } => write!(
+                f,
+                "clause {} names variable {variable} both ways",
+                clause + 1
+            ),
             BuildError::TooManyClauses => write!(f, "a formula has at most {MAX_CLAUSES} clauses"),
         }
     }

@@ -42,8 +42,8 @@ pub enum Refusal {
         /// The record's kind byte.
         place: usize,
     },
-    /// 7: the clause has named the variable before.
-    RepeatedVariable {
+    /// 7: the clause has the literal's complement already, so that it would name the variable both ways.
+    ComplementaryLiteral {
         /// The record's kind byte.
         place: usize,
     },
@@ -81,7 +81,7 @@ impl Refusal {
             (4, place) => Refusal::Misplaced { place },
             (5, 0) => Refusal::BadVariableCount,
             (6, place) => Refusal::NoSuchVariable { place },
-            (7, place) => Refusal::RepeatedVariable { place },
+            (7, place) => Refusal::ComplementaryLiteral { place },
             (8, place) => Refusal::TooManyClauses { place },
             (9, place) => Refusal::TrailingByte { place },
             (10, clauses) => Refusal::Unmatched { clauses },
@@ -100,7 +100,7 @@ impl Refusal {
             Refusal::Misplaced { .. } => 4,
             Refusal::BadVariableCount => 5,
             Refusal::NoSuchVariable { .. } => 6,
-            Refusal::RepeatedVariable { .. } => 7,
+            Refusal::ComplementaryLiteral { .. } => 7,
             Refusal::TooManyClauses { .. } => 8,
             Refusal::TrailingByte { .. } => 9,
             Refusal::Unmatched { .. } => 10,
@@ -116,7 +116,7 @@ impl Refusal {
             | Refusal::UnknownKind { place }
             | Refusal::Misplaced { place }
             | Refusal::NoSuchVariable { place }
-            | Refusal::RepeatedVariable { place }
+            | Refusal::ComplementaryLiteral { place }
             | Refusal::TooManyClauses { place }
             | Refusal::TrailingByte { place }
             | Refusal::StrayVariable { place } => place,
@@ -147,9 +147,9 @@ impl fmt::Display for Refusal {
                 f,
                 "a rule names a switch that the kit doesn't have, at byte {place} (counted from 0)"
             ),
-            Refusal::RepeatedVariable { place } => write!(
+            Refusal::ComplementaryLiteral { place } => write!(
                 f,
-                "a rule names a switch for the second time, at byte {place} (counted from 0)"
+                "a rule names a switch both as on and as off, at byte {place} (counted from 0)"
             ),
             Refusal::TooManyClauses { place } => write!(
                 f,

@@ -101,13 +101,49 @@ fn the_builder_writes_what_can_be_read() {
     for _ in 0..96 {
         builder.clause(&literals).unwrap();
     }
-    let longest = builder.build();
-    assert_eq!(longest.as_bytes().len(), 9315);
-    assert_eq!(longest.check(Assignment::from_bits(1 << 1)), Ok(true));
+    // No input without repeats is longer.
+    let fullest = builder.build();
+    assert_eq!(fullest.as_bytes().len(), 9315);
+    assert_eq!(fullest.check(Assignment::from_bits(1 << 1)), Ok(true));
     let odd = 0x5555_5555_5555;
-    assert_eq!(longest.check(Assignment::from_bits(odd)), Ok(false));
+    assert_eq!(fullest.check(Assignment::from_bits(odd)), Ok(false));
     assert_eq!(builder.clause(&[]).unwrap_err(), BuildError::TooManyClauses);
-    assert_eq!(builder.build(), longest);
+    assert_eq!(builder.build(), fullest);
+}
+
+#[test]
+fn a_literal_that_comes_again_is_written_once() {
+    let (first, second) = (Literal::negative(2), Literal::positive(1));
+    let build = |literals: &[Literal]| {
+        let mut builder = FormulaBuilder::new(2).unwrap();
+        builder.clause(literals).unwrap().build()
+    };
+    let once = build(&[first, second]);
+    assert_eq!(once.as_bytes(), [1, 2, 3, 2, 2, 1, 4, 5]);
+    assert_eq!(build(&[first, first, second]), once);
+    assert_eq!(build(&[first, second, first, second, first]), once);
+    assert_eq!(build(&[first, second].repeat(10_000)), once);
+}
+
+#[test]
+fn a_literal_that_comes_again_is_read_and_counts_once() {
+    let once = Formula::from(vec![1, 2, 3, 2, 2, 1, 4, 5]);
+    let again = Formula::from(vec![1, 2, 3, 2, 3, 2, 2, 1, 3, 2, 4, 5]);
+    assert_eq!(again.judge(), once.judge());
+    assert_eq!(again.check(Assignment::from_bits(0b10)), Ok(false));
+    assert_eq!(again.check(Assignment::from_bits(0b11)), Ok(true));
+    assert!(again.models().eq(once.models()));
+
+    // There is no longest input.
+    let long = [&[1, 2][..], &[2, 1].repeat(50_000), &[4, 5]].concat();
+    assert_eq!(check(&long, Assignment::from_bits(0b01)), Ok(true));
+    let both_ways = [&[1, 2][..], &[2, 1].repeat(50_000), &[3, 1, 4, 5]].concat();
+    let refusal = check(&both_ways, Assignment::default()).unwrap_err();
+    assert_eq!(refusal, Refusal::ComplementaryLiteral { place: 100_002 });
+    assert_eq!(
+        refusal.to_string(),
+        "a rule names a switch both as on and as off, at byte 100002 (counted from 0)"
+    );
 }
 
 #[test]
@@ -130,14 +166,16 @@ fn the_builder_refuses_what_cannot_be_read() {
         );
     }
     builder.clause(&[Literal::positive(1)]).unwrap();
-    let error = builder.clause(&[Literal::positive(2), Literal::negative(2)]);
-    assert_eq!(
-        error.unwrap_err(),
-        BuildError::RepeatedVariable {
-            clause: 1,
-            variable: 2
-        }
-    );
+    let (on, off) = (Literal::positive(2), Literal::negative(2));
+    for literals in [&[on, off][..], &[off, on], &[off, off, on]] {
+        assert_eq!(
+            builder.clause(literals).unwrap_err(),
+            BuildError::ComplementaryLiteral {
+                clause: 1,
+                variable: 2
+            }
+        );
+    }
     assert_eq!(builder.build(), Formula::from(vec![1, 2, 2, 1, 4, 5]));
 }
 
@@ -152,10 +190,10 @@ fn errors_of_the_builder_name_clause_and_variable() {
         "clause 1 names variable 3, which the formula doesn't have"
     );
     builder.clause(&[Literal::positive(1)]).unwrap();
-    let error = builder.clause(&[Literal::positive(1), Literal::positive(1)]);
+    let error = builder.clause(&[Literal::positive(1), Literal::negative(1)]);
     assert_eq!(
         error.unwrap_err().to_string(),
-        "clause 2 names variable 1 twice"
+        "clause 2 names variable 1 both ways"
     );
     for _ in 1..96 {
         builder.clause(&[]).unwrap();

@@ -73,6 +73,7 @@ fn every_act_answers_as_the_reference() {
     let mut round = 0;
     while tally.calls() < wanted {
         let input = some_input(&mut random, is_matched);
+        tally.input(&input);
         others = compare_input(&mut tally, &mut random, &input, &others);
         compare_start(&mut tally, &mut random);
         if round % 20 == 0 {

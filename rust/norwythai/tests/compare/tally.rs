@@ -1,6 +1,6 @@
 //! What a run has seen.
 
-use norwythai_reference::{Answer, Refusal};
+use norwythai_reference::{decode, Answer, Refusal};
 use std::fmt;
 
 /// How often what was seen, so that a run that tests little fails.
@@ -28,6 +28,9 @@ pub struct Tally {
     pub listed: usize,
     /// Refusals by number.
     refusals: [usize; 13],
+    /// Readable inputs in which a literal comes again in its clause, and those that are longer than the printing program takes.
+    repeats: usize,
+    long: usize,
 }
 
 impl Tally {
@@ -39,6 +42,16 @@ impl Tally {
             + self.chain_calls
             + self.lists
             + self.wrong_lengths
+    }
+
+    pub fn input(&mut self, input: &[u8]) {
+        let Ok(formula) = decode(input) else {
+            return;
+        };
+        let clauses = formula.clauses().iter();
+        let without_repeats: u32 = clauses.map(|c| 2 * c.named().count_ones() + 1).sum();
+        self.repeats += usize::from(input.len() > 3 + without_repeats as usize);
+        self.long += usize::from(input.len() > 16_384);
     }
 
     pub fn refused(&mut self, refusal: Refusal) {
@@ -72,6 +85,8 @@ impl Tally {
             ("ended", self.ended, calls / 100),
             ("with trials", self.with_trials, calls / 50),
             ("models listed", self.listed, calls / 20),
+            ("inputs with repeats", self.repeats, calls / 200),
+            ("long inputs", self.long, calls / 50_000),
         ];
         for (what, seen, wanted) in least {
             assert!(seen >= wanted, "{what}: only {seen}");
@@ -103,6 +118,11 @@ impl fmt::Display for Tally {
             f,
             "answers of walk and list: model {}, spent {}, ended {}; walks with trials: {}",
             self.models, self.spent, self.ended, self.with_trials
+        )?;
+        writeln!(
+            f,
+            "inputs read: with repeats {}, of more than 16,384 bytes {}",
+            self.repeats, self.long
         )?;
         write!(f, "refusals:")?;
         for (number, seen) in self.refusals.iter().enumerate().skip(1) {

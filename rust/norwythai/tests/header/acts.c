@@ -18,6 +18,10 @@ static const uint8_t INPUT[] = {1, 2, 2, 1, 2, 2, 4, 3, 1, 3, 2, 4, 5};
 /* One variable, and two clauses that both name it. */
 static const uint8_t UNMATCHED[] = {1, 1, 2, 1, 4, 3, 1, 4, 5};
 
+/* A literal that comes again, which counts once, and a variable that is named both ways. */
+static const uint8_t REPEATED[] = {1, 2, 2, 1, 2, 2, 2, 1, 4, 3, 1, 3, 1, 3, 2, 4, 5};
+static const uint8_t BOTH_WAYS[] = {1, 2, 2, 1, 2, 1, 3, 1, 4, 5};
+
 static int test_check(void) {
     const uint8_t byte = 0;
     uint64_t results[NORWYTHAI_RESULTS];
@@ -30,6 +34,10 @@ static int test_check(void) {
     REQUIRE(results[0] == NORWYTHAI_REFUSED && results[2] == 12 && results[3] == 0);
     REQUIRE(norwythai_check(&byte, 0, 0, results, NORWYTHAI_RESULTS) == 0);
     REQUIRE(results[0] == NORWYTHAI_REFUSED && results[2] == 2 && results[3] == 0);
+    REQUIRE(norwythai_check(REPEATED, sizeof REPEATED, 1, results, NORWYTHAI_RESULTS) == 0);
+    REQUIRE(results[0] == NORWYTHAI_YES);
+    REQUIRE(norwythai_check(BOTH_WAYS, sizeof BOTH_WAYS, 1, results, NORWYTHAI_RESULTS) == 0);
+    REQUIRE(results[0] == NORWYTHAI_REFUSED && results[2] == 7 && results[3] == 6);
     return 0;
 }
 

@@ -109,13 +109,22 @@ fn the_example_lists_models_in_pages() {
     let program = temporary("pages");
     let source = repository("examples/c/pages.c");
     compile("cc", &["-std=c99"], &source, &program);
-    let pages =
-        |name: &str, size: &str| run(Command::new(&program).arg(repository(name)).arg(size));
-    let output = pages("examples/two_variables.bin", "1");
+    let pages = |file: PathBuf, size: &str| run(Command::new(&program).arg(file).arg(size));
+    let output = pages(repository("examples/two_variables.bin"), "1");
     assert!(output.status.success());
     assert_eq!(output.stdout, b"page 1\n01\npage 2\n10\n");
 
-    let output = pages("examples/unmatched.bin", "1");
+    let output = pages(repository("examples/unmatched.bin"), "1");
     assert!(!output.status.success());
     assert_eq!(output.stderr, b"pages: refused 10 at 3\n");
+
+    // An empty file, and one with the clause (1) in very many records.
+    let file = temporary("input.bin");
+    std::fs::write(&file, []).unwrap();
+    let output = pages(file.clone(), "2");
+    assert_eq!(output.stderr, b"pages: refused 2 at 0\n");
+    let input = [&[1, 2][..], &[2, 1].repeat(50_000), &[4, 5]].concat();
+    std::fs::write(&file, input).unwrap();
+    let output = pages(file, "2");
+    assert_eq!(output.stdout, b"page 1\n10\n11\n");
 }
