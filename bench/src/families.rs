@@ -109,8 +109,8 @@ impl Family {
     }
 }
 
-/// The longest input: 96 clauses, each with all 48 variables. It is not matched.
-pub fn longest_input() -> Vec<u8> {
+/// The fullest input: 96 clauses, each with all 48 variables. Without repeated literals none is longer. It is not matched.
+pub fn fullest_input() -> Vec<u8> {
     let clause: Vec<i8> = (1..=LARGEST as i8)
         .map(|variable| {
             if variable % 2 == 0 {

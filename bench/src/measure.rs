@@ -1,6 +1,6 @@
 //! The times of the acts, and the table of ratios.
 
-use crate::families::{longest_input, Case, Family, FAMILIES};
+use crate::families::{fullest_input, Case, Family, FAMILIES};
 use crate::listers::{Bytes, Lister, Plain, Proved, Tuned};
 use crate::table::{count_text, print_table, row, time_text};
 use std::fmt::Debug;
@@ -138,9 +138,9 @@ fn judge_times(case: &Case) -> Times {
     times(|lister| judge(lister, case, &mut buffer))
 }
 
-/// Reads the longest input whole, and refuses the assignment by 12. The tuned baseline reads and checks by the plain reference.
+/// Reads the fullest input whole, and refuses the assignment by 12. The tuned baseline reads and checks by the plain reference.
 fn decode_times() -> Times {
-    let input = longest_input();
+    let input = fullest_input();
     times(|lister| {
         let checked = lister.check(black_box(&input), black_box(1 << 63));
         assert_eq!(black_box(checked), Err((12, 0)));
@@ -297,7 +297,7 @@ fn family_rows(family: &Family) -> Vec<Row> {
 fn all_rows() -> Vec<Row> {
     let mut rows: Vec<Row> = FAMILIES.iter().flat_map(family_rows).collect();
     rows.push(Row {
-        family: "longest input".to_string(),
+        family: "fullest input".to_string(),
         act: "check".to_string(),
         times: vec![decode_times()],
     });

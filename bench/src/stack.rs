@@ -4,7 +4,7 @@
 //! until something other than the paint is found. It is tested on functions of known use. What a function reserves and never writes
 //! is not seen.
 
-use crate::families::{longest_input, Case, FAMILIES};
+use crate::families::{fullest_input, Case, FAMILIES};
 use crate::listers::{Bytes, Lister, Proved};
 use crate::measure::{deep_checkpoint, BUDGET, START};
 use crate::table::{count_text, print_table, row};
@@ -261,9 +261,9 @@ fn print_functions() {
             .max()
             .expect("there are inputs")
     };
-    let longest = longest_input();
-    let check = largest(&|input, _| check_stack(input)).max(check_stack(&longest));
-    let judge = largest(&|input, _| judge_stack(input)).max(judge_stack(&longest));
+    let fullest = fullest_input();
+    let check = largest(&|input, _| check_stack(input)).max(check_stack(&fullest));
+    let judge = largest(&|input, _| judge_stack(input)).max(judge_stack(&fullest));
     let rows = [
         ("norwythai_check", check),
         ("norwythai_judge", judge),
@@ -276,9 +276,9 @@ fn print_functions() {
     print_table(&table);
     println!();
     println!(
-        "check reads the shortest formula with {} bytes and the longest input with {}.",
+        "check reads the shortest formula with {} bytes and the fullest input with {}.",
         count_text(check_stack(&[1, 1, 5]) as u64),
-        count_text(check_stack(&longest) as u64)
+        count_text(check_stack(&fullest) as u64)
     );
 }
 

@@ -1,6 +1,6 @@
 //! The tuned baseline and the plain reference agree: on lists, on walks with their counts, and on judge.
 
-use norwythai_bench::families::{longest_input, Case, FAMILIES};
+use norwythai_bench::families::{fullest_input, Case, FAMILIES};
 use norwythai_bench::listers::{Bytes, Lister, Plain, Tuned};
 use norwythai_bench::measure::{BUDGET, START};
 
@@ -75,8 +75,8 @@ fn on_smaller_formulas_of_each_family() {
 }
 
 #[test]
-fn on_the_longest_input() {
-    let input = longest_input();
+fn on_the_fullest_input() {
+    let input = fullest_input();
     let refused = Plain.judge(&input, &mut [0; 96]);
     assert_eq!(refused, Err((10, 49)));
     assert_eq!(Tuned.judge(&input, &mut [0; 96]), refused);
