@@ -2,10 +2,11 @@
 """corpus.py VECTORS: write the corpus of the program cases, crates/cases/data/, and its expected output, crates/cases/stdout.
 
 VECTORS has one JSON object a line: "act", its input and the expected answer. Vectors of an act that has no coder below are
-left out.
+left out. If a vector or all of them don't fit the format, that is said and nothing is written.
 
 Format. A file holds vectors of one act, one after the other, and nothing else; it has at most 65,536 bytes, so an act has
-files NAMEa, NAMEb, .., at most 26; start has one, start. Numbers are little-endian. A vector is
+files NAMEa, NAMEb, .., at most 26; start has one, start, and the edge cases of an act have one, NAME_edges. Numbers are
+little-endian. A vector is
 
     2 bytes   its number: the line of VECTORS, from 1, or from 60,000 for a vector of this script
     2 bytes   the length of its input
@@ -65,6 +66,7 @@ import string
 import sys
 
 LIMIT = 65536  # bytes of a file: what the program reads at once
+LINES = 59999  # of VECTORS: the greater numbers are for the edge cases
 LETTERS = string.ascii_lowercase  # the ends of the names of an act's files
 CASES = pathlib.Path(__file__).resolve().parent.parent / 'crates' / 'cases'
 
@@ -80,6 +82,8 @@ def little(x, size):
 
 
 def coded(number, given, answer, fields):
+    if len(given) >= LIMIT:
+        sys.exit(f'vector {number}: its input takes {len(given):,} bytes, and at most {LIMIT - 1:,} fit')
     return little(number, 2) + little(len(given), 2) + given + answer + fields
 
 
@@ -133,9 +137,14 @@ def chain_vector(number, v):
     return calls
 
 
+def printed_text(number, given, text):
+    """The vector of a print, from as many of the bytes as the program reads."""
+    given = given[:READ]
+    return coded(number, little(len(given), 2) + given + text.encode('ascii'), b'', b'')
+
+
 def printed_vector(number, v):
-    given = bytes.fromhex(v['stdin'])[:READ]
-    return [coded(number, little(len(given), 2) + given + v['stdout'].encode('ascii'), b'', b'')]
+    return [printed_text(number, bytes.fromhex(v['stdin']), v['stdout'])]
 
 
 ACTS = {'check': check_vector, 'judge': judge_vector, 'start': start_vector, 'walk': walk_vector, 'chain': chain_vector,
@@ -143,16 +152,18 @@ ACTS = {'check': check_vector, 'judge': judge_vector, 'start': start_vector, 'wa
 
 
 def read(given):
-    """The number of variables and the clauses, each a list of (variable, value); None if the input is refused."""
+    """The number of variables and the clauses, each a list of (variable, value); None if the input is refused. A literal that a clause
+    has already is passed over."""
     if len(given) < 2 or given[0] != 1 or not 1 <= given[1] <= 48:
         return None
     n, clauses, clause, at = given[1], [], {}, 2
     while at < len(given):
         kind = given[at]
         if kind in (2, 3):
-            if at + 1 == len(given) or not 1 <= given[at + 1] <= n or given[at + 1] in clause:
+            if at + 1 == len(given) or not 1 <= given[at + 1] <= n:
                 return None
-            clause[given[at + 1]] = kind == 2
+            if clause.setdefault(given[at + 1], kind == 2) != (kind == 2):
+                return None
             at += 2
         elif kind == 4:
             clauses.append(list(clause.items()))
@@ -198,8 +209,10 @@ def formula_vector(number, given):
 EXAMPLE = '01 02 02 01 02 02 04 03 01 03 02 04 05'
 EMPTY = ' 04'          # an empty clause
 TRUE = ' 02 01 04'     # the clause of variable 1 as true
-WIDE = ''.join(' 02 %02x' % v for v in range(1, 49)) + ' 04'  # the clause that names all of 48 variables
-LONGEST = '01 30' + 96 * WIDE + ' 05'  # 9,315 bytes
+ALL = ''.join(' 02 %02x' % v for v in range(1, 49))  # literals of all of 48 variables
+WIDE = ALL + ' 04'  # the clause that names all of 48 variables
+FULLEST = '01 30' + 96 * WIDE + ' 05'  # 9,315 bytes, the most without repeats
+AGAIN = '01 02 02 01 02 02 02 01 04 03 01 03 01 03 02 03 02 03 01 04 05'  # the example with literals that come again
 
 # check: input, assignment, what the answer says, and the refusal's number and place
 CHECK_EDGES = [
@@ -255,11 +268,38 @@ CHECK_EDGES = [
     ('01 30 02 ff', 0, REFUSED, 6, 2),
     ('01 30 02 30 04 05', 1 << 47, YES, 0, 0),
     ('01 30 02 30 04 05', (1 << 47) - 1, NO, 0, 0),
-    # variables named twice in one clause, and in two
+    # literals that come again in their clause count once, however often they come
+    ('01 02 02 01 02 01 04 05', 0b00, NO, 0, 0),
+    ('01 02 02 01 02 01 04 05', 0b01, YES, 0, 0),
+    ('01 02 03 01 03 01 04 05', 0b10, YES, 0, 0),
+    ('01 02 03 01 03 01 04 05', 0b01, NO, 0, 0),
+    ('01 02 02 01 03 02 02 01 04 05', 0b10, NO, 0, 0),
+    ('01 02 02 01 03 02 02 01 04 05', 0b11, YES, 0, 0),
+    ('01 02' + 50 * ' 03 02' + ' 04 05', 0b01, YES, 0, 0),
+    ('01 02' + 50 * ' 03 02' + ' 04 05', 0b10, NO, 0, 0),
+    ('01 30' + 2 * ALL + ' 04 05', 0, NO, 0, 0),
+    ('01 30' + 2 * ALL + ' 04 05', 1 << 47, YES, 0, 0),
+    (AGAIN, 0b00, NO, 0, 0),
+    (AGAIN, 0b01, YES, 0, 0),
+    (AGAIN, 0b10, YES, 0, 0),
+    (AGAIN, 0b11, NO, 0, 0),
+    # among such: a number that no variable has, a misplaced record, an input that stops, and a stray variable
+    ('01 02 02 01 02 01 02 00', 0, REFUSED, 6, 6),
+    ('01 02 03 02 03 02 03 03', 0, REFUSED, 6, 6),
+    ('01 02 02 03 02 03 04 05', 0, REFUSED, 6, 2),
+    ('01 02 02 01 02 01 05', 0, REFUSED, 4, 6),
+    ('01 02 02 01 02 01 01', 0, REFUSED, 4, 6),
+    ('01 02 03 01 03', 0, REFUSED, 2, 5),
+    ('01 02 03 01 03 01', 0, REFUSED, 2, 6),
+    ('01 02 02 01 02 01 04 05', 1 << 2, REFUSED, 12, 0),
+    # variables named both ways in one clause, at once and after repeats, and in two clauses
     ('01 02 02 01 03 01 04 05', 0, REFUSED, 7, 4),
-    ('01 02 02 01 02 01 04 05', 0, REFUSED, 7, 4),
-    ('01 02 03 01 03 01 04 05', 0, REFUSED, 7, 4),
+    ('01 02 03 01 02 01 04 05', 0, REFUSED, 7, 4),
     ('01 02 02 01 02 02 03 01', 0, REFUSED, 7, 6),
+    ('01 02 02 01 02 01 03 01 04 05', 0, REFUSED, 7, 6),
+    ('01 02 03 02 02 01 03 02 02 02 02 02', 0, REFUSED, 7, 8),
+    ('01 02' + 50 * ' 03 02' + ' 02 02 04 05', 0, REFUSED, 7, 102),
+    ('01 30' + 2 * ALL + ' 03 30 04 05', 0, REFUSED, 7, 194),
     ('01 01 02 01 04 02 01 04 05', 1, YES, 0, 0),
     ('01 01 02 01 04 03 01 04 05', 0, NO, 0, 0),
     ('01 01 02 01 04 03 01 04 05', 1, NO, 0, 0),
@@ -276,14 +316,18 @@ CHECK_EDGES = [
     ('01 01' + 96 * EMPTY + ' 02 01 05', 0, REFUSED, 4, 100),
     ('01 01' + 96 * EMPTY + ' 02 01 03 01 04 05', 0, REFUSED, 7, 100),
     ('01 01' + 96 * EMPTY + ' 02 02 04 05', 0, REFUSED, 6, 98),
+    ('01 01' + 96 * EMPTY + ' 02 01 02 01 04 05', 0, REFUSED, 8, 102),
+    ('01 01' + 96 * EMPTY + ' 02 01 02 01 03 01 04 05', 0, REFUSED, 7, 102),
+    ('01 01' + 96 * EMPTY + ' 02 01 02 01 02 02 04 05', 0, REFUSED, 6, 102),
+    ('01 01' + 96 * EMPTY + ' 02 01 02 01 05', 0, REFUSED, 4, 102),
     ('01 01' + 96 * EMPTY + ' 02', 0, REFUSED, 2, 99),
     ('01 01' + 96 * EMPTY, 0, REFUSED, 2, 98),
-    # the longest input, and a byte after the end
-    (LONGEST, 0, NO, 0, 0),
-    (LONGEST, 1, YES, 0, 0),
-    (LONGEST, 1 << 47, YES, 0, 0),
-    (LONGEST, (1 << 48) - 1, YES, 0, 0),
-    (LONGEST + ' 05', 1, REFUSED, 9, 9315),
+    # the fullest input, and a byte after the end
+    (FULLEST, 0, NO, 0, 0),
+    (FULLEST, 1, YES, 0, 0),
+    (FULLEST, 1 << 47, YES, 0, 0),
+    (FULLEST, (1 << 48) - 1, YES, 0, 0),
+    (FULLEST + ' 05', 1, REFUSED, 9, 9315),
     ('01 01 05 00', 0, REFUSED, 9, 3),
     ('01 01 05 05', 0, REFUSED, 9, 3),
     # stray variables, after all of reading
@@ -298,7 +342,7 @@ CHECK_EDGES = [
     ('01 30 05', (1 << 64) - 1, REFUSED, 12, 0),
     ('01 01 04 05', 1 << 63, REFUSED, 12, 0),
     ('01 01 05 00', 1 << 63, REFUSED, 9, 3),
-    (LONGEST, 1 << 48, REFUSED, 12, 0),
+    (FULLEST, 1 << 48, REFUSED, 12, 0),
 ]
 
 # judge: input, length of the buffer, fill, what the answer says, the refusal's number and place, n, m, and the first bytes of
@@ -306,6 +350,7 @@ CHECK_EDGES = [
 UNMATCHED = '01 01 02 01 04 03 01 04 05'  # S5.7: clauses (1) and (not 1)
 UNREADABLE = '01 02 06'
 REMATCHED = '01 02 02 01 02 02 04 02 01 04 05'  # clauses (1, 2) and (1): the first gives variable 1 to the second
+MANY = '01 02' + 8191 * ' 02 01' + ' 04 05'  # the clause (1) in 16,386 bytes, more than the printing program reads
 CHAIN = '01 30' + ''.join(' 02 %02x 02 %02x 04' % (v, v + 1) for v in range(1, 48))  # clauses (1, 2), (2, 3) .. (47, 48)
 
 
@@ -355,10 +400,16 @@ JUDGE_EDGES = [
     # as many clauses as variables, one more, and 96, which no 48 variables match: every byte of a buffer of 96 is written
     ('01 30' + 48 * WIDE + ' 05', 96, 0xff, MATCHED, 0, 0, 48, 48, in_order(1, 48)),
     ('01 30' + 49 * WIDE + ' 05', 96, 0xff, REFUSED, 10, 49, 0, 0, 49 * '01 '),
-    (LONGEST, 96, 0xff, REFUSED, 10, 49, 0, 0, 49 * '01 ' + 47 * '00 '),
-    (LONGEST, 200, 0xff, REFUSED, 10, 49, 0, 0, 49 * '01 ' + 47 * '00 '),
+    (FULLEST, 96, 0xff, REFUSED, 10, 49, 0, 0, 49 * '01 ' + 47 * '00 '),
+    (FULLEST, 200, 0xff, REFUSED, 10, 49, 0, 0, 49 * '01 ' + 47 * '00 '),
     ('01 01' + 96 * EMPTY + ' 05', 97, 0xff, REFUSED, 10, 1, 0, 0, '01' + 95 * ' 00'),
     ('01 01' + 96 * TRUE + ' 05', 97, 0xff, REFUSED, 10, 2, 0, 0, '01 01' + 94 * ' 00'),
+    # literals that come again: as without them
+    (AGAIN, 96, 0xa5, MATCHED, 0, 0, 2, 2, '01 02'),
+    ('01 02 02 01 02 02 02 01 04 02 01 02 01 04 05', 96, 0, MATCHED, 0, 0, 2, 2, '02 01'),
+    ('01 01 02 01 02 01 04 03 01 03 01 04 05', 96, 0xa5, REFUSED, 10, 2, 0, 0, '01 01'),
+    ('01 30' + 2 * ALL + ' 04 05', 96, 0xff, MATCHED, 0, 0, 48, 1, '01'),
+    (MANY, 96, 0xff, MATCHED, 0, 0, 2, 1, '01'),
     # each refusal of reading, with the buffer as it was
     ('01 02', 96, 0x01, REFUSED, 2, 2, 0, 0, ''),
     ('01 01 00', 96, 0x01, REFUSED, 3, 2, 0, 0, ''),
@@ -366,8 +417,9 @@ JUDGE_EDGES = [
     ('01 31 05', 96, 0x01, REFUSED, 5, 0, 0, 0, ''),
     ('01 01 02 02', 96, 0x01, REFUSED, 6, 2, 0, 0, ''),
     ('01 02 02 01 03 01 04 05', 96, 0x01, REFUSED, 7, 4, 0, 0, ''),
+    ('01 02 02 01 02 01 03 01 04 05', 96, 0x01, REFUSED, 7, 6, 0, 0, ''),
     ('01 01' + 97 * EMPTY + ' 05', 96, 0x01, REFUSED, 8, 98, 0, 0, ''),
-    (LONGEST + ' 05', 96, 0x01, REFUSED, 9, 9315, 0, 0, ''),
+    (FULLEST + ' 05', 96, 0x01, REFUSED, 9, 9315, 0, 0, ''),
 ]
 
 
@@ -476,6 +528,7 @@ WALK_EDGES = [
     *refused(OVER, 3, 2, [(UNREADABLE, 0), (UNREADABLE, MOST)]),
     *refused(OVER, 2, 0, [('', 0)]),
     *refused(OVER, 9, 3, [('01 01 05 00', 0)]),
+    *refused(STRANGE, 7, 6, [('01 02 02 01 02 01 03 01 04 05', MOST)]),
     # budgets, from the start and from the end
     (EXAMPLE, START, 0, SPENT, 0, 0, 0, FIRST, 0, 0),
     (EXAMPLE, FIRST, 0, SPENT, 0, 0, 0, FIRST, 0, 0),
@@ -506,79 +559,110 @@ WALK_EDGES = [
     (TWO_FREE, LAST, MOST, MODEL, 0, 0, 0b11, checkpoint(1, 2, '81 82'), 2, 0),
     (TWO_FREE, LAST, 1, SPENT, 0, 0, 0, checkpoint(3, 1, '81'), 1, 0),
     (TWO_FREE, LAST, 1, ENDED, 0, 0, 0, OVER, 1, 0),
+    # the example with literals that come again walks as without them, and so does a clause in very many records
+    (AGAIN, START, 0, SPENT, 0, 0, 0, FIRST, 0, 0),
+    (AGAIN, LAST, 1, SPENT, 0, 0, 0, checkpoint(1, 1, '01'), 1, 2),
+    (AGAIN, LAST, 1, MODEL, 0, 0, 0b10, checkpoint(1, 2, '01 82'), 1, 0),
+    (AGAIN, LAST, 2, SPENT, 0, 0, 0, checkpoint(2, 0), 2, 0),
+    (AGAIN, LAST, MOST, MODEL, 0, 0, 0b01, checkpoint(1, 2, '81 02'), 2, 0),
+    (AGAIN, LAST, 1, SPENT, 0, 0, 0, checkpoint(2, 1, '81'), 1, 0),
+    (AGAIN, LAST, MOST, ENDED, 0, 0, 0, OVER, 1, 0),
+    *foreign(checkpoint(1, 1, '02'), AGAIN),
+    (MANY, START, MOST, MODEL, 0, 0, 0b01, checkpoint(1, 2, '81 02'), 2, 0),
+    (MANY, LAST, MOST, MODEL, 0, 0, 0b11, checkpoint(1, 2, '81 82'), 2, 0),
+]
+
+# printed: what is printed from, and the text
+WHOLE = '01 02' + 8190 * ' 02 01' + ' 04 05'  # the clause (1) in 16,384 bytes, as many as the printing program reads
+WHOLE_TEXT = 'switches 2 rules 1\n10 2 0\n11 2 0\nend 2 0\n'
+PRINTED_EDGES = [
+    (WHOLE, WHOLE_TEXT),
+    # a byte that the program never sees
+    (WHOLE + ' 05', WHOLE_TEXT),
+    # cut before the clause's end
+    (MANY, 'refused 2 16384\n'),
 ]
 
 
-# The coder of an edge case gives its answer and its fields, from what follows the input.
-def check_edge(assignment, *answer):
-    return answer, little(assignment, 8)
+# The coder of an edge case gives its vector, from its number, its input and what follows that.
+def check_edge(number, given, assignment, *answer):
+    return coded(number, given, answer_of(*answer), little(assignment, 8))
 
 
-def judge_edge(length, fill, *answer_written):
+def judge_edge(number, given, length, fill, *answer_written):
     *answer, written = answer_written
-    return answer, judge_fields(length, fill, bytes.fromhex(written))
+    return coded(number, given, answer_of(*answer), judge_fields(length, fill, bytes.fromhex(written)))
 
 
-def walk_edge(origin, budget, says, refusal, place, model, returned, *counts):
-    return (says, refusal, place), walk_fields(model, *counts, returned, origin, budget)
+def walk_edge(number, given, origin, budget, says, refusal, place, model, returned, *counts):
+    return coded(number, given, answer_of(says, refusal, place), walk_fields(model, *counts, returned, origin, budget))
 
 
 # the number of the first case of an act, its cases and their coder
 EDGES = {'check': (60000, CHECK_EDGES, check_edge), 'judge': (61000, JUDGE_EDGES, judge_edge),
-         'walk': (62000, WALK_EDGES, walk_edge)}
+         'walk': (62000, WALK_EDGES, walk_edge), 'printed': (63000, PRINTED_EDGES, printed_text)}
 
 
 def edge_vectors(act):
     first, cases, coder = EDGES[act]
-    for number, (given, *case) in enumerate(cases, first):
-        answer, fields = coder(*case)
-        yield coded(number, bytes.fromhex(given), answer_of(*answer), fields)
+    return [coder(number, bytes.fromhex(given), *case) for number, (given, *case) in enumerate(cases, first)]
 
 
-def files_of(groups):
-    """The groups joined into as few files as the limit allows, in order, each whole in a file."""
+def files_of(name, names, groups):
+    """The groups joined into as few files as the limit allows, in order, each whole in a file: by the files' names."""
     files = [b'']
     for g in groups:
         v = b''.join(g)
+        if LIMIT < len(v):
+            number = int.from_bytes(v[:2], 'little')
+            sys.exit(f'{name}: {len(v):,} bytes from vector {number} on belong into one file, and at most {LIMIT:,} fit')
         if LIMIT < len(files[-1]) + len(v):
             files.append(b'')
         files[-1] += v
-    return files
+    if len(names) < len(files):
+        sys.exit(f'{name}: {len(files)} files are needed, and {len(names)} may be written')
+    return dict(zip(names, files))
+
+
+def groups_of(lines):
+    """By act, and for formulas, the groups of vectors that stand together."""
+    groups = {act: [] for act in [*ACTS, 'formulas']}
+    inputs = set()
+    for number, line in enumerate(lines, 1):
+        if LINES < number:
+            sys.exit(f'there are more than {LINES:,} vectors')
+        v = json.loads(line)
+        if v['act'] in ACTS:
+            groups[v['act']].append(ACTS[v['act']](number, v))
+        given = v.get('sheet', v.get('stdin'))
+        if given is not None and given not in inputs:
+            inputs.add(given)
+            groups['formulas'].append(formula_vector(number, bytes.fromhex(given)))
+    return groups
 
 
 def main():
-    groups = {act: [] for act in [*ACTS, 'formulas']}
-    inputs = set()
     with open(sys.argv[1], encoding='utf-8') as lines:
-        for number, line in enumerate(lines, 1):
-            v = json.loads(line)
-            if v['act'] in ACTS:
-                groups[v['act']].append(ACTS[v['act']](number, v))
-            given = v.get('sheet', v.get('stdin'))
-            if given is not None and given not in inputs:
-                inputs.add(given)
-                groups['formulas'].append(formula_vector(number, bytes.fromhex(given)))
-    data = CASES / 'data'
-    data.mkdir(parents=True, exist_ok=True)
-    for old in data.iterdir():
-        old.unlink()
+        groups = groups_of(lines)
     # what is written: a name, the names of its files, its groups of vectors, and what they are
     sets = []
     for act, found in groups.items():
         names = [act] if act == 'start' else [act + letter for letter in LETTERS]
         sets.append((act, names, found, 'calls' if act == 'chain' else 'vectors'))
         if act in EDGES:
-            sets.append((f'{act}_edges', [f'{act}_edges'], [list(edge_vectors(act))], 'vectors'))
-    report = []
+            sets.append((f'{act}_edges', [f'{act}_edges'], [edge_vectors(act)], 'vectors'))
+    files, report = {}, ''
     for name, names, found, unit in sets:
-        files = files_of(found)
-        assert len(files) <= len(names)
-        for file, content in zip(names, files):
-            (data / file).write_bytes(content)
-        report.append((name, sum(map(len, found)), unit))
-    (CASES / 'stdout').write_text(''.join(f'{name}: {n} {unit}, 0 differences\n' for name, n, unit in report))
-    for f in sorted(data.iterdir()):
-        print(f'{f.name}: {f.stat().st_size} bytes')
+        files |= files_of(name, names, found)
+        report += f'{name}: {sum(map(len, found))} {unit}, 0 differences\n'
+    data = CASES / 'data'
+    data.mkdir(parents=True, exist_ok=True)
+    for old in data.iterdir():
+        old.unlink()
+    for name, content in sorted(files.items()):
+        (data / name).write_bytes(content)
+        print(f'{name}: {len(content)} bytes')
+    (CASES / 'stdout').write_text(report)
 
 
 if __name__ == '__main__':
