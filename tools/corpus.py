@@ -152,8 +152,8 @@ ACTS = {'check': check_vector, 'judge': judge_vector, 'start': start_vector, 'wa
 
 
 def read(given):
-    """The number of variables and the clauses, each a list of (variable, value); None if the input is refused. A literal that a clause
-    has already is passed over."""
+    """The number of variables and the clauses, each a list of (variable, value); None if the input is refused. A literal that
+    comes again in its clause counts once."""
     if len(given) < 2 or given[0] != 1 or not 1 <= given[1] <= 48:
         return None
     n, clauses, clause, at = given[1], [], {}, 2

@@ -53,8 +53,8 @@ impl FormulaBuilder {
         })
     }
 
-    /// Adds a clause. A literal that it has more than once counts once, as in reading: it is written once, at its first place. To name
-    /// a variable both ways is an error. If there is an error, nothing is added.
+    /// Adds a clause. A literal that it has more than once counts once, as in reading: it is written once, at its first place. To
+    /// name a variable both ways is an error. If there is an error, nothing is added.
     pub fn clause(&mut self, literals: &[Literal]) -> Result<&mut Self, BuildError> {
         let clause = self.clauses;
         if clause == MAX_CLAUSES {

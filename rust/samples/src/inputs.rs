@@ -80,7 +80,7 @@ fn put_again(random: &mut Random, clause: &mut Vec<i8>, sign: i8) {
 }
 
 /// Repeats literals within their clauses: none in half of the formulas, few or many in the others. In one of a hundred some
-/// clause has so many that no input without repeats is as long, and half of these inputs are longer than the printing program takes.
+/// clause has so many that no input without repeats is as long; half of these inputs are longer than the printing program takes.
 fn repeat_literals(random: &mut Random, clauses: &mut Clauses) {
     let most = random.pick(&[0, 0, 0, 1, 3, 20]);
     for clause in clauses.iter_mut() {
