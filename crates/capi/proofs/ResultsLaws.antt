@@ -4,7 +4,7 @@ use mathlib.Core.Bool.{cond}
 use mathlib.Core.Path.{_≡_, refl}
 use lib.Dec.{eqb}
 use Rattle.formula.specs.declared.Refusal.{Refusal}
-use Rattle.formula.specs.declared.Refusal.the-variants.{ShortBuffer, Truncated, UnknownKind, Misplaced, BadVariableCount, NoSuchVariable, RepeatedVariable, TooManyClauses, TrailingByte, Unmatched, ForeignCheckpoint, StrayVariable}
+use Rattle.formula.specs.declared.Refusal.the-variants.{ShortBuffer, Truncated, UnknownKind, Misplaced, BadVariableCount, NoSuchVariable, ComplementaryLiteral, TooManyClauses, TrailingByte, Unmatched, ForeignCheckpoint, StrayVariable}
 use Rattle.formula.specs.Refusals.{table-row}
 use Rattle.walk.specs.Checkpoints.{Checkpoint}
 use Rattle.enumeration.specs.declared.calls.Answer.{Answer}
@@ -20,7 +20,7 @@ refused-code (UnknownKind p) = refl
 refused-code (Misplaced p) = refl
 refused-code (BadVariableCount p) = refl
 refused-code (NoSuchVariable p) = refl
-refused-code (RepeatedVariable p) = refl
+refused-code (ComplementaryLiteral p) = refl
 refused-code (TooManyClauses p) = refl
 refused-code (TrailingByte p) = refl
 refused-code (Unmatched p) = refl

@@ -5,7 +5,7 @@ use mathlib.Core.Path.{_≡_, refl}
 use lib.ListN.{getD, take, drop}
 use Rattle.limits.specs.Limits.{max-clauses}
 use Rattle.formula.specs.declared.Refusal.{Refusal}
-use Rattle.formula.specs.declared.Refusal.the-variants.{ShortBuffer, Truncated, UnknownKind, Misplaced, BadVariableCount, NoSuchVariable, RepeatedVariable, TooManyClauses, TrailingByte, Unmatched, ForeignCheckpoint, StrayVariable}
+use Rattle.formula.specs.declared.Refusal.the-variants.{ShortBuffer, Truncated, UnknownKind, Misplaced, BadVariableCount, NoSuchVariable, ComplementaryLiteral, TooManyClauses, TrailingByte, Unmatched, ForeignCheckpoint, StrayVariable}
 use Rattle.formula.specs.Refusals.{table-row}
 use Rattle.matched.specs.Judge.{JudgementValues, judge}
 use Rattle.vectors.specs.declared.answers.Answer.{Answer}
@@ -23,7 +23,7 @@ refusal-code (UnknownKind p) = refl
 refusal-code (Misplaced p) = refl
 refusal-code (BadVariableCount p) = refl
 refusal-code (NoSuchVariable p) = refl
-refusal-code (RepeatedVariable p) = refl
+refusal-code (ComplementaryLiteral p) = refl
 refusal-code (TooManyClauses p) = refl
 refusal-code (TrailingByte p) = refl
 refusal-code (Unmatched p) = refl

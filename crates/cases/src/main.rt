@@ -85,5 +85,6 @@ fn main() {
     run_alone(b"walk_edges", Act::Walk);
     run_files(b"chain", Act::Walk, b"calls");
     run_files(b"printed", Act::Print, b"vectors");
+    run_alone(b"printed_edges", Act::Print);
     run_files(b"formulas", Act::Compare, b"vectors");
 }

@@ -10,7 +10,7 @@ use Rattle.lists.specs.Tabulated.{tabulated}
 use Rattle.masks.specs.Mask.{bit, members}
 use Rattle.writing.specs.Text.{line-feed, blank, decimal-within, decimal}
 use Rattle.formula.specs.InnerDecode.{decode, records, read-record}
-use Rattle.formula.specs.Format.{Literal, names, names-as, literal-bytes, literals-bytes, clause-bytes, clauses-bytes, formula-bytes}
+use Rattle.formula.specs.Format.{Literal, names, names-as, add, literal-bytes, literals-bytes, clause-bytes, clauses-bytes, formula-bytes}
 use Rattle.formula.specs.Masked.{variables}
 use Rattle.matching.specs.Search.{owner, no-links, begin, see, scan, take-front, expand, search-from, rematch-from, match-rest, outcome, marks}
 use Rattle.matched.specs.Acceptance.{accepted, acceptance}
@@ -32,7 +32,7 @@ use Rattle.edge_cases.specs.MarkedCases.{on, off, line, model-at, end-at
 -- ---- what computes: to unfold one of these is to unfold all that its line names
 
 reading : Unit {0}
-unfolding decode records read-record names
+unfolding decode records read-record names names-as add
 reading = tt
 
 encoding : Unit {0}
@@ -81,6 +81,8 @@ marked-cases = record {
   empty-clause = λ b l. rw (le-ltb (length b) max-clauses l);
   both-ways = λ b l. rw (le-ltb (length b) max-clauses l);
   named-twice = refl;
+  repeated = refl;
+  repeated-then-twice = refl;
   clause-not-ended = refl;
   tail-byte = refl;
   start-zero = start-zero;

@@ -1,5 +1,5 @@
 -- The bound in `records` is never what stops it.
-use Prim.Native.Nat.{ℕ, zero, suc, _≤_, _<_}
+use Prim.Native.Nat.{ℕ, zero, suc, _-_, _≤_, _<_}
 use mathlib.Core.Bool.{Bool, true, false, cond}
 use mathlib.Core.List.{List, [], _∷_}
 use mathlib.Core.Path.{_≡_, refl}
@@ -7,7 +7,7 @@ use native.Mathlib.Omega.{arith}
 use lib.Dec.{ltb}
 use lib.ListN.{length}
 use Rattle.limits.specs.Limits.{max-variables, max-clauses}
-use Rattle.formula.specs.Format.{names}
+use Rattle.formula.specs.Format.{has-complement}
 use Rattle.formula.specs.InnerDecode.{Kind, variable-count, literal, clause-end, formula-end, unknown, kind-of, known, allowed, one-to, Reading, Step, next, stop, after-kind, read-record, records}
 use Rattle.formula.specs.Decoding.{Decoding}
 use Rattle.formula.proofs.DecodeLaws.{gives-next, gives-stop}
@@ -26,7 +26,7 @@ module _ (len : ℕ) (r : Reading) where
   kind-shorter b variable-count [] = stops
   kind-shorter b variable-count (n ∷ s) = by-test (one-to max-variables n) (fewer (omega arith)) stops
   kind-shorter b (literal sign) [] = stops
-  kind-shorter b (literal sign) (v ∷ s) = by-test (one-to (r .variables) v) (by-test (names (r .current) _) stops (fewer (omega arith))) stops
+  kind-shorter b (literal sign) (v ∷ s) = by-test (one-to (r .variables) v) (by-test (has-complement (r .current) (record { variable = v - 1; positive = sign })) stops (fewer (omega arith))) stops
   kind-shorter b clause-end s = by-test (ltb (length (r .ended)) max-clauses) (fewer (omega arith)) stops
   kind-shorter b formula-end [] = stops
   kind-shorter b formula-end (x ∷ s) = stops

@@ -135,11 +135,11 @@ one-sign true p q = true≢false (sym q)
 one-sign false p q = true≢false (sym p)
 
 -- a clause that names no variable twice names none both ways
-one-way : (c : List Literal) (v : ℕ) → distinct c ≡ true → names-as c v true ≡ true → names-as c v false ≡ true → ⊥
+pub named-once : (c : List Literal) (v : ℕ) → distinct c ≡ true → names-as c v true ≡ true → names-as c v false ≡ true → ⊥
 unfolding names-as
-one-way [] v d p q = true≢false (sym p)
-one-way (l ∷ c) v d p q =
-    go (or-cases (is true) (names-as c v true) p) (or-cases (is false) (names-as c v false) q) (one-way c v (distinct-rest l c d .1))
+named-once [] v d p q = true≢false (sym p)
+named-once (l ∷ c) v d p q =
+    go (or-cases (is true) (names-as c v true) p) (or-cases (is false) (names-as c v false) q) (named-once c v (distinct-rest l c d .1))
   where
     is : Bool → Bool
     is sign = eqb (l .variable) v && Bool·beq (l .positive) sign
@@ -163,5 +163,5 @@ clause-fits {n} {c} o =
     record { below = b; apart = apart-of n ((clause-of c) .positive) ((clause-of c) .negative) (b true) (λ i l e. go i e (bit ((clause-of c) .negative) i) refl) }
   where
     go : (i : ℕ) → bit ((clause-of c) .positive) i ≡ true → (t : Bool) → bit ((clause-of c) .negative) i ≡ t → t ≡ false
-    go i e true f = absurd (one-way c i (o .once) (sym (clause-side c true i) ∙ e) (sym (clause-side c false i) ∙ f))
+    go i e true f = absurd (named-once c i (o .once) (sym (clause-side c true i) ∙ e) (sym (clause-side c false i) ∙ f))
     go i e false f = refl

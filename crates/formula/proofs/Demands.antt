@@ -1,24 +1,27 @@
 -- What reading and check owe to the demands (S10). Demand 1: any bytes at all are read as the one formula that they encode, or refused
 -- by the first check that fails. Demand 2: check tells models from other assignments.
-use Prim.Native.Nat.{ℕ, _≤_}
-use mathlib.Core.List.{List}
+use Prim.Native.Nat.{ℕ, _<_, _≤_}
+use mathlib.Core.List.{List, _++_, map}
 use mathlib.Core.Logic.{_↔_}
 use mathlib.Core.Path.{_≡_, refl, sym, ap, _∙_}
 use lib.ListN.{length}
 use Rattle.limits.specs.Limits.{max-variables}
 use Rattle.formula.specs.declared.Refusal.{Refusal}
-use Rattle.formula.specs.Format.{Literal, formula-bytes, Sized, max-bytes, Encodes}
+use Rattle.formula.specs.Format.{Literal, formula-bytes, Sized, without-repeats, max-bytes, Encodes}
 use Rattle.formula.specs.InnerDecode.{decode}
 use Rattle.formula.specs.Decoding.{readable, refused}
 use Rattle.formula.specs.Refusals.{table-row}
 use Rattle.formula.specs.Table.{Refuses}
-use Rattle.formula.specs.declared.Refusal.the-variants.{StrayVariable}
+use Rattle.formula.specs.declared.Refusal.the-variants.{Truncated, StrayVariable}
 use Rattle.formula.specs.Check.{VerdictValues, said-yes, said-no, verdict-refused, checked}
 use Rattle.formula.specs.Models.{ModelOf, NoModelOf, StrayOf}
 use Rattle.formula.proofs.CheckLaws.{checked-refused}
-use Rattle.formula.proofs.LengthLaws.{formula-le, fullest, fullest-length, fullest-encoded}
+use Rattle.formula.proofs.CutLaws.{cut-formula}
+use Rattle.formula.proofs.LengthLaws.{formula-le, encoded-le, fullest, fullest-length, fullest-sized, repeated, repeated-sized, repeated-length}
 use Rattle.formula.proofs.OutcomeLaws.{decode-gives, decode-means}
 use Rattle.formula.proofs.RefusalLaws.{given-number}
+use Rattle.formula.proofs.RepeatLaws.{encoded-sized, sized-encoded}
+use Rattle.formula.proofs.UniqueLaws.{formula-one}
 use Rattle.formula.proofs.VerdictLaws.{says, says-yes, says-no, says-stray, checked-model, checked-no-model, checked-stray}
 
 -- S10, demand 1: what is accepted is an encoded formula (S2), of that many variables and of those clauses
@@ -31,7 +34,7 @@ accepted-all s n cs = decode-gives s (readable n cs)
 
 -- S2.3: what is read keeps to the limits: 1 to 48 variables, at most 96 clauses over them, and in each of them no variable twice
 pub accepted-fits : (s : List ℕ) (n : ℕ) (cs : List (List Literal)) → decode s ≡ readable n cs → Sized n cs
-accepted-fits s n cs e = accepted-only s n cs e .sized
+accepted-fits s n cs e = encoded-sized (accepted-only s n cs e)
 
 -- S10, demand 1: a refusal is given only where its row of the table (S3.1) applies and no earlier check fails (S3.2)
 pub refused-only : (s : List ℕ) (r : Refusal) → decode s ≡ refused r → Refuses s r
@@ -41,21 +44,42 @@ refused-only s r e = rw e at (decode-means s)
 pub refused-all : (s : List ℕ) (r : Refusal) → Refuses s r → decode s ≡ refused r
 refused-all s r = decode-gives s (refused r)
 
--- S2.3: the length of the longest readable input, as a number
-pub longest-is : max-bytes ≡ 9315
-longest-is = refl
+-- S2.2: bytes are those of one number of variables and of one list of written clauses at most, and so encode one formula at most
+pub unique : (s : List ℕ) (n n′ : ℕ) (cs cs′ : List (List Literal)) (e : Encodes s n cs) (e′ : Encodes s n′ cs′)
+    → (n ≡ n′) × (e .written ≡ e′ .written) × (cs ≡ cs′)
+unique s n n′ cs cs′ e e′ =
+    let w = formula-one n n′ (e .written) (e′ .written) (sym (e .bytes) ∙ e′ .bytes) in
+    (w .0, w .1, e .read ∙ ap (map without-repeats) (w .1) ∙ sym (e′ .read))
 
--- none is longer
-pub longest : (s : List ℕ) (n : ℕ) (cs : List (List Literal)) → decode s ≡ readable n cs → length s ≤ max-bytes
-longest s n cs e = formula-le (accepted-only s n cs e)
+-- S2.3: for every number there is a readable input of more bytes
+pub unbounded : (k : ℕ) → (s : List ℕ) × (n : ℕ) × (cs : List (List Literal)) × (k < length s) × Encodes s n cs
+unbounded k = (
+  formula-bytes 1 (repeated k),
+  1,
+  map without-repeats (repeated k),
+  repeated-length k,
+  record { written = repeated k; bytes = refl; sized = repeated-sized k; read = refl },
+)
 
--- one has so many
-pub longest-exists : (s : List ℕ) × (cs : List (List Literal)) × (length s ≡ max-bytes) × (decode s ≡ readable max-variables cs)
-longest-exists = (formula-bytes max-variables fullest, fullest, fullest-length, accepted-all (formula-bytes max-variables fullest) max-variables fullest fullest-encoded)
+-- S2.3: the bytes of a formula as it is read encode it too; no bytes that encode it are fewer, and they are never more than 9,315
+pub shortest : (s : List ℕ) (n : ℕ) (cs : List (List Literal)) → Encodes s n cs
+    → Encodes (formula-bytes n cs) n cs × (length (formula-bytes n cs) ≤ length s) × (length (formula-bytes n cs) ≤ max-bytes)
+shortest s n cs e = let z = encoded-sized e in (sized-encoded z, encoded-le e, formula-le z)
 
--- S2: bytes encode one formula at most
-pub unique : (s : List ℕ) (n n′ : ℕ) (cs cs′ : List (List Literal)) → Encodes s n cs → Encodes s n′ cs′ → (n ≡ n′) × (cs ≡ cs′)
-unique s n n′ cs cs′ e e′ = let q : readable n cs ≡ readable n′ cs′ = sym (accepted-all s n cs e) ∙ accepted-all s n′ cs′ e′ in (cc, cc)
+-- which some are
+pub shortest-most : (cs : List (List Literal)) × Encodes (formula-bytes max-variables cs) max-variables cs × (length (formula-bytes max-variables cs) ≡ max-bytes)
+shortest-most = (fullest, sized-encoded fullest-sized, fullest-length)
+
+pub most-bytes : max-bytes ≡ 9315
+most-bytes = refl
+
+-- So repeats change no answer: an input is read as the shortest one of its formula is. The acts are told from what is read alone.
+pub repeats-nothing : (s : List ℕ) (n : ℕ) (cs : List (List Literal)) → Encodes s n cs → decode s ≡ decode (formula-bytes n cs)
+repeats-nothing s n cs e = accepted-all s n cs e ∙ sym (accepted-all (formula-bytes n cs) n cs (shortest s n cs e .0))
+
+-- S3.2: a readable input that is cut is refused by 2 at the length that is left
+pub cut : (s t : List ℕ) (n : ℕ) (cs : List (List Literal)) → Encodes (s ++ t) n cs → 0 < length t → decode s ≡ refused (Truncated (length s))
+cut s t n cs e h = refused-all s (Truncated (length s)) (cut-formula n (e .written) (e .sized) s t h (e .bytes))
 
 -- S3.2: reading gives the refusals 2 to 9 only
 pub numbers : (s : List ℕ) (r : Refusal) → decode s ≡ refused r → (2 ≤ table-row r .number) × (table-row r .number ≤ 9)

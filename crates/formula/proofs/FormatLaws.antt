@@ -1,16 +1,13 @@
--- Laws of the grammar: one more literal, one more clause.
+-- Laws of the grammar: bytes one after the other, and one more literal of a new variable.
 use Prim.Native.Nat.{ℕ, _<_}
-use mathlib.Core.Bool.{Bool, true, false, not, _||_, or-assoc, and-eq-true-iff, true≢false}
+use mathlib.Core.Bool.{true, false, not, _||_, or-assoc, and-eq-true-iff}
 use mathlib.Core.List.{List, [], _∷_, _++_, append-assoc}
 use mathlib.Core.Path.{_≡_, refl, sym, _∙_}
-use native.Mathlib.Omega.{arith}
 use borrow.Author.Tests.{not-true}
 use lib.Dec.{eqb}
-use lib.ListN.{length, length-append}
-use Rattle.limits.specs.Limits.{max-clauses}
 use Rattle.lists.proofs.EveryLaws.{every-append}
-use Rattle.lists.proofs.TestLaws.{eqb-comm}
-use Rattle.formula.specs.Format.{Literal, literals-bytes, clauses-bytes, names, distinct, ClauseOver, Sized}
+use Rattle.lists.proofs.TestLaws.{or-none, eqb-comm}
+use Rattle.formula.specs.Format.{Literal, literals-bytes, clauses-bytes, names, distinct, ClauseOver}
 
 -- the literals of two lists are written one list after the other
 pub literals-append : (c d : List Literal) → literals-bytes (c ++ d) ≡ literals-bytes c ++ literals-bytes d
@@ -30,10 +27,6 @@ unfolding names
 names-append [] d v = refl
 names-append (l ∷ c) d v = rw (names-append c d v, or-assoc)
 
-neither : (a b : Bool) → (a || b) ≡ false → (a ≡ false) × (b ≡ false)
-neither true b e = absurd (true≢false e)
-neither false b e = (refl, e)
-
 -- in a clause with no variable twice the first variable is not named again, and the rest has none twice
 pub distinct-rest : (l : Literal) (c : List Literal) → distinct (l ∷ c) ≡ true → (names c (l .variable) ≡ false) × (distinct c ≡ true)
 unfolding distinct
@@ -47,7 +40,7 @@ unfolding distinct names
 distinct-more [] l h k = refl
 distinct-more (x ∷ c) l h k =
     let a = distinct-rest x c h in
-    let b = neither (eqb (x .variable) (l .variable)) (names c (l .variable)) k in
+    let b = or-none (eqb (x .variable) (l .variable)) (names c (l .variable)) k in
     rw (distinct-more c l (a .1) (b .1), names-append c (l ∷ []) (x .variable), a .0, eqb-comm (l .variable) (x .variable), b .0)
 
 -- in a clause with no variable twice a variable is not named before its literal
@@ -56,21 +49,11 @@ unfolding names
 distinct-fresh [] l d h = refl
 distinct-fresh (x ∷ c) l d h =
     let a = distinct-rest x (c ++ (l ∷ d)) h in
-    let b = neither (names c (x .variable)) (eqb (l .variable) (x .variable) || names d (x .variable)) (sym (names-append c (l ∷ d) (x .variable)) ∙ a .0) in
-    let e = neither (eqb (l .variable) (x .variable)) (names d (x .variable)) (b .1) in
+    let b = or-none (names c (x .variable)) (eqb (l .variable) (x .variable) || names d (x .variable)) (sym (names-append c (l ∷ d) (x .variable)) ∙ a .0) in
+    let e = or-none (eqb (l .variable) (x .variable)) (names d (x .variable)) (b .1) in
     rw (eqb-comm (x .variable) (l .variable), e .0, distinct-fresh c l d (a .1))
 
 -- one more literal, of a variable below n that the clause has not named
 pub clause-more : {n : ℕ} {c : List Literal} (l : Literal) → ClauseOver n c → l .variable < n → names c (l .variable) ≡ false → ClauseOver n (c ++ (l ∷ []))
 clause-more {n} {c} l o h k =
     record { below = every-append (λ m. m .variable < n) c (l ∷ []) (o .below) (h, tt); once = distinct-more c l (o .once) k }
-
--- one more clause, where there are fewer than 96
-pub sized-more : {n : ℕ} {cs : List (List Literal)} {c : List Literal} → Sized n cs → ClauseOver n c → length cs < max-clauses → Sized n (cs ++ (c ∷ []))
-sized-more {n} {cs} {c} z o h =
-    record {
-      some = z .some;
-      most = z .most;
-      few = simp length-append (omega arith);
-      clauses = every-append (ClauseOver n) cs (c ∷ []) (z .clauses) (o, tt);
-    }

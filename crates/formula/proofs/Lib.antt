@@ -1,5 +1,6 @@
 pub mod CheckLaws
 pub mod ClauseLaws
+pub mod CutLaws
 pub mod DecodeLaws
 pub mod BoundLaws
 pub mod Demands
@@ -14,4 +15,6 @@ pub mod OneTo
 pub mod OutcomeLaws
 pub mod ReaderLaws
 pub mod RefusalLaws
+pub mod RepeatLaws
+pub mod UniqueLaws
 pub mod VerdictLaws

@@ -1,6 +1,6 @@
 -- Literals that are read without an event: what stands there, and what it makes of the reader.
 use Prim.Native.Nat.{ℕ, _+_, _-_, _≤_, _<_}
-use mathlib.Core.Bool.{true, false, _||_}
+use mathlib.Core.Bool.{true, false, not, _||_}
 use mathlib.Core.List.{List}
 use mathlib.Core.Logic.{⊎-elim}
 use mathlib.Core.Path.{_≡_}
@@ -15,7 +15,7 @@ use Rattle.formula.specs.declared.Event.the-variants.{Next}
 use Rattle.formula.specs.declared.Reader.{Reader}
 use Rattle.formula.specs.InnerDecode.{one-to}
 use Rattle.formula.specs.InnerReader.{variable-event, literal-event, record-event, literal-stands, literal-read, Passes}
-use Rattle.formula.specs.InnerFits.{clause-variables}
+use Rattle.formula.specs.InnerFits.{side}
 use Rattle.formula.proofs.OneTo.{one-to-least, one-to-most}
 use Rattle.formula.proofs.ReaderLaws.{whole, turn-next}
 
@@ -25,7 +25,7 @@ pub record Stands (s : List ℕ) (r : Reader) : Type 0 where
   pub inside : r .at + 1 < length s
   pub sign : eqb (getD s (r .at) 0) 2 || eqb (getD s (r .at) 0) 3 ≡ true
   pub within : one-to (r .variables) (getD s (r .at + 1) 0) ≡ true
-  pub fresh : bit (clause-variables (r .current)) (getD s (r .at + 1) 0 - 1) ≡ false
+  pub unopposed : bit (side (r .current) (not (eqb (getD s (r .at) 0) 2))) (getD s (r .at + 1) 0 - 1) ≡ false
 
 module _ (s : List ℕ) (r : Reader) (e : literal-stands s r ≡ true) where
   pub stands : Stands s r
@@ -38,7 +38,7 @@ module _ (s : List ℕ) (r : Reader) (e : literal-stands s r ≡ true) where
         inside = ltb-true (r .at + 1) (length s) (and-left _ _ a);
         sign = and-left _ _ b;
         within = and-left _ _ c;
-        fresh = not-true _ (and-right (one-to (r .variables) (getD s (r .at + 1) 0)) _ c);
+        unopposed = not-true _ (and-right (one-to (r .variables) (getD s (r .at + 1) 0)) _ c);
       }
 
   -- its variable's number
@@ -58,8 +58,8 @@ module _ (s : List ℕ) (r : Reader) (e : literal-stands s r ≡ true) where
       let l : r .at < length s = omega arith in
       let z : r .at ≡ 0 → ⊥ = λ q. omega arith in
       ⊎-elim
-      (λ a. rw (lt-ltb (r .at) (length s) l, eqb-true (getD s (r .at) 0) 2 a, ne-eqb (r .at) 0 z, lt-ltb (r .at + 1) (length s) i, w .within, w .fresh))
-      (λ a. rw (lt-ltb (r .at) (length s) l, eqb-true (getD s (r .at) 0) 3 a, ne-eqb (r .at) 0 z, lt-ltb (r .at + 1) (length s) i, w .within, w .fresh))
+      (λ a. let k = eqb-true (getD s (r .at) 0) 2 a in rw (lt-ltb (r .at) (length s) l, k, ne-eqb (r .at) 0 z, lt-ltb (r .at + 1) (length s) i, w .within, rw k at (w .unopposed)))
+      (λ a. let k = eqb-true (getD s (r .at) 0) 3 a in rw (lt-ltb (r .at) (length s) l, k, ne-eqb (r .at) 0 z, lt-ltb (r .at + 1) (length s) i, w .within, rw k at (w .unopposed)))
       (or-cases _ _ (w .sign))
 
 -- one literal more

@@ -18,6 +18,7 @@ use Rattle.formula.specs.InnerMasked.{no-clause, with-literals, clause-o
 use Rattle.formula.specs.InnerFits.{FormulaFits}
 use Rattle.formula.proofs.ClauseLaws.{clause-fits}
 use Rattle.formula.proofs.OutcomeLaws.{decode-means}
+use Rattle.formula.proofs.RepeatLaws.{encoded-sized}
 
 -- the masks of a formula fit
 pub formula-fits : {n : ℕ} {cs : List (List Literal)} → Sized n cs → FormulaFits (formula-of n cs)
@@ -44,14 +45,10 @@ pub record Accepts (s : List ℕ) (f : Formula) : Type 0 where
   pub fits : FormulaFits f
 
 accepts : (s : List ℕ) (x : Decoding) → decode s ≡ x → (held x) .outcome ≡ Accepted → Accepts s ((held x) .formula)
-accepts s (readable n cs) e o = let encoded : Encodes s n cs = rw e at (decode-means s) in record {
-  variables = n;
-  clauses = cs;
-  reads = e;
-  formula = refl;
-  sized = encoded .sized;
-  fits = formula-fits (encoded .sized);
-}
+accepts s (readable n cs) e o =
+    let encoded : Encodes s n cs = rw e at (decode-means s) in
+    let z = encoded-sized encoded in
+    record { variables = n; clauses = cs; reads = e; formula = refl; sized = z; fits = formula-fits z }
 accepts s (refused r) e o = let z : _≡_ {A = ℕ} 0 1 = cc in absurd (omega arith)
 
 pub decoded-accepted : (s : List ℕ) (d : Decoded) → d ≡ decoded s → d .outcome ≡ Accepted → Accepts s (d .formula)

@@ -1,7 +1,7 @@
 -- Every input is the bytes of a formula or one that a refusal is given for.
 use Prim.Native.Nat.{ℕ, zero, suc, _+_, _-_, _≤_, _<_}
 use mathlib.Core.Bool.{Bool, true, false}
-use mathlib.Core.List.{List, [], _∷_, _++_, append-assoc}
+use mathlib.Core.List.{List, [], _∷_, _++_, map, append-assoc}
 use mathlib.Core.Logic.{_⊎_, inl, inr, ⊎-elim}
 use mathlib.Core.Path.{_≡_, refl, sym, ap, _∙_}
 use native.Mathlib.Decide.{decLe, decLt}
@@ -9,18 +9,19 @@ use native.Mathlib.Omega.{arith}
 use lib.ListN.{length, length-append}
 use Rattle.limits.specs.Limits.{max-variables, max-clauses}
 use Rattle.formula.specs.declared.Refusal.{Refusal}
-use Rattle.formula.specs.declared.Refusal.the-variants.{Truncated, UnknownKind, Misplaced, BadVariableCount, NoSuchVariable, RepeatedVariable, TooManyClauses, TrailingByte}
-use Rattle.formula.specs.Format.{Literal, literal-kind, literal-bytes, names, distinct, Sized, Encodes}
+use Rattle.formula.specs.declared.Refusal.the-variants.{Truncated, UnknownKind, Misplaced, BadVariableCount, NoSuchVariable, ComplementaryLiteral, TooManyClauses, TrailingByte}
+use Rattle.formula.specs.Format.{Literal, literal-kind, literal-bytes, has-complement, without-repeats, WrittenSized, Encodes}
 use Rattle.formula.specs.InnerDecode.{decode}
 use Rattle.formula.specs.Decoding.{Decoding, readable, refused}
-use Rattle.formula.specs.Table.{Beginning, nothing, inside, written, Begins, MayStand, Given, no-kind, kind-unknown, kind-misplaced, no-body, count-bad, variable-unknown, variable-repeated, clause-extra, byte-extra, Refuses}
+use Rattle.formula.specs.Table.{Beginning, nothing, inside, written, Begins, MayStand, Given, no-kind, kind-unknown, kind-misplaced, no-body, count-bad, variable-unknown, literal-complementary, clause-extra, byte-extra, Refuses}
 use Rattle.formula.proofs.ExtendsLaws.{formula-written, Extends, count, literal, clause-end, extends-begins, extends-written, extends-longer}
 use Rattle.formula.proofs.DecodeLaws.{gives-stop, gives-formula, decode-after}
 use Rattle.formula.proofs.RefusalLaws.{each-kind, inner-stands, given-read}
+use Rattle.formula.proofs.RepeatLaws.{written-none}
 
 -- what may stand after a beginning: the last record of a formula, a record that is wrong, or one more record of the grammar
 data Front (len : ℕ) : Beginning → List ℕ → Type 0 where
-  ends : {n : ℕ} {cs : List (List Literal)} → Front len (inside n cs []) (5 ∷ [])
+  ends : {n : ℕ} {ws : List (List Literal)} → Front len (inside n ws []) (5 ∷ [])
   fails : {b : Beginning} {s : List ℕ} (r : Refusal) → Given len (length (written b)) b s r → Front len b s
   continues : {b b′ : Beginning} {x s : List ℕ} (t : List ℕ) → Extends b x b′ → s ≡ x ++ t → Front len b s
 
@@ -42,32 +43,34 @@ module _ (len : ℕ) where
       ⊎-elim (λ w. continues s (count n (w .0) (w .1)) refl) (λ o. fails (BadVariableCount 0) (count-bad n o)) (within max-variables n)
 
   -- kinds 2 and 3 after it
-  literal-front : (n : ℕ) (cs : List (List Literal)) (c : List Literal) (sign : Bool) (s : List ℕ) → MayStand (inside n cs c) (literal-kind sign)
-      → literal-kind sign ≤ 3 → Front len (inside n cs c) (literal-kind sign ∷ s)
+  literal-front : (n : ℕ) (ws : List (List Literal)) (w : List Literal) (sign : Bool) (s : List ℕ) → MayStand (inside n ws w) (literal-kind sign)
+      → literal-kind sign ≤ 3 → Front len (inside n ws w) (literal-kind sign ∷ s)
   unfolding literal-bytes
-  literal-front n cs c sign [] m l = fails (Truncated len) (no-body (literal-kind sign) m l)
-  literal-front n cs c sign (v ∷ s) m l = ⊎-elim (λ w. go (w .0) (w .1) (names c (v - 1)) refl) (λ o. fails (NoSuchVariable _) (variable-unknown n sign v o)) (within n v)
+  literal-front n ws w sign [] m k = fails (Truncated len) (no-body (literal-kind sign) m k)
+  literal-front n ws w sign (v ∷ s) m k = ⊎-elim (λ o. go (o .0) (o .1) (has-complement w l) refl) (λ o. fails (NoSuchVariable _) (variable-unknown n sign v o)) (within n v)
     where
-      go : 1 ≤ v → v ≤ n → (t : Bool) → names c (v - 1) ≡ t → Front len (inside n cs c) (literal-kind sign ∷ v ∷ s)
-      go h k true e = fails (RepeatedVariable _) (variable-repeated n sign v h k e)
+      l : Literal
+      l = record { variable = v - 1; positive = sign }
+
+      go : 1 ≤ v → v ≤ n → (t : Bool) → has-complement w l ≡ t → Front len (inside n ws w) (literal-kind sign ∷ v ∷ s)
+      go h k true e = fails (ComplementaryLiteral _) (literal-complementary n sign v h k e)
       go h k false e =
           let q : v - 1 + 1 ≡ v = omega arith in
-          let l : Literal = record { variable = v - 1; positive = sign } in
-          continues {s = literal-kind sign ∷ v ∷ s} s (literal {n = n} {cs = cs} {c = c} l (omega arith) e) (rw q)
+          continues {s = literal-kind sign ∷ v ∷ s} s (literal {n = n} {ws = ws} {w = w} l (omega arith) e) (rw q)
 
   -- kind 4
-  clause-front : (n : ℕ) (cs : List (List Literal)) (c : List Literal) (s : List ℕ) → Sized n cs → Front len (inside n cs c) (4 ∷ s)
-  clause-front n cs c s z = go (decLt (length cs) max-clauses)
+  clause-front : (n : ℕ) (ws : List (List Literal)) (w : List Literal) (s : List ℕ) → WrittenSized n ws → Front len (inside n ws w) (4 ∷ s)
+  clause-front n ws w s z = go (decLt (length ws) max-clauses)
     where
-      go : Dec (length cs < max-clauses) → Front len (inside n cs c) (4 ∷ s)
+      go : Dec (length ws < max-clauses) → Front len (inside n ws w) (4 ∷ s)
       go (yes h) = continues s (clause-end h) refl
-      go (no h) = fails (TooManyClauses _) (clause-extra cs (omega arith))
+      go (no h) = fails (TooManyClauses _) (clause-extra ws (omega arith))
 
   -- kind 5
-  formula-front : (n : ℕ) (cs : List (List Literal)) (c : List Literal) (s : List ℕ) → Front len (inside n cs c) (5 ∷ s)
-  formula-front n cs [] [] = ends
-  formula-front n cs [] (x ∷ s) = fails (TrailingByte _) (byte-extra x s)
-  formula-front n cs (l ∷ c) s = fails (Misplaced _) (kind-misplaced {b = inside n cs (l ∷ c)} 5 (omega arith) (omega arith) (λ m. omega (arith, ap length (m .2 refl))))
+  formula-front : (n : ℕ) (ws : List (List Literal)) (w : List Literal) (s : List ℕ) → Front len (inside n ws w) (5 ∷ s)
+  formula-front n ws [] [] = ends
+  formula-front n ws [] (x ∷ s) = fails (TrailingByte _) (byte-extra x s)
+  formula-front n ws (l ∷ w) s = fails (Misplaced _) (kind-misplaced {b = inside n ws (l ∷ w)} 5 (omega arith) (omega arith) (λ m. omega (arith, ap length (m .2 refl))))
 
   -- a beginning of the grammar is followed by one of the three
   front : (b : Beginning) → Begins b → (s : List ℕ) → Front len b s
@@ -78,11 +81,11 @@ module _ (len : ℕ) where
     where
       misplaced : (k : ℕ) → (2 ≤ k) × (k ≤ 5) → Front len nothing (k ∷ s)
       misplaced k h = fails (Misplaced 0) (kind-misplaced {b = nothing} k (omega arith) (omega arith) (λ m. omega arith))
-  front (inside n cs c) g (k ∷ s) =
-      each-kind (λ k. Front len (inside n cs c) (k ∷ s)) (fails (Misplaced _) (kind-misplaced 1 (omega arith) (omega arith) (λ (m : MayStand (inside n cs c) 1). omega arith)))
-      (literal-front n cs c true s (inner-stands n cs c 2 (omega arith) (omega arith)) (omega arith))
-      (literal-front n cs c false s (inner-stands n cs c 3 (omega arith) (omega arith)) (omega arith)) (clause-front n cs c s (g .0))
-      (formula-front n cs c s) (λ k o. fails (UnknownKind _) (kind-unknown k o)) k
+  front (inside n ws w) g (k ∷ s) =
+      each-kind (λ k. Front len (inside n ws w) (k ∷ s)) (fails (Misplaced _) (kind-misplaced 1 (omega arith) (omega arith) (λ (m : MayStand (inside n ws w) 1). omega arith)))
+      (literal-front n ws w true s (inner-stands n ws w 2 (omega arith) (omega arith)) (omega arith))
+      (literal-front n ws w false s (inner-stands n ws w 3 (omega arith) (omega arith)) (omega arith)) (clause-front n ws w s (g .0))
+      (formula-front n ws w s) (λ k o. fails (UnknownKind _) (kind-unknown k o)) k
 
 -- what a result of reading says of the input: it is the bytes of that formula, or that refusal is given for it
 abbrev pub DecodesTo : List ℕ → Decoding → Type 0
@@ -97,7 +100,8 @@ means-after s (suc k) b g rest l e = go (means-after s k) b g rest l e (front (l
   where
     go : ((b : Beginning) → Begins b → (rest : List ℕ) → length rest ≤ k → s ≡ written b ++ rest → (d : Decoding) × DecodesTo s d) → (b : Beginning)
         → Begins b → (rest : List ℕ) → length rest ≤ suc k → s ≡ written b ++ rest → Front (length s) b rest → (d : Decoding) × DecodesTo s d
-    go again b g rest l e (ends {n} {cs}) = (readable n cs, record { bytes = e ∙ formula-written n cs; sized = g .0 })
+    go again b g rest l e (ends {n} {ws}) =
+        (readable n (map without-repeats ws), record { written = ws; bytes = e ∙ formula-written n ws; sized = g .0; read = refl })
     go again b g rest l e (fails r w) = (refused r, record { before = b; begins = g; rest = rest; bytes = e; given = w })
     go again b g rest l e (continues {b′ = b′} {x = x} t w q) =
         again b′ (extends-begins w g) t (omega (arith, extends-longer w, ap length q ∙ length-append x t))
@@ -105,11 +109,11 @@ means-after s (suc k) b g rest l e = go (means-after s k) b g rest l e (front (l
 
 -- a result that says what the input is, is the one that reading gives
 pub decode-gives : (s : List ℕ) (d : Decoding) → DecodesTo s d → decode s ≡ d
-unfolding distinct
 decode-gives s (readable n cs) e =
-    decode-after (inside n cs []) (e .sized, record { below = tt; once = refl }) (5 ∷ []) (e .bytes ∙ sym (formula-written n cs)) (gives-formula (length s) n cs)
+    rw (e .read)
+    (decode-after (inside n (e .written) []) (e .sized, written-none) (5 ∷ []) (e .bytes ∙ sym (formula-written n (e .written))) (gives-formula (length s) n (e .written)))
 decode-gives s (refused r) e =
-    decode-after (e .before) (e .begins) (e .rest) (e .bytes) (gives-stop (given-read (length s) (e .given) refl))
+    decode-after (e .before) (e .begins) (e .rest) (e .bytes) (gives-stop (given-read (length s) (e .begins) (e .given) refl))
 
 -- what reading gives says what the input is
 pub decode-means : (s : List ℕ) → DecodesTo s (decode s)

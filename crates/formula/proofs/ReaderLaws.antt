@@ -1,6 +1,6 @@
 -- The reader over masks follows `decode` over written clauses.
 use Prim.Native.Nat.{ℕ, zero, suc, _+_, _-_, _≤_, _<_, zero-le}
-use mathlib.Core.Bool.{Bool, true, false, cond, _&&_}
+use mathlib.Core.Bool.{Bool, true, false, not, cond, _&&_}
 use mathlib.Core.List.{List, [], _∷_, _++_, map, map-append}
 use mathlib.Core.Path.{_≡_, refl, sym, ap, _∙_, subst}
 use native.Mathlib.Decide.{decLt}
@@ -15,13 +15,14 @@ use Rattle.formula.specs.declared.Event.{Event}
 use Rattle.formula.specs.declared.Event.the-variants.{Next, Finished, Stopped}
 use Rattle.formula.specs.declared.Reader.{Reader}
 use Rattle.formula.specs.declared.Refusal.{Refusal}
-use Rattle.formula.specs.declared.Refusal.the-variants.{Truncated, UnknownKind, Misplaced, BadVariableCount, NoSuchVariable, RepeatedVariable, TooManyClauses, TrailingByte}
-use Rattle.formula.specs.InnerDecode.{Kind, variable-count, literal, clause-end, formula-end, unknown, kind-of, known, allowed, Reading, reading-start, Step, next, stop, refuse, none-yet, one-to, after-kind, variable-count-body, literal-body, clause-ends, formula-ends, read-record, records, decode}
+use Rattle.formula.specs.declared.Refusal.the-variants.{Truncated, UnknownKind, Misplaced, BadVariableCount, NoSuchVariable, ComplementaryLiteral, TooManyClauses, TrailingByte}
+use Rattle.formula.specs.InnerDecode.{Kind, variable-count, literal, clause-end, formula-end, unknown, kind-of, known, allowed, Reading, reading-start, Step, next, stop, refuse, none-yet, one-to, after-kind, variable-count-body, literal-added, literal-body, clause-ends, formula-ends, read-record, records, decode}
 use Rattle.formula.specs.Decoding.{readable, refused}
-use Rattle.formula.specs.Format.{Literal, names}
+use Rattle.formula.specs.Format.{Literal, names-as}
 use Rattle.formula.specs.InnerReader.{count-event, variable-event, literal-event, end-event, finish-event, kind-event, record-event, reader-of, Reads}
-use Rattle.formula.proofs.ClauseLaws.{with-literals-last, clause-names, clause-empty}
+use Rattle.formula.proofs.ClauseLaws.{clause-side, clause-empty}
 use Rattle.formula.proofs.OneTo.{one-to-most}
+use Rattle.formula.proofs.RepeatLaws.{add-masks}
 use Rattle.formula.specs.InnerMasked.{no-clause, with-literals, clause-of, held}
 use Rattle.formula.specs.declared.Outcome.the-variants.{Accepted}
 use Rattle.lists.specs.Padded.{padded}
@@ -101,24 +102,14 @@ module _ (s : List ℕ) (g : Reading) (small : g .variables ≤ max-variables) (
 
   -- the literal of variable v
   variable-follows : (v : ℕ) (sign : Bool) → g .at + 1 < length s
-      → Follows s g (variable-event (reader-of g) v sign)
-      (cond (names (g .current) v)
-      (refuse (RepeatedVariable (g .at)))
-      (next
-      (record {
-        at = g .at + 2;
-        variables = g .variables;
-        ended = g .ended;
-        current = g .current ++ (record { variable = v; positive = sign } ∷ []);
-      })
-      (drop (g .at + 2) s)))
+      → Follows s g (variable-event (reader-of g) v sign) (literal-added g (record { variable = v; positive = sign }) (drop (g .at + 2) s))
   unfolding variable-event
   variable-follows v sign l =
-      rw (clause-names (g .current) v)
-      (by-test (names (g .current) v)
-      (λ _. stops (RepeatedVariable (g .at)))
-      (λ _. goes
-      (ap (λ (c : Clause). record { at = g .at + 2; variables = g .variables; count = length (g .ended); current = c }) (sym (with-literals-last no-clause (g .current) (record { variable = v; positive = sign }))))
+      rw (clause-side (g .current) (not sign) v)
+      (by-test (names-as (g .current) v (not sign))
+      (λ _. stops (ComplementaryLiteral (g .at)))
+      (λ e. goes
+      (ap (λ (c : Clause). record { at = g .at + 2; variables = g .variables; count = length (g .ended); current = c }) (sym (add-masks (g .current) (record { variable = v; positive = sign }) e)))
       (past 2 (omega arith))
       (omega arith)
       small

@@ -1,21 +1,22 @@
 -- What the reader makes of a record that is wrong.
 use Prim.Native.Nat.{ℕ, zero, suc, _-_, _≤_, _<_}
-use mathlib.Core.Bool.{Bool, true, false, _&&_, and-false}
+use mathlib.Core.Bool.{Bool, true, false, not, _&&_, and-false}
 use mathlib.Core.List.{List, [], _∷_}
 use mathlib.Core.Logic.{_⊎_, inl, inr}
-use mathlib.Core.Path.{_≡_, refl, ap}
+use mathlib.Core.Path.{_≡_, refl, ap, _∙_}
 use native.Mathlib.Omega.{arith}
 use borrow.Author.Tests.{lt-ltb, le-ltb, le-leb, lt-leb, ne-eqb}
 use lib.Dec.{ltb, leb}
-use lib.ListN.{length}
+use lib.ListN.{length, length-map}
 use Rattle.limits.specs.Limits.{max-variables, max-clauses}
 use Rattle.formula.specs.declared.Refusal.{Refusal}
-use Rattle.formula.specs.declared.Refusal.the-variants.{Truncated, UnknownKind, Misplaced, NoSuchVariable, RepeatedVariable}
-use Rattle.formula.specs.Format.{Literal, literal-kind, names}
+use Rattle.formula.specs.declared.Refusal.the-variants.{Truncated, UnknownKind, Misplaced, NoSuchVariable, ComplementaryLiteral}
+use Rattle.formula.specs.Format.{Literal, literal-kind, has-complement, without-repeats}
 use Rattle.formula.specs.InnerDecode.{Reading, reading-start, refuse, read-record}
 use Rattle.formula.specs.Refusals.{table-row}
-use Rattle.formula.specs.Table.{Beginning, nothing, inside, written, MayStand, Given, no-kind, kind-unknown, kind-misplaced, no-body, count-bad, variable-unknown, variable-repeated, clause-extra, byte-extra}
+use Rattle.formula.specs.Table.{Beginning, nothing, inside, written, Begins, MayStand, Given, no-kind, kind-unknown, kind-misplaced, no-body, count-bad, variable-unknown, literal-complementary, clause-extra, byte-extra}
 use Rattle.formula.proofs.DecodeLaws.{reading-of, reading-at}
+use Rattle.formula.proofs.RepeatLaws.{read-names-as, read-none}
 
 -- a number outside 1 to n fails the reader's test
 outside : (n v : ℕ) → (v < 1) ⊎ (n < v) → (ltb 0 v && leb v n) ≡ false
@@ -67,7 +68,7 @@ module _ (len : ℕ) where
     where
       last : (d : List Literal) → (d ≡ [] → ⊥) → read-record len (reading-of (inside n cs d)) (5 ∷ s) ≡ refuse (Misplaced (length (written (inside n cs d))))
       last [] m = absurd (m refl)
-      last (l ∷ d) m = rw (and-false (ltb 0 (length (written (inside n cs (l ∷ d))))))
+      last (l ∷ d) m = rw (read-none (l ∷ d), and-false (ltb 0 (length (written (inside n cs (l ∷ d))))))
 
   -- 2: a kind that has a body, and no byte after it
   body-read : (b : Beginning) (k : ℕ) → MayStand b k → k ≤ 3 → read-record len (reading-of b) (k ∷ []) ≡ refuse (Truncated len)
@@ -85,27 +86,30 @@ module _ (len : ℕ) where
   variable-read r true v s h o = rw (lt-ltb 0 (r .at) h, outside (r .variables) v o)
   variable-read r false v s h o = rw (lt-ltb 0 (r .at) h, outside (r .variables) v o)
 
-  -- 7: a variable that the clause has named
-  repeated-read : (r : Reading) (sign : Bool) (v : ℕ) (s : List ℕ) → 0 < r .at → 1 ≤ v → v ≤ r .variables → names (r .current) (v - 1) ≡ true
-      → read-record len r (literal-kind sign ∷ v ∷ s) ≡ refuse (RepeatedVariable (r .at))
+  -- 7: a literal whose complement the clause has
+  complement-read : (r : Reading) (sign : Bool) (v : ℕ) (s : List ℕ) → 0 < r .at → 1 ≤ v → v ≤ r .variables
+      → has-complement (r .current) (record { variable = v - 1; positive = sign }) ≡ true
+      → read-record len r (literal-kind sign ∷ v ∷ s) ≡ refuse (ComplementaryLiteral (r .at))
   unfolding read-record
-  repeated-read r true v s h l k f = rw (lt-ltb 0 (r .at) h, lt-ltb 0 v l, le-leb v (r .variables) k, f)
-  repeated-read r false v s h l k f = rw (lt-ltb 0 (r .at) h, lt-ltb 0 v l, le-leb v (r .variables) k, f)
+  complement-read r true v s h l k f = rw (lt-ltb 0 (r .at) h, lt-ltb 0 v l, le-leb v (r .variables) k, f)
+  complement-read r false v s h l k f = rw (lt-ltb 0 (r .at) h, lt-ltb 0 v l, le-leb v (r .variables) k, f)
 
   -- a record that a refusal is given for is refused so
-  pub given-read : {b : Beginning} {at : ℕ} {s : List ℕ} {r : Refusal} → Given len at b s r → at ≡ length (written b)
+  pub given-read : {b : Beginning} {at : ℕ} {s : List ℕ} {r : Refusal} → Begins b → Given len at b s r → at ≡ length (written b)
       → read-record len (reading-of b) s ≡ refuse r
-  unfolding read-record
-  given-read no-kind e = refl
-  given-read (kind-unknown {b} {s} k h) e = rw (e, ← reading-at b) (unknown-read (reading-of b) k s h)
-  given-read (kind-misplaced {b} {s} k h l m) e = rw e (misplaced-read b k s h l m)
-  given-read (no-body {b} k m l) e = body-read b k m l
-  given-read (count-bad {s} n h) e = rw (e, outside max-variables n h)
-  given-read (variable-unknown {cs} {c} {s} n sign v h) e = rw e (variable-read (reading-of (inside n cs c)) sign v s (omega arith) h)
-  given-read (variable-repeated {cs} {c} {s} n sign v h l k) e = rw e (repeated-read (reading-of (inside n cs c)) sign v s (omega arith) h l k)
-  given-read (clause-extra {n} {c} {s} cs h) e =
-      rw (e, lt-ltb 0 (length (written (inside n cs c))) (omega arith), le-ltb (length cs) max-clauses (omega arith))
-  given-read (byte-extra {n} {cs} x s) e = rw (e, lt-ltb 0 (length (written (inside n cs []))) (omega arith))
+  unfolding read-record without-repeats
+  given-read g no-kind e = refl
+  given-read g (kind-unknown {b} {s} k h) e = rw (e, ← reading-at b) (unknown-read (reading-of b) k s h)
+  given-read g (kind-misplaced {b} {s} k h l m) e = rw e (misplaced-read b k s h l m)
+  given-read g (no-body {b} k m l) e = body-read b k m l
+  given-read g (count-bad {s} n h) e = rw (e, outside max-variables n h)
+  given-read g (variable-unknown {ws} {w} {s} n sign v h) e = rw e (variable-read (reading-of (inside n ws w)) sign v s (omega arith) h)
+  given-read g (literal-complementary {ws} {w} {s} n sign v h l k) e =
+      let f = read-names-as w (g .1 .one-way) (v - 1) (not sign) ∙ k in
+      rw e (complement-read (reading-of (inside n ws w)) sign v s (omega arith) h l f)
+  given-read g (clause-extra {n} {w} {s} ws h) e =
+      rw (e, lt-ltb 0 (length (written (inside n ws w))) (omega arith), length-map ws without-repeats, le-ltb (length ws) max-clauses (omega arith))
+  given-read g (byte-extra {n} {ws} x s) e = rw (e, lt-ltb 0 (length (written (inside n ws []))) (omega arith))
 
 -- a refusal of the reader has a number from 2 to 9
 pub given-number : {len at : ℕ} {b : Beginning} {s : List ℕ} {r : Refusal} → Given len at b s r → (2 ≤ table-row r .number) × (table-row r .number ≤ 9)
@@ -115,6 +119,6 @@ given-number (kind-misplaced k h l m) = omega arith
 given-number (no-body k m l) = omega arith
 given-number (count-bad n h) = omega arith
 given-number (variable-unknown n sign v h) = omega arith
-given-number (variable-repeated n sign v h l k) = omega arith
+given-number (literal-complementary n sign v h l k) = omega arith
 given-number (clause-extra cs h) = omega arith
 given-number (byte-extra x s) = omega arith

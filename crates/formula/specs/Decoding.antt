@@ -5,7 +5,7 @@ use mathlib.Core.List.{List}
 use Rattle.formula.specs.declared.Refusal.{Refusal}
 use Rattle.formula.specs.Format.{Literal}
 
--- what reading gives: a number of variables and the clauses as they were written, or a refusal
+-- what reading gives: a number of variables and the clauses, in written order and without repeats, or a refusal
 pub data Decoding : Type 0 where
   readable : ℕ → List (List Literal) → Decoding
   refused : Refusal → Decoding

@@ -1,8 +1,9 @@
 -- S2: an encoded formula (request: sheet) as a grammar. A formula is a number of variables and a list of clauses (S2.4); a clause
--- (request: rule) is the list of its literals in written order. Variables count from 0: in the format, variable v is v + 1.
+-- (request: rule) is the list of its literals in written order. A written clause may repeat a literal, and what is read of it has each
+-- once. Variables count from 0: in the format, variable v is v + 1.
 use Prim.Native.Nat.{ℕ, _+_, _*_, _<_, _≤_}
-use mathlib.Core.Bool.{Bool, true, false, not, _&&_, _||_, Bool·beq}
-use mathlib.Core.List.{List, [], _∷_, _++_}
+use mathlib.Core.Bool.{Bool, true, false, not, cond, _&&_, _||_, Bool·beq}
+use mathlib.Core.List.{List, [], _∷_, _++_, map, foldl}
 use mathlib.Core.Path.{_≡_}
 use lib.Dec.{eqb}
 use lib.ListN.{length}
@@ -66,15 +67,45 @@ pub record Sized (n : ℕ) (cs : List (List Literal)) : Type 0 where
   pub few : length cs ≤ max-clauses
   pub clauses : Every (ClauseOver n) cs
 
--- the bytes of a clause that names every variable: two for each, and kind 4
+-- ---- S2.2: what is written, and what is read of it
+
+-- the clause has the literal's complement: it names the variable the other way
+abbrev pub has-complement : List Literal → Literal → Bool
+has-complement c l = names-as c (l .variable) (not (l .positive))
+
+-- the clause with one literal more: as it is if it names the variable, else with the literal at its end
+unfoldable pub add : List Literal → Literal → List Literal
+add c l = cond (names c (l .variable)) c (c ++ (l ∷ []))
+
+-- what is read of a written clause: each literal once, at its first place
+unfoldable pub without-repeats : List Literal → List Literal
+without-repeats w = foldl add [] w
+
+-- a written clause over the variables below n, none named both ways
+pub record WrittenOver (n : ℕ) (w : List Literal) : Type 0 where
+  pub below : Every (λ l. l .variable < n) w
+  pub one-way : (v : ℕ) → names-as w v true && names-as w v false ≡ false
+
+-- S2.3: 1 to 48 variables and at most 96 written clauses over them
+pub record WrittenSized (n : ℕ) (ws : List (List Literal)) : Type 0 where
+  pub some : 1 ≤ n
+  pub most : n ≤ max-variables
+  pub few : length ws ≤ max-clauses
+  pub clauses : Every (WrittenOver n) ws
+
+-- a readable input is the bytes of written clauses, and the formula that it encodes is what is read of them
+pub record Encodes (s : List ℕ) (n : ℕ) (cs : List (List Literal)) : Type 0 where
+  pub written : List (List Literal)
+  pub bytes : s ≡ formula-bytes n written
+  pub sized : WrittenSized n written
+  pub read : cs ≡ map without-repeats written
+
+-- ---- S2.3: without repeats
+
+-- the bytes of a clause that names every variable once: two for each, and kind 4
 abbrev pub max-clause-bytes : ℕ
 max-clause-bytes = 2 * max-variables + 1
 
--- S2.3: the bytes of the longest readable input: kind 1 with its number, the most clauses of the most bytes, kind 5
+-- the most bytes of a readable input without repeats: kind 1 with its number, the most clauses of the most bytes, kind 5
 abbrev pub max-bytes : ℕ
 max-bytes = 2 + max-clauses * max-clause-bytes + 1
-
--- a readable input is the bytes of such a formula
-pub record Encodes (s : List ℕ) (n : ℕ) (cs : List (List Literal)) : Type 0 where
-  pub bytes : s ≡ formula-bytes n cs
-  pub sized : Sized n cs

@@ -7,8 +7,8 @@ use lib.Dec.{eqb, leb, ltb}
 use lib.ListN.{length}
 use Rattle.limits.specs.Limits.{max-variables, max-clauses}
 use Rattle.formula.specs.declared.Refusal.{Refusal}
-use Rattle.formula.specs.declared.Refusal.the-variants.{Truncated, UnknownKind, Misplaced, BadVariableCount, NoSuchVariable, RepeatedVariable, TooManyClauses, TrailingByte}
-use Rattle.formula.specs.Format.{Literal, names}
+use Rattle.formula.specs.declared.Refusal.the-variants.{Truncated, UnknownKind, Misplaced, BadVariableCount, NoSuchVariable, ComplementaryLiteral, TooManyClauses, TrailingByte}
+use Rattle.formula.specs.Format.{Literal, has-complement, add}
 use Rattle.formula.specs.Decoding.{Decoding, readable, refused}
 
 -- S2.1: the kinds 1 to 5, and any other byte
@@ -29,7 +29,7 @@ kind-of (suc (suc (suc (suc (suc zero))))) = formula-end
 kind-of (suc (suc (suc (suc (suc (suc k)))))) = unknown
 
 -- where reading stands: the offset of the next record, the number of variables once kind 1 is read, the clauses that have
--- ended, and the literals of the one that has not
+-- ended, and what is read of the one that has not
 pub record Reading : Type 0 where
   pub at : ℕ
   pub variables : ℕ
@@ -72,22 +72,18 @@ variable-count-body len r (n ∷ s) =
     (next (record { at = r .at + 2; variables = n; ended = r .ended; current = r .current }) s)
     (refuse (BadVariableCount (r .at)))
 
--- the body of a literal, kind 2 or 3: a variable, 1 to n (else 6), that this clause has not named (else 7)
+-- a literal of a variable that the formula has: its complement is not in the clause (else 7), and the clause has it from here on
+abbrev pub literal-added : Reading → Literal → List ℕ → Step
+literal-added r l s =
+    cond (has-complement (r .current) l)
+    (refuse (ComplementaryLiteral (r .at)))
+    (next (record { at = r .at + 2; variables = r .variables; ended = r .ended; current = add (r .current) l }) s)
+
+-- the body of a literal, kind 2 or 3: a variable, 1 to n (else 6)
 abbrev pub literal-body : ℕ → Reading → Bool → List ℕ → Step
 literal-body len r sign [] = refuse (Truncated len)
 literal-body len r sign (b ∷ s) =
-    cond (one-to (r .variables) b)
-    (cond (names (r .current) (b - 1))
-    (refuse (RepeatedVariable (r .at)))
-    (next
-    (record {
-      at = r .at + 2;
-      variables = r .variables;
-      ended = r .ended;
-      current = r .current ++ (record { variable = b - 1; positive = sign } ∷ []);
-    })
-    s))
-    (refuse (NoSuchVariable (r .at)))
+    cond (one-to (r .variables) b) (literal-added r (record { variable = b - 1; positive = sign }) s) (refuse (NoSuchVariable (r .at)))
 
 -- kind 4: at most 96 clauses (else 8)
 abbrev pub clause-ends : Reading → List ℕ → Step

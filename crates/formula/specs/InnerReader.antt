@@ -12,10 +12,10 @@ use Rattle.formula.specs.declared.Clause.{Clause}
 use Rattle.formula.specs.declared.Event.{Event}
 use Rattle.formula.specs.declared.Event.the-variants.{Next, Finished, Stopped}
 use Rattle.formula.specs.declared.Reader.{Reader}
-use Rattle.formula.specs.declared.Refusal.the-variants.{Truncated, UnknownKind, Misplaced, BadVariableCount, NoSuchVariable, RepeatedVariable, TooManyClauses, TrailingByte}
+use Rattle.formula.specs.declared.Refusal.the-variants.{Truncated, UnknownKind, Misplaced, BadVariableCount, NoSuchVariable, ComplementaryLiteral, TooManyClauses, TrailingByte}
 use Rattle.formula.specs.InnerDecode.{Kind, variable-count, literal, clause-end, formula-end, unknown, kind-of, one-to, Reading, records, decode}
 use Rattle.formula.specs.InnerMasked.{no-clause, with-literal, clause-of}
-use Rattle.formula.specs.InnerFits.{clause-variables}
+use Rattle.formula.specs.InnerFits.{clause-variables, side}
 
 -- kind 1
 unfoldable pub count-event : List ℕ → Reader → Event
@@ -31,8 +31,8 @@ count-event s r =
 -- a literal of variable v
 unfoldable pub variable-event : Reader → ℕ → Bool → Event
 variable-event r v sign =
-    cond (bit (clause-variables (r .current)) v)
-    (Stopped (RepeatedVariable (r .at)))
+    cond (bit (side (r .current) (not sign)) v)
+    (Stopped (ComplementaryLiteral (r .at)))
     (Next (record { at = r .at + 2; variables = r .variables; count = r .count; current = with-literal (r .current) v sign }))
 
 -- kinds 2 and 3
@@ -80,7 +80,7 @@ record-event s r =
 abbrev pub literal-stands : List ℕ → Reader → Bool
 literal-stands s r =
     ltb 0 (r .at) && (ltb (r .at + 1) (length s) && ((eqb (getD s (r .at) 0) 2 || eqb (getD s (r .at) 0) 3)
-    && (one-to (r .variables) (getD s (r .at + 1) 0) && not (bit (clause-variables (r .current)) (getD s (r .at + 1) 0 - 1)))))
+    && (one-to (r .variables) (getD s (r .at + 1) 0) && not (bit (side (r .current) (not (eqb (getD s (r .at) 0) 2))) (getD s (r .at + 1) 0 - 1)))))
 
 -- the reader behind it
 abbrev pub literal-read : List ℕ → Reader → Reader

@@ -1,7 +1,7 @@
 -- S3.1: the number and the place of each refusal.
 use Prim.Native.Nat.{ℕ}
 use Rattle.formula.specs.declared.Refusal.{Refusal}
-use Rattle.formula.specs.declared.Refusal.the-variants.{ShortBuffer, Truncated, UnknownKind, Misplaced, BadVariableCount, NoSuchVariable, RepeatedVariable, TooManyClauses, TrailingByte, Unmatched, ForeignCheckpoint, StrayVariable}
+use Rattle.formula.specs.declared.Refusal.the-variants.{ShortBuffer, Truncated, UnknownKind, Misplaced, BadVariableCount, NoSuchVariable, ComplementaryLiteral, TooManyClauses, TrailingByte, Unmatched, ForeignCheckpoint, StrayVariable}
 
 pub record TableRow : Type 0 where
   pub number : ℕ
@@ -16,7 +16,7 @@ table-row (UnknownKind p) = record { number = 3; place = p }
 table-row (Misplaced p) = record { number = 4; place = p }
 table-row (BadVariableCount p) = record { number = 5; place = p }
 table-row (NoSuchVariable p) = record { number = 6; place = p }
-table-row (RepeatedVariable p) = record { number = 7; place = p }
+table-row (ComplementaryLiteral p) = record { number = 7; place = p }
 table-row (TooManyClauses p) = record { number = 8; place = p }
 table-row (TrailingByte p) = record { number = 9; place = p }
 table-row (Unmatched p) = record { number = 10; place = p }

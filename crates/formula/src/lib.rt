@@ -5,11 +5,13 @@ ghost use mathlib.Core.Path.{_≡_};
 ghost use Prim.Native.Nat.{_+_, _<_, _≤_, _^_};
 ghost use lib.Dec.{eqb};
 ghost use lib.ListN.{length, getD};
+ghost use mathlib.Core.Bool.{not};
 ghost use mathlib.Core.List.{[]};
 ghost use Rattle.limits.specs.Limits.{max-variables, max-clauses};
 ghost use Rattle.formula.specs.Check.{verdict-values, checked};
 ghost use Rattle.formula.specs.InnerCheck.{clause-holds, clauses-hold};
 ghost use Rattle.formula.specs.InnerMasked.{no-clause, with-literal, formula-of, held, decoded};
+ghost use Rattle.formula.specs.InnerFits.{side};
 ghost use Rattle.formula.specs.Decoding.{refused};
 ghost use Rattle.formula.specs.Refusals.{table-row};
 ghost use Rattle.formula.specs.InnerReader.{count-event, variable-event, literal-event, end-event, finish-event, literal-stands, literal-read, record-event, PassesLiterals};
@@ -35,7 +37,7 @@ pub enum Refusal {
     Misplaced(usize),
     BadVariableCount(usize),
     NoSuchVariable(usize),
-    RepeatedVariable(usize),
+    ComplementaryLiteral(usize),
     TooManyClauses(usize),
     TrailingByte(usize),
     Unmatched(usize),
@@ -122,6 +124,13 @@ fn add_literal(c: Clause, v: usize, sign: bool) -> Clause
     }
 }
 
+// The variables that the clause names the other way.
+fn other_side(c: Clause, sign: bool) -> u64
+    ensures { λ r. ⌜ r ≡ side c (not sign) ⌝ }
+{
+    if sign { c.negative } else { c.positive }
+}
+
 // Kind 1.
 fn read_count(input: &[u8], r: Reader) -> Event
     requires { ⌜ r .at < length (now input) ⌝ }
@@ -150,14 +159,14 @@ fn read_count(input: &[u8], r: Reader) -> Event
     })
 }
 
-// A literal of variable v.
+// A literal of variable v. A repeat of one that the clause has changes nothing in its masks.
 fn read_variable(r: Reader, v: usize, sign: bool) -> Event
     requires { ⌜ (v < 64) × (r .at + 2 < 2 ^ 64) ⌝ }
     ensures { λ e. ⌜ e ≡ variable-event r v sign ⌝ }
 {
     let current = r.current;
-    if masks::member(current.positive | current.negative, v) {
-        return Event::Stopped(Refusal::RepeatedVariable(r.at));
+    if masks::member(other_side(current, sign), v) {
+        return Event::Stopped(Refusal::ComplementaryLiteral(r.at));
     }
     Event::Next(Reader {
         variables: r.variables,
@@ -248,6 +257,16 @@ fn read_record(input: &[u8], r: Reader) -> Event
     }
 }
 
+// The sign of a literal of this kind.
+fn is_positive(kind: u8) -> bool
+    ensures { λ x. ⌜ x ≡ eqb kind 2 ⌝ }
+{
+    match kind {
+        2 => true,
+        0 | 1 | 3..=255 => false,
+    }
+}
+
 // The record is a literal that can be read.
 fn is_literal(input: &[u8], r: Reader) -> bool
     requires { ⌜ (r .at ≤ length (now input)) × (r .variables ≤ max-variables) ⌝ }
@@ -275,17 +294,7 @@ fn is_literal(input: &[u8], r: Reader) -> bool
         return false;
     }
     let current = r.current;
-    !masks::member(current.positive | current.negative, wide(b) - 1)
-}
-
-// The sign of a literal of this kind.
-fn is_positive(kind: u8) -> bool
-    ensures { λ x. ⌜ x ≡ eqb kind 2 ⌝ }
-{
-    match kind {
-        2 => true,
-        0 | 1 | 3..=255 => false,
-    }
+    !masks::member(other_side(current, is_positive(kind)), wide(b) - 1)
 }
 
 // A literal that can be read is read.
@@ -381,7 +390,7 @@ pub fn number_of(refusal: Refusal) -> u64
         Refusal::Misplaced(_) => 4,
         Refusal::BadVariableCount(_) => 5,
         Refusal::NoSuchVariable(_) => 6,
-        Refusal::RepeatedVariable(_) => 7,
+        Refusal::ComplementaryLiteral(_) => 7,
         Refusal::TooManyClauses(_) => 8,
         Refusal::TrailingByte(_) => 9,
         Refusal::Unmatched(_) => 10,
@@ -401,7 +410,7 @@ pub fn place_of(refusal: Refusal) -> usize
         Refusal::Misplaced(p) => p,
         Refusal::BadVariableCount(p) => p,
         Refusal::NoSuchVariable(p) => p,
-        Refusal::RepeatedVariable(p) => p,
+        Refusal::ComplementaryLiteral(p) => p,
         Refusal::TooManyClauses(p) => p,
         Refusal::TrailingByte(p) => p,
         Refusal::Unmatched(p) => p,

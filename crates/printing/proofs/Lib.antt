@@ -1,3 +1,4 @@
+pub mod Demands
 pub mod GoingLaws
 pub mod LineLaws
 pub mod PrintLaws

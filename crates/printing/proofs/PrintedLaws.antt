@@ -18,7 +18,7 @@ use Rattle.formula.specs.Decoding.{refused}
 use Rattle.formula.specs.Format.{Literal, ClauseOver, Sized, Encodes}
 use Rattle.formula.specs.Masked.{variables}
 use Rattle.formula.specs.Refusals.{table-row}
-use Rattle.formula.specs.Table.{Beginning, written, Given, no-kind, kind-unknown, kind-misplaced, no-body, count-bad, variable-unknown, variable-repeated, clause-extra, byte-extra}
+use Rattle.formula.specs.Table.{Beginning, written, Given, no-kind, kind-unknown, kind-misplaced, no-body, count-bad, variable-unknown, literal-complementary, clause-extra, byte-extra}
 use Rattle.formula.proofs.ClauseLaws.{variables-lt}
 use Rattle.formula.proofs.Demands.{accepted-only, accepted-all, accepted-fits, refused-only, numbers}
 use Rattle.matching.specs.Sets.{union}
@@ -131,7 +131,7 @@ place-le (kind-misplaced k l m o) h = omega arith
 place-le (no-body k m l) h = omega arith
 place-le (count-bad n o) h = omega arith
 place-le (variable-unknown n sign v o) h = omega arith
-place-le (variable-repeated n sign v l m o) h = omega arith
+place-le (literal-complementary n sign v l m o) h = omega arith
 place-le (clause-extra cs l) h = omega arith
 place-le (byte-extra x s) h = omega arith
 

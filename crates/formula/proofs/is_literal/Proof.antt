@@ -78,6 +78,12 @@ returns-6 c =
     let a = entry k .args in
     rw (lt-ltb 0 (a .r .at) (past k), lt-ltb (a .r .at + 1) (length (a .input .now)) (inside k), signed m, one-to-above _ _ (c .if6 .taken))
 
+is-positive-requires : tie.Need-is-positive-requires
+is-positive-requires c κs = search needs
+
+other-side-requires : tie.Need-other-side-requires
+other-side-requires c κs = search needs
+
 wide-requires : tie.Need-wide-requires
 wide-requires c κs = search needs
 
@@ -89,7 +95,8 @@ member-requires c κs = search needs
 
 returns-7 : tie.Need-returns-7
 returns-7 c =
-    let e = c .before .before .before .before in
+    let o = c .before .before in
+    let e = o .before .before .before in
     let m = e .before .before .before .before in
     let k = m .before .before in
     let a = entry k .args in
@@ -100,6 +107,8 @@ returns-7 c =
       one-to-within _ _ (e .before .before .if5 .left) (e .if6 .left),
       c .member .ensures,
       c .before .wide .ensures,
+      o .other-side .ensures,
+      o .before .is-positive .ensures,
     )
 
 pub is-literal-spec : {M : Type 1} → statement M
@@ -116,6 +125,8 @@ is-literal-spec =
     shared-slice-read-b
     returns-5
     returns-6
+    is-positive-requires
+    other-side-requires
     wide-requires
     sub-member
     member-requires

@@ -5,12 +5,15 @@ use borrow.Author.Needs.{needs}
 use Rattle.formula.proofs.read_variable.Statement.{statement}
 use Rattle.formula.proofs.read_variable.Tie as tie
 
+other-side-requires : tie.Need-other-side-requires
+other-side-requires c κs = search needs
+
 member-requires : tie.Need-member-requires
 member-requires c κs = search needs
 
 returns : tie.Need-returns
 unfolding variable-event
-returns c = simp (sym (c .before .member .ensures) ∙ c .if1 .taken)
+returns c = simp (← (c .before .before .other-side .ensures), sym (c .before .member .ensures) ∙ c .if1 .taken)
 
 add-t8 : tie.Need-add-t8
 add-t8 c = search needs
@@ -20,8 +23,10 @@ add-literal-requires c κs = search needs
 
 returns-2 : tie.Need-returns-2
 unfolding variable-event
-returns-2 c = simp (sym (c .before .before .before .member .ensures) ∙ c .before .before .if1 .left, c .add-literal .ensures)
+returns-2 c =
+    let m = c .before .before .before in
+    simp (← (m .before .other-side .ensures), sym (m .member .ensures) ∙ c .before .before .if1 .left, c .add-literal .ensures)
 
 pub read-variable-spec : {M : Type 1} → statement M
 read-variable-spec =
-    tie.close (tie.spec member-requires returns add-t8 add-literal-requires returns-2)
+    tie.close (tie.spec other-side-requires member-requires returns add-t8 add-literal-requires returns-2)
