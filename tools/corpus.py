@@ -2,7 +2,7 @@
 """corpus.py VECTORS: write the corpus of the program cases, crates/cases/data/, and its expected output, crates/cases/stdout.
 
 VECTORS has one JSON object a line: "act", its input and the expected answer. Vectors of an act that has no coder below are
-left out. If a vector or all of them don't fit the format, that is said and nothing is written.
+left out. So is one that does not fit the format, and that is said. If all of them together don't fit, nothing is written.
 
 Format. A file holds vectors of one act, one after the other, and nothing else; it has at most 65,536 bytes, so an act has
 files NAMEa, NAMEb, .., at most 26; start has one, start, and the edge cases of an act have one, NAME_edges. Numbers are
@@ -56,7 +56,8 @@ Own fields of walk, 121 bytes:
     4 bytes   the budget
 
 A chain of VECTORS is a list of calls on one input, which may be empty: here a vector of walk for each call, with the number of
-the chain; the first gets the start checkpoint and each other what the call before it returned. A chain stands in one file.
+the chain; the first gets the start checkpoint and each other what the call before it returned. Where a chain goes on in a further
+file, the first call there gets the checkpoint that the call before it must return.
 
 A further act is a coder in ACTS, and in the program a case of `Act`, its file names and a reader of its own fields.
 """
@@ -77,14 +78,21 @@ WRITTEN = 96  # bytes of the array that judge may write
 START, LAST = 1, 2  # the checkpoint that a walk call gets, if it is not given
 
 
+class DoesNotFit(Exception):
+    """A vector that the format has no room for."""
+
+
 def little(x, size):
+    if x >> 8 * size:
+        raise DoesNotFit(f'{x:,} takes more than {size} bytes')
     return x.to_bytes(size, 'little')
 
 
 def coded(number, given, answer, fields):
-    if len(given) >= LIMIT:
-        sys.exit(f'vector {number}: its input takes {len(given):,} bytes, and at most {LIMIT - 1:,} fit')
-    return little(number, 2) + little(len(given), 2) + given + answer + fields
+    vector = little(number, 2) + little(len(given), 2) + given + answer + fields
+    if LIMIT < len(vector):
+        raise DoesNotFit(f'it has {len(vector):,} bytes, more than a file')
+    return vector
 
 
 def answer_of(says, refusal=0, place=0, n=0, m=0):
@@ -104,10 +112,10 @@ def walk_fields(model, steps, expansions, returned, origin, budget):
     return little(model, 8) + little(steps, 4) + little(expansions, 4) + returned + little(flag, 1) + given + little(budget, 4)
 
 
-# The coder of an act gives the vectors that stand together in one file.
+# The coder of an act gives groups of vectors, each of which stands in one file.
 def check_vector(number, v):
     answer = answer_of(SAYS[v['answer']], *(v['refusal'] or ()))
-    return [coded(number, bytes.fromhex(v['sheet']), answer, little(int(v['setup'], 16), 8))]
+    return [[coded(number, bytes.fromhex(v['sheet']), answer, little(int(v['setup'], 16), 8))]]
 
 
 def judge_vector(number, v):
@@ -115,26 +123,31 @@ def judge_vector(number, v):
     assert len(after) == length and all(b == fill for b in after[WRITTEN:])
     says, refusal = (REFUSED, v['refusal']) if v['refusal'] else (MATCHED, (0, 0))
     answer = answer_of(says, *refusal, v['n'], v['m'])
-    return [coded(number, bytes.fromhex(v['sheet']), answer, judge_fields(length, fill, after[:WRITTEN]))]
+    return [[coded(number, bytes.fromhex(v['sheet']), answer, judge_fields(length, fill, after[:WRITTEN]))]]
 
 
 def start_vector(number, v):
-    return [coded(number, b'', b'', bytes.fromhex(v['marker']))]
+    return [[coded(number, b'', b'', bytes.fromhex(v['marker']))]]
 
 
 def walk_vector(number, v):
     answer = answer_of(SAYS[v['answer']], *(v['refusal'] or ()))
     fields = walk_fields(int(v['setup'], 16), v['moves'], v['reaches'], bytes.fromhex(v['marker_out']),
                          bytes.fromhex(v['marker']), v['budget'])
-    return [coded(number, bytes.fromhex(v['sheet']), answer, fields)]
+    return [[coded(number, bytes.fromhex(v['sheet']), answer, fields)]]
 
 
 def chain_vector(number, v):
-    calls = []
+    given, first, groups = bytes.fromhex(v['sheet']), START, [[]]
     for budget, answer, model, returned, steps, expansions in v['calls']:
-        fields = walk_fields(int(model, 16), steps, expansions, bytes.fromhex(returned), LAST if calls else START, budget)
-        calls.append(coded(number, bytes.fromhex(v['sheet']), answer_of(SAYS[answer]), fields))
-    return calls
+        def call(origin):
+            fields = walk_fields(int(model, 16), steps, expansions, bytes.fromhex(returned), origin, budget)
+            return coded(number, given, answer_of(SAYS[answer]), fields)
+        if LIMIT < sum(map(len, groups[-1])) + len(call(first)):
+            groups.append([])
+        groups[-1].append(call(LAST if groups[-1] else first))
+        first = bytes.fromhex(returned)
+    return groups
 
 
 def printed_text(number, given, text):
@@ -144,7 +157,7 @@ def printed_text(number, given, text):
 
 
 def printed_vector(number, v):
-    return [printed_text(number, bytes.fromhex(v['stdin']), v['stdout'])]
+    return [[printed_text(number, bytes.fromhex(v['stdin']), v['stdout'])]]
 
 
 ACTS = {'check': check_vector, 'judge': judge_vector, 'start': start_vector, 'walk': walk_vector, 'chain': chain_vector,
@@ -202,7 +215,7 @@ def formula_vector(number, given):
     formula = read(given)
     compared = formula is not None and formula[0] <= 12 and matchable(formula[1])
     answer = answer_of(LISTED, place=models(*formula)) if compared else answer_of(NOT_COMPARED)
-    return [coded(number, given, answer, b'')]
+    return [[coded(number, given, answer, b'')]]
 
 
 # Edge cases. The expected answers are written here by hand, from docs/SPECIFICATION.md.
@@ -611,14 +624,10 @@ def edge_vectors(act):
 def files_of(name, names, groups):
     """The groups joined into as few files as the limit allows, in order, each whole in a file: by the files' names."""
     files = [b'']
-    for g in groups:
-        v = b''.join(g)
-        if LIMIT < len(v):
-            number = int.from_bytes(v[:2], 'little')
-            sys.exit(f'{name}: {len(v):,} bytes from vector {number} on belong into one file, and at most {LIMIT:,} fit')
-        if LIMIT < len(files[-1]) + len(v):
+    for group in map(b''.join, groups):
+        if LIMIT < len(files[-1]) + len(group):
             files.append(b'')
-        files[-1] += v
+        files[-1] += group
     if len(names) < len(files):
         sys.exit(f'{name}: {len(files)} files are needed, and {len(names)} may be written')
     return dict(zip(names, files))
@@ -628,16 +637,24 @@ def groups_of(lines):
     """By act, and for formulas, the groups of vectors that stand together."""
     groups = {act: [] for act in [*ACTS, 'formulas']}
     inputs = set()
+
+    def add(name, coder, number, given):
+        try:
+            groups[name] += coder(number, given)
+        except DoesNotFit as why:
+            print(f'{name}: vector {number} is left out: {why}')
+
     for number, line in enumerate(lines, 1):
         if LINES < number:
             sys.exit(f'there are more than {LINES:,} vectors')
         v = json.loads(line)
         if v['act'] in ACTS:
-            groups[v['act']].append(ACTS[v['act']](number, v))
-        given = v.get('sheet', v.get('stdin'))
-        if given is not None and given not in inputs:
-            inputs.add(given)
-            groups['formulas'].append(formula_vector(number, bytes.fromhex(given)))
+            add(v['act'], ACTS[v['act']], number, v)
+        if 'sheet' in v or 'stdin' in v:
+            given = bytes.fromhex(v['sheet']) if 'sheet' in v else bytes.fromhex(v['stdin'])[:READ]
+            if given not in inputs:
+                inputs.add(given)
+                add('formulas', formula_vector, number, given)
     return groups
 
 
@@ -650,7 +667,7 @@ def main():
         names = [act] if act == 'start' else [act + letter for letter in LETTERS]
         sets.append((act, names, found, 'calls' if act == 'chain' else 'vectors'))
         if act in EDGES:
-            sets.append((f'{act}_edges', [f'{act}_edges'], [edge_vectors(act)], 'vectors'))
+            sets.append((f'{act}_edges', [f'{act}_edges'], [[v] for v in edge_vectors(act)], 'vectors'))
     files, report = {}, ''
     for name, names, found, unit in sets:
         files |= files_of(name, names, found)

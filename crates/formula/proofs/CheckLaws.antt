@@ -1,4 +1,4 @@
--- Clauses as masks hold where clauses as written hold.
+-- Clauses as masks hold where clauses as lists of literals hold.
 use Prim.Native.Nat.{ℕ, zero, suc, _+_, _≤_, _<_}
 use mathlib.Core.Bool.{Bool, true, false, not, cond, _&&_, _||_, Bool·beq, or-assoc, or-false, and-assoc, and-false, and-true}
 use mathlib.Core.List.{List, [], _∷_, map}

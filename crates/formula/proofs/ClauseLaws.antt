@@ -1,4 +1,4 @@
--- The masks of a written clause: what they name, their two sides, and that they fit.
+-- The masks of a clause: what they name, their two sides, and that they fit.
 use Prim.Native.Nat.{ℕ, _^_, _<_}
 use mathlib.Core.Bool.{Bool, true, false, _&&_, _||_, Bool·beq, true≢false, or-assoc, or-comm, or-false, or-true, and-false, and-true}
 use mathlib.Core.List.{List, [], _∷_, _++_}

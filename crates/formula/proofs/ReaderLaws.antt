@@ -1,4 +1,4 @@
--- The reader over masks follows `decode` over written clauses.
+-- The reader over masks follows `decode` over lists of literals.
 use Prim.Native.Nat.{ℕ, zero, suc, _+_, _-_, _≤_, _<_, zero-le}
 use mathlib.Core.Bool.{Bool, true, false, not, cond, _&&_}
 use mathlib.Core.List.{List, [], _∷_, _++_, map, map-append}

@@ -82,7 +82,7 @@ raised-one [] = refl
 raised-one (x ∷ l) = rw (add-one x) (ap (λ (r : List ℕ). suc x ∷ r) (raised-one l))
 
 module _ (n : ℕ) (cs : List (List Literal)) (z : Sized n cs) (f : Formula) (q : f ≡ formula-of n cs) (m : Matching) (e : m ≡ packed (f .count) (outcome (sets f))) where
-  -- the matching is that of the written clauses
+  -- the matching is that of the clauses told as lists
   of-clauses : m ≡ packed (length cs) (outcome (map variables cs))
   of-clauses = e ∙ rw (q, formula-sets z)
 

@@ -1,4 +1,4 @@
--- Pairings of written clauses are matchings of their masks.
+-- Pairings of clauses told as lists are matchings of their masks.
 use Prim.Native.Nat.{ℕ, _^_, _≤_, _<_}
 use mathlib.Core.List.{List, [], map}
 use mathlib.Core.Path.{_≡_, sym, ap, _∙_}

@@ -1,4 +1,4 @@
--- The choice over masks is the choice over written clauses.
+-- The choice over masks is the choice over lists of literals.
 use Prim.Native.Nat.{ℕ, zero, suc, _+_, _≤_, _<_}
 use mathlib.Core.Path.{_≡_, refl, sym, _∙_, ap, ap₂, subst}
 use mathlib.Core.Bool.{Bool, true, false, not, cond, _&&_, _||_, or-assoc, or-false}
@@ -330,7 +330,7 @@ module _ (n : ℕ) (cs : List (List Literal)) (fits : n ≤ 64) (low : Below n c
       same : (x : ℕ) → bit (minus scope (assigned (assignment-of t))) x ≡ unassigned-of scope t x
       same x = bit-minus scope (assigned (assignment-of t)) x ∙ ap (λ (b : Bool). bit scope x && not b) (assigned-trail t x)
 
-  -- The choice over masks is the choice over written clauses, wherever a variable is left to assign.
+  -- The choice over masks is the choice over lists of literals, wherever a variable is left to assign.
   pub chosen-choice : (t : List Literal) (scope : ℕ) → Trail n t → ((v : ℕ) → bit scope v ≡ true → v < n) → (v : ℕ) → unassigned-of scope t v ≡ true
       → mask-choice f scope (assignment-of t) ≡ choice n scope cs t
   unfolding mask-choice choice survey-from

@@ -1,4 +1,4 @@
--- The survey, the matching and the dropping of written clauses, over their masks.
+-- The survey, the matching and the dropping of clauses told as lists, over their masks.
 use Prim.Native.Nat.{ℕ}
 use mathlib.Core.Path.{_≡_, refl, sym, _∙_, ap}
 use mathlib.Core.Bool.{Bool, true, false, not, xor, cond, _||_, or-assoc, or-false}

@@ -1,4 +1,4 @@
--- The clauses at a node, over masks and over written clauses, are the same.
+-- The clauses at a node, over masks and over lists of literals, are the same.
 use Prim.Native.Nat.{ℕ, zero, suc, _≤_}
 use mathlib.Core.Path.{_≡_, refl, sym, _∙_, ap}
 use mathlib.Core.Bool.{Bool, true, false, not, cond, _&&_, _||_, or-assoc, or-false, or-true, and-false, and-true}
@@ -78,7 +78,7 @@ less-masks v c =
     clause-same (clause-of (less v c)) (less-mask v (clause-of c))
     (λ sign i. clause-side (less v c) sign i ∙ less-names v c sign i ∙ sym (less-side v (clause-of c) sign i ∙ ap (λ (b : Bool). b && not (eqb i v)) (clause-side c sign i)))
 
--- an assignment of written clauses is one of their masks
+-- an assignment of clauses told as lists is one of their masks
 assign-of-masks : (v : ℕ) (b : Bool) (cs : List (List Literal)) → map clause-of (assign v b cs) ≡ assign-masks v b (map clause-of cs)
 unfolding assign assign-masks
 assign-of-masks v b [] = refl
