@@ -1,13 +1,14 @@
 -- What reading and check owe to the demands (S10). Demand 1: any bytes at all are read as the one formula that they encode, or refused
 -- by the first check that fails. Demand 2: check tells models from other assignments.
 use Prim.Native.Nat.{ℕ, _<_, _≤_}
+use mathlib.Core.Bool.{Bool}
 use mathlib.Core.List.{List, _++_, map}
 use mathlib.Core.Logic.{_↔_}
 use mathlib.Core.Path.{_≡_, refl, sym, ap, _∙_}
 use lib.ListN.{length}
 use Rattle.limits.specs.Limits.{max-variables}
 use Rattle.formula.specs.declared.Refusal.{Refusal}
-use Rattle.formula.specs.Format.{Literal, formula-bytes, Sized, without-repeats, max-bytes, Encodes}
+use Rattle.formula.specs.Format.{Literal, formula-bytes, names-as, ClauseOver, Sized, without-repeats, WrittenOver, max-bytes, Encodes}
 use Rattle.formula.specs.InnerDecode.{decode}
 use Rattle.formula.specs.Decoding.{readable, refused}
 use Rattle.formula.specs.Refusals.{table-row}
@@ -20,7 +21,7 @@ use Rattle.formula.proofs.CutLaws.{cut-formula}
 use Rattle.formula.proofs.LengthLaws.{formula-le, encoded-le, fullest, fullest-length, fullest-sized, repeated, repeated-sized, repeated-length}
 use Rattle.formula.proofs.OutcomeLaws.{decode-gives, decode-means}
 use Rattle.formula.proofs.RefusalLaws.{given-number}
-use Rattle.formula.proofs.RepeatLaws.{encoded-sized, sized-encoded}
+use Rattle.formula.proofs.RepeatLaws.{read-names-as, read-over, encoded-sized, sized-encoded}
 use Rattle.formula.proofs.UniqueLaws.{formula-one}
 use Rattle.formula.proofs.VerdictLaws.{says, says-yes, says-no, says-stray, checked-model, checked-no-model, checked-stray}
 
@@ -32,7 +33,7 @@ accepted-only s n cs e = rw e at (decode-means s)
 pub accepted-all : (s : List ℕ) (n : ℕ) (cs : List (List Literal)) → Encodes s n cs → decode s ≡ readable n cs
 accepted-all s n cs = decode-gives s (readable n cs)
 
--- S2.3: what is read keeps to the limits: 1 to 48 variables, at most 96 clauses over them, and in each of them no variable twice
+-- S1.2: what is read keeps to the limits: 1 to 48 variables, at most 96 clauses over them, and in each of them no variable twice
 pub accepted-fits : (s : List ℕ) (n : ℕ) (cs : List (List Literal)) → decode s ≡ readable n cs → Sized n cs
 accepted-fits s n cs e = encoded-sized (accepted-only s n cs e)
 
@@ -43,6 +44,11 @@ refused-only s r e = rw e at (decode-means s)
 -- and wherever that is so
 pub refused-all : (s : List ℕ) (r : Refusal) → Refuses s r → decode s ≡ refused r
 refused-all s r = decode-gives s (refused r)
+
+-- S2.2: what is read of a written clause names what the clause names, each way, and has no variable twice
+pub read-names : (n : ℕ) (w : List Literal) → WrittenOver n w
+    → ((v : ℕ) (sign : Bool) → names-as (without-repeats w) v sign ≡ names-as w v sign) × ClauseOver n (without-repeats w)
+read-names n w o = (read-names-as w (o .one-way), read-over o)
 
 -- S2.2: bytes are those of one number of variables and of one list of written clauses at most, and so encode one formula at most
 pub unique : (s : List ℕ) (n n′ : ℕ) (cs cs′ : List (List Literal)) (e : Encodes s n cs) (e′ : Encodes s n′ cs′)
@@ -74,8 +80,8 @@ pub most-bytes : max-bytes ≡ 9315
 most-bytes = refl
 
 -- So repeats change no answer: an input is read as the shortest one of its formula is. The acts are told from what is read alone.
-pub repeats-nothing : (s : List ℕ) (n : ℕ) (cs : List (List Literal)) → Encodes s n cs → decode s ≡ decode (formula-bytes n cs)
-repeats-nothing s n cs e = accepted-all s n cs e ∙ sym (accepted-all (formula-bytes n cs) n cs (shortest s n cs e .0))
+pub read-as-shortest : (s : List ℕ) (n : ℕ) (cs : List (List Literal)) → Encodes s n cs → decode s ≡ decode (formula-bytes n cs)
+read-as-shortest s n cs e = accepted-all s n cs e ∙ sym (accepted-all (formula-bytes n cs) n cs (shortest s n cs e .0))
 
 -- S3.2: a readable input that is cut is refused by 2 at the length that is left
 pub cut : (s t : List ℕ) (n : ℕ) (cs : List (List Literal)) → Encodes (s ++ t) n cs → 0 < length t → decode s ≡ refused (Truncated (length s))

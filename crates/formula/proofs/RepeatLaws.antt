@@ -232,7 +232,7 @@ read-same c d = fold-same [] c d
 -- ---- within the limits
 
 -- what is read of a written clause is a clause
-read-over : {n : ℕ} {w : List Literal} → WrittenOver n w → ClauseOver n (without-repeats w)
+pub read-over : {n : ℕ} {w : List Literal} → WrittenOver n w → ClauseOver n (without-repeats w)
 unfolding without-repeats distinct
 read-over {n} {w} o = record { below = fold-every (λ l. l .variable < n) [] w tt (o .below); once = fold-distinct [] w refl }
 

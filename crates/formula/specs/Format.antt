@@ -60,7 +60,7 @@ pub record ClauseOver (n : ℕ) (c : List Literal) : Type 0 where
   pub below : Every (λ l. l .variable < n) c
   pub once : distinct c ≡ true
 
--- S2.3: 1 to 48 variables and at most 96 clauses over them
+-- S1.2: 1 to 48 variables and at most 96 clauses over them
 pub record Sized (n : ℕ) (cs : List (List Literal)) : Type 0 where
   pub some : 1 ≤ n
   pub most : n ≤ max-variables
@@ -73,7 +73,7 @@ pub record Sized (n : ℕ) (cs : List (List Literal)) : Type 0 where
 abbrev pub has-complement : List Literal → Literal → Bool
 has-complement c l = names-as c (l .variable) (not (l .positive))
 
--- the clause with one literal more: as it is if it names the variable, else with the literal at its end
+-- the clause with one literal more, whose complement it has not: as it is if it names the variable, else with the literal at its end
 unfoldable pub add : List Literal → Literal → List Literal
 add c l = cond (names c (l .variable)) c (c ++ (l ∷ []))
 
@@ -86,7 +86,7 @@ pub record WrittenOver (n : ℕ) (w : List Literal) : Type 0 where
   pub below : Every (λ l. l .variable < n) w
   pub one-way : (v : ℕ) → names-as w v true && names-as w v false ≡ false
 
--- S2.3: 1 to 48 variables and at most 96 written clauses over them
+-- S1.2: 1 to 48 variables and at most 96 written clauses over them
 pub record WrittenSized (n : ℕ) (ws : List (List Literal)) : Type 0 where
   pub some : 1 ≤ n
   pub most : n ≤ max-variables
