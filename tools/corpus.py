@@ -590,8 +590,6 @@ WHOLE = '01 02' + 8190 * ' 02 01' + ' 04 05'  # the clause (1) in 16,384 bytes, 
 WHOLE_TEXT = 'switches 2 rules 1\n10 2 0\n11 2 0\nend 2 0\n'
 PRINTED_EDGES = [
     (WHOLE, WHOLE_TEXT),
-    # a byte that the program never sees
-    (WHOLE + ' 05', WHOLE_TEXT),
     # cut before the clause's end
     (MANY, 'refused 2 16384\n'),
 ]

@@ -82,6 +82,7 @@ marked-cases = record {
   both-ways = λ b l. rw (le-ltb (length b) max-clauses l);
   named-twice = refl;
   repeated = refl;
+  first-place = refl;
   complement-after-repeat = refl;
   clause-not-ended = refl;
   tail-byte = refl;

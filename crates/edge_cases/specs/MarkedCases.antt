@@ -102,6 +102,8 @@ pub record MarkedCases : Type 0 where
   pub named-twice : refusal-of (decode (1 ∷ 2 ∷ 2 ∷ 1 ∷ 3 ∷ 1 ∷ 4 ∷ 5 ∷ [])) ≡ number-at 7 4
   -- a clause (1, 1): read as the clause (1)
   pub repeated : decode (1 ∷ 2 ∷ 2 ∷ 1 ∷ 2 ∷ 1 ∷ 4 ∷ 5 ∷ []) ≡ readable 2 ((on 1 ∷ []) ∷ [])
+  -- a clause (1, ¬2, 1): read as the clause (1, ¬2), each literal at its first place
+  pub first-place : decode (1 ∷ 2 ∷ 2 ∷ 1 ∷ 3 ∷ 2 ∷ 2 ∷ 1 ∷ 4 ∷ 5 ∷ []) ≡ readable 2 ((on 1 ∷ off 2 ∷ []) ∷ [])
   -- a clause (1, 1, ¬1): 7 at its third literal, offset 6
   pub complement-after-repeat : refusal-of (decode (1 ∷ 2 ∷ 2 ∷ 1 ∷ 2 ∷ 1 ∷ 3 ∷ 1 ∷ 4 ∷ 5 ∷ [])) ≡ number-at 7 6
   -- kind 5 after a literal, with no kind 4 between: 4 at offset 4

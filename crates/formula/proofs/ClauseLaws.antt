@@ -1,14 +1,13 @@
 -- The masks of a clause: what they name, their two sides, and that they fit.
 use Prim.Native.Nat.{ℕ, _^_, _<_}
-use mathlib.Core.Bool.{Bool, true, false, _&&_, _||_, Bool·beq, true≢false, or-assoc, or-comm, or-false, or-true, and-false, and-true}
+use mathlib.Core.Bool.{Bool, true, false, not, _&&_, _||_, Bool·beq, or-assoc, or-comm, or-false, and-false, and-true}
 use mathlib.Core.List.{List, [], _∷_, _++_}
-use mathlib.Core.Logic.{_⊎_, inl, inr, ⊎-elim}
 use mathlib.Core.Path.{_≡_, refl, sym, ap, _∙_}
 use lib.Dec.{eqb}
 use lib.Pow.{pow-pos}
 use borrow.Author.Tests.{eqb-true, eq-eqb, ne-eqb}
 use Rattle.lists.specs.Every.{Every}
-use Rattle.lists.proofs.TestLaws.{and-left, and-right, or-cases, or-swap, eqb-comm}
+use Rattle.lists.proofs.TestLaws.{or-none, or-swap, eqb-comm}
 use Rattle.masks.specs.Mask.{bit}
 use Rattle.masks.proofs.BitLaws.{bit-or, bit-pow, bit-with, bit-none, with-lt}
 use Rattle.masks.proofs.MeetLaws.{apart-of}
@@ -19,7 +18,7 @@ use Rattle.formula.specs.Format.{Literal, names, names-as, distinct, Cla
 use Rattle.formula.specs.Masked.{variables}
 use Rattle.formula.specs.InnerMasked.{no-clause, with-literal, with-literals, clause-of}
 use Rattle.formula.specs.InnerFits.{clause-variables, side, ClauseFits}
-use Rattle.formula.proofs.FormatLaws.{distinct-rest}
+use Rattle.formula.proofs.FormatLaws.{names-either, distinct-rest}
 
 -- ---- what the masks name
 
@@ -31,7 +30,7 @@ with-literals-last c [] l = refl
 with-literals-last c (k ∷ ls) l = with-literals-last (with-literal c (k .variable) (k .positive)) ls l
 
 -- a literal more names its variable and what was named
-pub with-literal-names : (c : Clause) (v : ℕ) (sign : Bool) (i : ℕ) → bit (clause-variables (with-literal c v sign)) i ≡ bit (clause-variables c) i || eqb i v
+with-literal-names : (c : Clause) (v : ℕ) (sign : Bool) (i : ℕ) → bit (clause-variables (with-literal c v sign)) i ≡ bit (clause-variables c) i || eqb i v
 with-literal-names c v true i =
     simp (bit-or, bit-pow) (or-swap (bit (c .positive) i) (bit (c .negative) i) (eqb i v))
 with-literal-names c v false i =
@@ -48,7 +47,7 @@ with-literals-names c (l ∷ ls) v =
     ∙ or-assoc (bit (clause-variables c) v) (eqb (l .variable) v) (names ls v)
 
 -- the masks of a clause name what its literals name
-pub clause-names : (c : List Literal) (v : ℕ) → bit (clause-variables (clause-of c)) v ≡ names c v
+clause-names : (c : List Literal) (v : ℕ) → bit (clause-variables (clause-of c)) v ≡ names c v
 clause-names c v =
     let e : bit (clause-variables no-clause) v ≡ false = bit-none v in
     with-literals-names no-clause c v ∙ rw e
@@ -122,46 +121,48 @@ empty-below n false = pow-pos n
 
 -- what is named one way is named
 pub named-as : (c : List Literal) (v : ℕ) (sign : Bool) → names-as c v sign ≡ true → names c v ≡ true
-unfolding names names-as
-named-as [] v sign e = e
-named-as (l ∷ c) v sign e =
-    ⊎-elim
-    (λ (h : eqb (l .variable) v && Bool·beq (l .positive) sign ≡ true). rw (and-left (eqb (l .variable) v) (Bool·beq (l .positive) sign) h))
-    (λ (h : names-as c v sign ≡ true). rw (named-as c v sign h) (or-true (eqb (l .variable) v)))
-    (or-cases (eqb (l .variable) v && Bool·beq (l .positive) sign) (names-as c v sign) e)
+named-as c v sign e = names-either c v sign ∙ rw e
 
-one-sign : (b : Bool) → Bool·beq b true ≡ true → Bool·beq b false ≡ true → ⊥
-one-sign true p q = true≢false (sym q)
-one-sign false p q = true≢false (sym p)
+-- no variable is named both ways
+abbrev pub OneWay : List Literal → Type 0
+OneWay c = (v : ℕ) → names-as c v true && names-as c v false ≡ false
 
--- a clause that names no variable twice names none both ways
-pub named-once : (c : List Literal) (v : ℕ) → distinct c ≡ true → names-as c v true ≡ true → names-as c v false ≡ true → ⊥
-unfolding names-as
-named-once [] v d p q = true≢false (sym p)
-named-once (l ∷ c) v d p q =
-    go (or-cases (is true) (names-as c v true) p) (or-cases (is false) (names-as c v false) q) (named-once c v (distinct-rest l c d .1))
+-- then what is named one way is not named the other
+pub other-way : (c : List Literal) → OneWay c → (v : ℕ) (sign : Bool) → names-as c v sign ≡ true → names-as c v (not sign) ≡ false
+other-way c o v true e = rw e at (o v)
+other-way c o v false e = go (names-as c v true) (rw e at (o v))
   where
-    is : Bool → Bool
-    is sign = eqb (l .variable) v && Bool·beq (l .positive) sign
+    go : (x : Bool) → x && true ≡ false → x ≡ false
+    go true q = q
+    go false q = refl
 
-    clash : (s t : Bool) → is s ≡ true → names-as c v t ≡ true → ⊥
-    clash s t h k =
-        true≢false
-        (sym (named-as c v t k) ∙ ap (names c) (sym (eqb-true (l .variable) v (and-left (eqb (l .variable) v) (Bool·beq (l .positive) s) h))) ∙ distinct-rest l c d .0)
+-- so it is where no variable is named twice
+pub one-way-distinct : (c : List Literal) → distinct c ≡ true → OneWay c
+unfolding names-as
+one-way-distinct [] d v = refl
+one-way-distinct (l ∷ c) d v = go (eqb (l .variable) v) refl (one-way-distinct c (distinct-rest l c d .1) v)
+  where
+    unnamed : eqb (l .variable) v ≡ true → (sign : Bool) → names-as c v sign ≡ false
+    unnamed e sign =
+        let none : names c v ≡ false = rw (eqb-true (l .variable) v e) at (distinct-rest l c d .0) in
+        or-none (names-as c v sign) (names-as c v (not sign)) (sym (names-either c v sign) ∙ none) .0
 
-    go : (is true ≡ true) ⊎ (names-as c v true ≡ true) → (is false ≡ true) ⊎ (names-as c v false ≡ true)
-        → (names-as c v true ≡ true → names-as c v false ≡ true → ⊥) → ⊥
-    go (inl h) (inl k) ih = one-sign (l .positive) (and-right (eqb (l .variable) v) (Bool·beq (l .positive) true) h) (and-right (eqb (l .variable) v) (Bool·beq (l .positive) false) k)
-    go (inl h) (inr k) ih = clash true false h k
-    go (inr h) (inl k) ih = clash false true k h
-    go (inr h) (inr k) ih = ih h k
+    one-sign : (p : Bool) → (Bool·beq p true || false) && (Bool·beq p false || false) ≡ false
+    one-sign true = refl
+    one-sign false = refl
+
+    go : (t : Bool) → eqb (l .variable) v ≡ t → names-as c v true && names-as c v false ≡ false
+        → (t && Bool·beq (l .positive) true || names-as c v true) && (t && Bool·beq (l .positive) false || names-as c v false) ≡ false
+    go true e o = rw (unnamed e true, unnamed e false) (one-sign (l .positive))
+    go false e o = o
 
 -- the masks of a clause over n variables fit
 pub clause-fits : {n : ℕ} {c : List Literal} → ClauseOver n c → ClauseFits n (clause-of c)
 clause-fits {n} {c} o =
     let b = with-literals-below n no-clause c (o .below) (empty-below n) in
-    record { below = b; apart = apart-of n ((clause-of c) .positive) ((clause-of c) .negative) (b true) (λ i l e. go i e (bit ((clause-of c) .negative) i) refl) }
-  where
-    go : (i : ℕ) → bit ((clause-of c) .positive) i ≡ true → (t : Bool) → bit ((clause-of c) .negative) i ≡ t → t ≡ false
-    go i e true f = absurd (named-once c i (o .once) (sym (clause-side c true i) ∙ e) (sym (clause-side c false i) ∙ f))
-    go i e false f = refl
+    record {
+      below = b;
+      apart =
+          apart-of n ((clause-of c) .positive) ((clause-of c) .negative) (b true)
+          (λ i l e. clause-side c false i ∙ other-way c (one-way-distinct c (o .once)) i true (sym (clause-side c true i) ∙ e));
+    }

@@ -7,7 +7,7 @@ use native.Mathlib.Omega.{arith}
 use lib.ListN.{length, length-append}
 use Rattle.formula.specs.declared.Refusal.the-variants.{Truncated}
 use Rattle.formula.specs.Format.{Literal, literal-kind, literal-bytes, formula-bytes, WrittenSized}
-use Rattle.formula.specs.Table.{Beginning, nothing, inside, written, Begins, MayStand, Given, no-kind, no-body, Refuses}
+use Rattle.formula.specs.Table.{Beginning, inside, written, Begins, MayStand, Given, no-kind, no-body, Refuses}
 use Rattle.formula.proofs.ExtendsLaws.{formula-written, Extends, count, literal, clause-end, extends-written, beginning-back}
 use Rattle.formula.proofs.RefusalLaws.{inner-stands}
 use Rattle.formula.proofs.RepeatLaws.{written-none}
@@ -52,7 +52,7 @@ cut-back b b′ x s g (literal {n} {ws} {w} l h k) p = go (l .positive) (extends
     go false e = cut-two b b′ 3 (l .variable + 1) s g (inner-stands n ws w 3 (omega arith) (omega arith)) (omega arith) e p
 cut-back b b′ x s g (clause-end h) p = cut-one b b′ 4 s g (extends-written (clause-end h)) p
 
--- of the last byte nothing may be missing
+-- where kind 5 alone is next: before it
 cut-last : (n : ℕ) (ws : List (List Literal)) → WrittenSized n ws → Cut (inside n ws []) (5 ∷ [])
 cut-last n ws z [] t h q = cut-at (inside n ws []) (z, written-none) [] no-kind
 cut-last n ws z (x ∷ u) t h q = absurd (omega (arith, ap length q, length-append u t))

@@ -72,14 +72,15 @@ pub shortest : (s : List ℕ) (n : ℕ) (cs : List (List Literal)) → Encodes s
     → Encodes (formula-bytes n cs) n cs × (length (formula-bytes n cs) ≤ length s) × (length (formula-bytes n cs) ≤ max-bytes)
 shortest s n cs e = let z = encoded-sized e in (sized-encoded z, encoded-le e, formula-le z)
 
--- which some are
+-- some formulas take as many
 pub shortest-most : (cs : List (List Literal)) × Encodes (formula-bytes max-variables cs) max-variables cs × (length (formula-bytes max-variables cs) ≡ max-bytes)
 shortest-most = (fullest, sized-encoded fullest-sized, fullest-length)
 
+-- S2.3: the number
 pub most-bytes : max-bytes ≡ 9315
 most-bytes = refl
 
--- So repeats change no answer: an input is read as the shortest one of its formula is. The acts are told from what is read alone.
+-- S2.3: an input is read as the shortest one of its formula is. So repeats change no answer of an act: all are told from what is read.
 pub read-as-shortest : (s : List ℕ) (n : ℕ) (cs : List (List Literal)) → Encodes s n cs → decode s ≡ decode (formula-bytes n cs)
 read-as-shortest s n cs e = accepted-all s n cs e ∙ sym (accepted-all (formula-bytes n cs) n cs (shortest s n cs e .0))
 

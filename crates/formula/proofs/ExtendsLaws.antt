@@ -1,6 +1,6 @@
 -- One record more: how a beginning of the grammar grows, and what each record carries back, a whole beginning carries back.
 use Prim.Native.Nat.{ℕ, _+_, _≤_, _<_}
-use mathlib.Core.Bool.{true, false, _&&_}
+use mathlib.Core.Bool.{false}
 use mathlib.Core.List.{List, [], _∷_, _++_, append-assoc, append-nil}
 use mathlib.Core.Path.{_≡_, refl, ap, _∙_}
 use native.Mathlib.Omega.{arith}
@@ -8,8 +8,9 @@ use lib.ListN.{length, length-append}
 use lib.Seq.{append-snoc}
 use Rattle.limits.specs.Limits.{max-variables, max-clauses}
 use Rattle.lists.specs.Every.{Every}
-use Rattle.formula.specs.Format.{Literal, literal-bytes, literals-bytes, clause-bytes, clauses-bytes, formula-bytes, names-as, has-complement, WrittenOver}
+use Rattle.formula.specs.Format.{Literal, literal-bytes, literals-bytes, clause-bytes, clauses-bytes, formula-bytes, has-complement, WrittenOver}
 use Rattle.formula.specs.Table.{Beginning, nothing, inside, written, Begins}
+use Rattle.formula.proofs.ClauseLaws.{OneWay}
 use Rattle.formula.proofs.FormatLaws.{literals-append, clauses-append}
 use Rattle.formula.proofs.RepeatLaws.{complement-absent, written-none, written-more, written-sized-more}
 
@@ -53,7 +54,7 @@ extends-longer (clause-end h) = omega arith
 module _ (P : Beginning → List ℕ → Type 0) (back : (b b′ : Beginning) (x s : List ℕ) → Begins b → Extends b x b′ → P b′ s → P b (x ++ s)) where
   -- the literals d of a clause that has w carry it back
   literals-back : {n : ℕ} {ws : List (List Literal)} {s : List ℕ} (w d : List Literal) → Begins (inside n ws w) → Every (λ l. l .variable < n) d
-      → ((v : ℕ) → names-as (w ++ d) v true && names-as (w ++ d) v false ≡ false) → P (inside n ws (w ++ d)) s → P (inside n ws w) (literals-bytes d ++ s)
+      → OneWay (w ++ d) → P (inside n ws (w ++ d)) s → P (inside n ws w) (literals-bytes d ++ s)
   unfolding literals-bytes
   literals-back w [] g h o p = rw append-nil at p
   literals-back {n} {ws} {s} w (l ∷ d) g h o p =

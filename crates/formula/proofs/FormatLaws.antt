@@ -1,13 +1,13 @@
--- Laws of the grammar: bytes one after the other, and one more literal of a new variable.
+-- Laws of the grammar: bytes one after the other, what clauses name, and one more literal of a new variable.
 use Prim.Native.Nat.{ℕ, _<_}
-use mathlib.Core.Bool.{true, false, not, _||_, or-assoc, and-eq-true-iff}
+use mathlib.Core.Bool.{Bool, true, false, not, _&&_, _||_, Bool·beq, or-assoc, or-true, and-eq-true-iff}
 use mathlib.Core.List.{List, [], _∷_, _++_, append-assoc}
 use mathlib.Core.Path.{_≡_, refl, sym, _∙_}
-use borrow.Author.Tests.{not-true}
+use borrow.Author.Tests.{not-true, eq-eqb}
 use lib.Dec.{eqb}
 use Rattle.lists.proofs.EveryLaws.{every-append}
-use Rattle.lists.proofs.TestLaws.{or-none, eqb-comm}
-use Rattle.formula.specs.Format.{Literal, literals-bytes, clauses-bytes, names, distinct, ClauseOver}
+use Rattle.lists.proofs.TestLaws.{or-none, eqb-comm, sign-itself}
+use Rattle.formula.specs.Format.{Literal, literals-bytes, clauses-bytes, names, names-as, distinct, ClauseOver}
 
 -- the literals of two lists are written one list after the other
 pub literals-append : (c d : List Literal) → literals-bytes (c ++ d) ≡ literals-bytes c ++ literals-bytes d
@@ -26,6 +26,31 @@ pub names-append : (c d : List Literal) (v : ℕ) → names (c ++ d) v ≡ names
 unfolding names
 names-append [] d v = refl
 names-append (l ∷ c) d v = rw (names-append c d v, or-assoc)
+
+-- a variable is named this way by a part or by the other
+pub names-as-append : (c d : List Literal) (v : ℕ) (sign : Bool) → names-as (c ++ d) v sign ≡ names-as c v sign || names-as d v sign
+unfolding names-as
+names-as-append [] d v sign = refl
+names-as-append (l ∷ c) d v sign = rw (names-as-append c d v sign, or-assoc)
+
+-- a variable that is named is named this way or the other
+pub names-either : (c : List Literal) (v : ℕ) (sign : Bool) → names c v ≡ names-as c v sign || names-as c v (not sign)
+unfolding names names-as
+names-either [] v sign = refl
+names-either (l ∷ c) v sign =
+    rw (names-either c v sign) (go (eqb (l .variable) v) (l .positive) sign (names-as c v sign) (names-as c v (not sign)))
+  where
+    go : (e p s x y : Bool) → e || (x || y) ≡ (e && Bool·beq p s || x) || (e && Bool·beq p (not s) || y)
+    go false p s x y = refl
+    go true true true x y = refl
+    go true false false x y = refl
+    go true true false x y = sym (or-true x)
+    go true false true x y = sym (or-true x)
+
+-- a literal names its own variable its own way
+pub names-own : (l : Literal) (c : List Literal) → names-as (l ∷ c) (l .variable) (l .positive) ≡ true
+unfolding names-as
+names-own l c = rw (eq-eqb (l .variable) (l .variable) refl, sign-itself (l .positive))
 
 -- in a clause with no variable twice the first variable is not named again, and the rest has none twice
 pub distinct-rest : (l : Literal) (c : List Literal) → distinct (l ∷ c) ≡ true → (names c (l .variable) ≡ false) × (distinct c ≡ true)

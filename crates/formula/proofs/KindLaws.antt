@@ -1,10 +1,11 @@
 -- Laws of the kinds of records.
 use Prim.Native.Nat.{ℕ, zero, suc, _<_, _≤_}
-use mathlib.Core.Bool.{true, false, _||_}
+use mathlib.Core.Bool.{Bool, true, false, _||_}
 use mathlib.Core.Path.{_≡_, refl}
 use native.Mathlib.Omega.{arith}
 use lib.Dec.{eqb}
 use borrow.Author.Tests.{ne-eqb}
+use Rattle.formula.specs.Format.{literal-kind}
 use Rattle.formula.specs.InnerDecode.{kind-of, unknown}
 
 -- a byte that is none of 1 to 5 is of no known kind
@@ -32,3 +33,15 @@ below-literal-kinds k h = rw (ne-eqb k 2 (λ e. omega arith), ne-eqb k 3 (λ e. 
 -- and none above
 pub above-literal-kinds : (k : ℕ) → 4 ≤ k → eqb k 2 || eqb k 3 ≡ false
 above-literal-kinds k h = rw (ne-eqb k 2 (λ e. omega arith), ne-eqb k 3 (λ e. omega arith))
+
+-- the kind of a literal is neither 4 nor 5
+pub kind-low : (sign : Bool) → literal-kind sign < 4
+kind-low true = omega arith
+kind-low false = omega arith
+
+-- and says its sign
+pub kind-sign : (a b : Bool) → literal-kind a ≡ literal-kind b → a ≡ b
+kind-sign true true e = refl
+kind-sign true false e = absurd (omega arith)
+kind-sign false true e = absurd (omega arith)
+kind-sign false false e = refl

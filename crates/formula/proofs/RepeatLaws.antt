@@ -1,66 +1,27 @@
 -- Repeated literals: what a clause names with one more, what is read of a written clause, and clauses that name nothing both ways.
 use Prim.Native.Nat.{ℕ, _+_, _≤_, _<_}
-use mathlib.Core.Bool.{Bool, true, false, not, cond, _&&_, _||_, Bool·beq, or-assoc, or-false, or-true, and-false}
+use mathlib.Core.Bool.{Bool, true, false, not, cond, _&&_, _||_, Bool·beq, or-false, or-true, and-false}
 use mathlib.Core.List.{List, [], _∷_, _++_, map, foldl, foldl-append, append-nil}
-use mathlib.Core.Path.{_≡_, refl, sym, ap, _∙_}
+use mathlib.Core.Path.{_≡_, refl, sym, _∙_}
 use native.Mathlib.Omega.{arith}
-use borrow.Author.Tests.{eqb-true, eq-eqb}
+use borrow.Author.Tests.{eqb-true}
 use lib.Dec.{eqb}
 use lib.ListN.{length, length-append, length-map}
 use lib.Seq.{append-snoc}
 use Rattle.limits.specs.Limits.{max-clauses}
 use Rattle.lists.specs.Every.{Every}
 use Rattle.lists.proofs.EveryLaws.{every-append}
-use Rattle.lists.proofs.TestLaws.{and-left, and-right, or-none, signs-equal, sign-itself}
+use Rattle.lists.proofs.TestLaws.{and-left, and-right, or-none, signs-equal}
 use Rattle.masks.specs.Mask.{bit}
 use Rattle.masks.proofs.MembersLaws.{with-member}
 use Rattle.formula.specs.Format.{Literal, formula-bytes, names, names-as, distinct, ClauseOver, Sized, has-complement, add, without-repeats, WrittenOver, WrittenSized, Encodes}
 use Rattle.formula.specs.InnerDecode.{none-yet}
 use Rattle.formula.specs.InnerFits.{side}
 use Rattle.formula.specs.InnerMasked.{no-clause, with-literal, clause-of}
-use Rattle.formula.proofs.ClauseLaws.{with-literals-last, clause-side, named-once}
-use Rattle.formula.proofs.FormatLaws.{distinct-more, distinct-fresh}
-
--- ---- what is named, each way
-
--- a variable is named this way by a part or by the other
-names-as-append : (c d : List Literal) (v : ℕ) (sign : Bool) → names-as (c ++ d) v sign ≡ names-as c v sign || names-as d v sign
-unfolding names-as
-names-as-append [] d v sign = refl
-names-as-append (l ∷ c) d v sign = rw (names-as-append c d v sign, or-assoc)
-
--- a variable that is named is named this way or the other
-names-either : (c : List Literal) (v : ℕ) (sign : Bool) → names c v ≡ names-as c v sign || names-as c v (not sign)
-unfolding names names-as
-names-either [] v sign = refl
-names-either (l ∷ c) v sign =
-    rw (names-either c v sign) (go (eqb (l .variable) v) (l .positive) sign (names-as c v sign) (names-as c v (not sign)))
-  where
-    go : (e p s x y : Bool) → e || (x || y) ≡ (e && Bool·beq p s || x) || (e && Bool·beq p (not s) || y)
-    go false p s x y = refl
-    go true true true x y = refl
-    go true false false x y = refl
-    go true true false x y = sym (or-true x)
-    go true false true x y = sym (or-true x)
-
--- a literal names its own variable its own way
-names-own : (l : Literal) (c : List Literal) → names-as (l ∷ c) (l .variable) (l .positive) ≡ true
-unfolding names-as
-names-own l c = rw (eq-eqb (l .variable) (l .variable) refl, sign-itself (l .positive))
+use Rattle.formula.proofs.ClauseLaws.{with-literals-last, clause-side, OneWay, other-way, one-way-distinct}
+use Rattle.formula.proofs.FormatLaws.{names-as-append, names-either, names-own, distinct-more, distinct-fresh}
 
 -- ---- no variable both ways
-
-abbrev OneWay : List Literal → Type 0
-OneWay w = (v : ℕ) → names-as w v true && names-as w v false ≡ false
-
--- what is named one way is not named the other
-other-way : (w : List Literal) → OneWay w → (v : ℕ) (sign : Bool) → names-as w v sign ≡ true → names-as w v (not sign) ≡ false
-other-way w o v true e = rw e at (o v)
-other-way w o v false e = go (names-as w v true) (rw e at (o v))
-  where
-    go : (x : Bool) → x && true ≡ false → x ≡ false
-    go true q = q
-    go false q = refl
 
 -- it depends only on what is named
 one-way-same : (c d : List Literal) → ((v : ℕ) (sign : Bool) → names-as c v sign ≡ names-as d v sign) → OneWay c → OneWay d
@@ -88,22 +49,22 @@ one-way-more w l o h v = rw (names-as-append w (l ∷ []) v true, names-as-appen
     go true e = at (l .positive) (rw (eqb-true (l .variable) v e) at h)
     go false e = rw (or-false (names-as w v true), or-false (names-as w v false)) (o v)
 
--- a clause that names no variable twice names none both ways
-one-way-distinct : (c : List Literal) → distinct c ≡ true → OneWay c
-one-way-distinct c d v = go (names-as c v true) refl (names-as c v false) refl
-  where
-    go : (x : Bool) → names-as c v true ≡ x → (y : Bool) → names-as c v false ≡ y → x && y ≡ false
-    go true p true q = absurd (named-once c v d p q)
-    go true p false q = refl
-    go false p y q = refl
-
 -- ---- one literal more
+
+-- the clause with it has no variable twice if the clause has none
+add-distinct : (c : List Literal) (l : Literal) → distinct c ≡ true → distinct (add c l) ≡ true
+unfolding add
+add-distinct c l d = go (names c (l .variable)) refl
+  where
+    go : (t : Bool) → names c (l .variable) ≡ t → distinct (cond t c (c ++ (l ∷ []))) ≡ true
+    go true n = d
+    go false n = distinct-more c l d n
 
 -- a literal of a variable that the clause names stands there, unless its complement does
 repeat-stands : (c : List Literal) (l : Literal) → has-complement c l ≡ false → names c (l .variable) ≡ true → names-as c (l .variable) (l .positive) ≡ true
 repeat-stands c l h n = sym (names-either c (l .variable) (l .positive) ∙ rw h (or-false (names-as c (l .variable) (l .positive)))) ∙ n
 
--- so the clause with it names what it names and no more
+-- so the clause with it names what the two name
 add-names-as : (c : List Literal) (l : Literal) → has-complement c l ≡ false → (v : ℕ) (sign : Bool) → names-as (add c l) v sign ≡ names-as (c ++ (l ∷ [])) v sign
 unfolding add names-as
 add-names-as c l h v sign = go (names c (l .variable)) refl
@@ -119,15 +80,6 @@ add-names-as c l h v sign = go (names c (l .variable)) refl
     go : (t : Bool) → names c (l .variable) ≡ t → names-as (cond t c (c ++ (l ∷ []))) v sign ≡ names-as (c ++ (l ∷ [])) v sign
     go true n = repeats n _ refl ∙ sym (names-as-append c (l ∷ []) v sign)
     go false n = refl
-
--- it has no variable twice if the clause has none
-add-distinct : (c : List Literal) (l : Literal) → distinct c ≡ true → distinct (add c l) ≡ true
-unfolding add
-add-distinct c l d = go (names c (l .variable)) refl
-  where
-    go : (t : Bool) → names c (l .variable) ≡ t → distinct (cond t c (c ++ (l ∷ []))) ≡ true
-    go true n = d
-    go false n = distinct-more c l d n
 
 -- what holds of every literal of the clause and of this one holds of all
 add-every : (P : Literal → Type 0) (c : List Literal) (l : Literal) → Every P c → P l → Every P (add c l)
@@ -203,8 +155,7 @@ fold-some x c (l ∷ w) = go (names (x ∷ c) (l .variable)) (fold-some x c w) (
     go false p q = q
 
 -- what is read of a written clause that names nothing both ways names what the clause names
-pub read-names-as : (w : List Literal) → ((v : ℕ) → names-as w v true && names-as w v false ≡ false) → (v : ℕ) (sign : Bool)
-    → names-as (without-repeats w) v sign ≡ names-as w v sign
+pub read-names-as : (w : List Literal) → OneWay w → (v : ℕ) (sign : Bool) → names-as (without-repeats w) v sign ≡ names-as w v sign
 unfolding without-repeats
 read-names-as w = fold-names-as [] w
 

@@ -1,23 +1,13 @@
 -- Bytes are those of one list of written clauses at most: a literal begins with kind 2 or 3, and its byte says which variable.
-use Prim.Native.Nat.{ℕ, _+_, _<_}
-use mathlib.Core.Bool.{Bool, true, false}
+use Prim.Native.Nat.{ℕ, _+_}
+use mathlib.Core.Bool.{Bool}
 use mathlib.Core.List.{List, [], _∷_, _++_, append-assoc}
 use mathlib.Core.Path.{_≡_, refl, sym, ap, _∙_}
 use native.Mathlib.Omega.{arith}
 use Rattle.formula.specs.Format.{Literal, literal-kind, literal-bytes, literals-bytes, clause-bytes, clauses-bytes, formula-bytes}
+use Rattle.formula.proofs.KindLaws.{kind-low, kind-sign}
 
--- the kind of a literal is neither 4 nor 5
-kind-low : (sign : Bool) → literal-kind sign < 4
-kind-low true = omega arith
-kind-low false = omega arith
-
--- and says its sign
-kind-sign : (a b : Bool) → literal-kind a ≡ literal-kind b → a ≡ b
-kind-sign true true e = refl
-kind-sign true false e = absurd (omega arith)
-kind-sign false true e = absurd (omega arith)
-kind-sign false false e = refl
-
+-- a literal is its variable and its sign
 literal-same : (l k : Literal) → l .variable ≡ k .variable → l .positive ≡ k .positive → l ≡ k
 literal-same l k a b =
     ap (λ (v : ℕ). record { variable = v; positive = l .positive }) a ∙ ap (λ (p : Bool). record { variable = k .variable; positive = p }) b

@@ -1,4 +1,4 @@
--- S5.1, S5.5: a matched formula as the source defines it, over clauses as they are written; and the violator that is shown where a
+-- S5.1, S5.5: a matched formula as the source defines it, over clauses as lists of literals; and the violator that is shown where a
 -- formula is not matched.
 use Prim.Native.Nat.{ℕ, suc, _≤_, _<_}
 use mathlib.Core.Bool.{true}

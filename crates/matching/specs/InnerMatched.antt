@@ -1,4 +1,4 @@
--- When a list of clauses, given by their masks, is matched. For clauses as they are written this is `Pairs`, both ways: `matches-pairs` and
+-- When a list of clauses, given by their masks, is matched. For clauses as lists of literals this is `Pairs`, both ways: `matches-pairs` and
 -- `pairs-matches` in crates/matched/proofs/PairingLaws.antt.
 use Prim.Native.Nat.{ℕ, _<_}
 use mathlib.Core.Path.{_≡_}

@@ -23,6 +23,6 @@ longer-printed s n cs e h =
     let whole : Encodes (take max-input s ++ drop max-input s) n cs = rw (take-append-drop max-input s) e in
     cut-printed (take max-input s) (drop max-input s) n cs whole (omega (arith, length-drop max-input s)) ∙ ap (refused-line 2) l
 
--- and one that is whole in the first 16,384 bytes is printed, whatever follows these
+-- and what follows the first 16,384 bytes changes nothing: a readable input of exactly so many is printed as it is alone
 pub tail-unseen : (s t : List ℕ) → length s ≡ max-input → printed (take max-input (s ++ t)) ≡ printed s
 tail-unseen s t h = ap printed (ap (λ (k : ℕ). take k (s ++ t)) (sym h) ∙ take-append-seam s t)

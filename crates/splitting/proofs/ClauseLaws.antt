@@ -5,11 +5,11 @@ use mathlib.Core.Bool.{Bool, true, false, not, _&&_, xor, Bool·beq, _||_}
 use mathlib.Core.List.{List, [], _∷_, _++_, map, List·Memᴰ, List·Memᴰ·head, List·Memᴰ·tail, List·Memᴰ·cases-cons, List·Memᴰ·not-nil}
 use mathlib.Core.Logic.{⊎-elim}
 use lib.Dec.{eqb}
-use borrow.Author.Tests.{eqb-true, eq-eqb, ne-eqb}
-use Rattle.lists.proofs.TestLaws.{and-left, and-right, and-both, or-cases, bool-cases, bool-clash, or-left, or-right, signs-equal, sign-itself}
+use borrow.Author.Tests.{eqb-true, ne-eqb}
+use Rattle.lists.proofs.TestLaws.{and-left, and-right, or-cases, bool-cases, bool-clash, or-none, or-left, or-right, signs-equal}
 use Rattle.lists.proofs.SublistLaws.{Within}
 use Rattle.formula.specs.Format.{Literal, names, names-as}
-use Rattle.formula.proofs.ClauseLaws.{named-as}
+use Rattle.formula.proofs.FormatLaws.{names-either, names-own}
 use Rattle.splitting.specs.Nodes.{less, occurs, named}
 use Rattle.splitting.specs.Stripping.{pure}
 
@@ -21,9 +21,7 @@ unfolding names-as
 literal-names [] l m = absurd (List·Memᴰ·not-nil m)
 literal-names (k ∷ c) l m =
     ⊎-elim
-    (λ (e : l ≡ k).
-    or-left (eqb (k .variable) (l .variable) && Bool·beq (k .positive) (l .positive)) (names-as c (l .variable) (l .positive))
-    (rw e (and-both (eqb (k .variable) (k .variable)) (Bool·beq (k .positive) (k .positive)) (eq-eqb (k .variable) (k .variable) refl) (sign-itself (k .positive)))))
+    (λ (e : l ≡ k). rw e (names-own k c))
     (λ more. or-right (eqb (k .variable) (l .variable) && Bool·beq (k .positive) (l .positive)) (names-as c (l .variable) (l .positive)) (literal-names c l more))
     (List·Memᴰ·cases-cons m)
 
@@ -44,23 +42,12 @@ names-literal (k ∷ c) v s t =
 
 -- what is named is named one way
 pub names-some : (c : List Literal) (v : ℕ) → names c v ≡ true → (s : Bool) × (names-as c v s ≡ true)
-unfolding names
-names-some [] v t = bool-clash t refl
-names-some (l ∷ c) v t =
-    ⊎-elim
-    (λ h. (l .positive, subst (λ w. names-as (l ∷ c) w (l .positive) ≡ true) (eqb-true (l .variable) v h) (literal-names (l ∷ c) l (List·Memᴰ·head refl))))
-    (λ h. let w = names-some c v h in (w .0, later l c v (w .0) (w .1)))
-    (or-cases (eqb (l .variable) v) (names c v) t)
-  where
-    later : (l : Literal) (c : List Literal) (v : ℕ) (s : Bool) → names-as c v s ≡ true → names-as (l ∷ c) v s ≡ true
-    later l c v s t =
-        let w = names-literal c v s t in
-        subst (λ (u : Bool). names-as (l ∷ c) v u ≡ true) (w .3)
-        (subst (λ x. names-as (l ∷ c) x (w .0 .positive) ≡ true) (w .2) (literal-names (l ∷ c) (w .0) (List·Memᴰ·tail (w .1))))
+names-some c v t =
+    ⊎-elim (λ h. (true, h)) (λ h. (false, h)) (or-cases (names-as c v true) (names-as c v false) (sym (names-either c v true) ∙ t))
 
 -- not named is not named one way
 pub names-none : (c : List Literal) (v : ℕ) → names c v ≡ false → (s : Bool) → names-as c v s ≡ false
-names-none c v f s = ⊎-elim (λ t. bool-clash (named-as c v s t) f) (λ e. e) (bool-cases (names-as c v s))
+names-none c v f s = or-none (names-as c v s) (names-as c v (not s)) (sym (names-either c v s) ∙ f) .0
 
 -- ── A clause less a variable ─────────────────────────────────────────────────────────────────────────────────────────
 

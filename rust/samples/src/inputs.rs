@@ -156,7 +156,7 @@ fn formula_at_a_limit(random: &mut Random) -> Vec<u8> {
     input
 }
 
-/// A formula but for a clause that names a variable both ways; one without literals stays as it is.
+/// A formula but for a clause that names a variable both ways; a clause without literals stays as it is.
 fn contradictory(random: &mut Random) -> Vec<u8> {
     let (n, mut clauses) = some_parts(random);
     if !clauses.is_empty() {

@@ -122,9 +122,11 @@ fn the_example_lists_models_in_pages() {
     let file = temporary("input.bin");
     std::fs::write(&file, []).unwrap();
     let output = pages(file.clone(), "2");
+    assert!(!output.status.success());
     assert_eq!(output.stderr, b"pages: refused 2 at 0\n");
     let input = [&[1, 2][..], &[2, 1].repeat(50_000), &[4, 5]].concat();
     std::fs::write(&file, input).unwrap();
     let output = pages(file, "2");
+    assert!(output.status.success());
     assert_eq!(output.stdout, b"page 1\n10\n11\n");
 }
