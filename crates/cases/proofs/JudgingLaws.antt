@@ -5,7 +5,7 @@ use mathlib.Core.Path.{_≡_, refl}
 use lib.ListN.{getD, take, drop}
 use Rattle.limits.specs.Limits.{max-clauses}
 use Rattle.formula.specs.declared.Refusal.{Refusal}
-use Rattle.formula.specs.declared.Refusal.the-variants.{ShortBuffer, Truncated, UnknownKind, Misplaced, BadVariableCount, NoSuchVariable, ComplementaryLiteral, TooManyClauses, TrailingByte, Unmatched, ForeignCheckpoint, StrayVariable}
+use Rattle.formula.specs.declared.Refusal.the-variants.{ShortBuffer, Truncated, UnknownKind, Misplaced, BadVariableCount, NoSuchVariable, ComplementaryLiteral, TooManyClauses, TrailingByte, Unmatched, ForeignCheckpoint, StrayVariable, BadOpening, BadWord, ClauseCountDiffers}
 use Rattle.formula.specs.Refusals.{table-row}
 use Rattle.matched.specs.Judge.{JudgementValues, judge}
 use Rattle.vectors.specs.declared.answers.Answer.{Answer}
@@ -29,6 +29,9 @@ refusal-code (TrailingByte p) = refl
 refusal-code (Unmatched p) = refl
 refusal-code (ForeignCheckpoint p) = refl
 refusal-code (StrayVariable p) = refl
+refusal-code (BadOpening p) = refl
+refusal-code (BadWord p) = refl
+refusal-code (ClauseCountDiffers p) = refl
 
 -- what the call gives, from what its parts give
 pub judge-filled-of :

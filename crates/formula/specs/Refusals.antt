@@ -1,14 +1,14 @@
 -- S3.1: the number and the place of each refusal.
 use Prim.Native.Nat.{ℕ}
 use Rattle.formula.specs.declared.Refusal.{Refusal}
-use Rattle.formula.specs.declared.Refusal.the-variants.{ShortBuffer, Truncated, UnknownKind, Misplaced, BadVariableCount, NoSuchVariable, ComplementaryLiteral, TooManyClauses, TrailingByte, Unmatched, ForeignCheckpoint, StrayVariable}
+use Rattle.formula.specs.declared.Refusal.the-variants.{ShortBuffer, Truncated, UnknownKind, Misplaced, BadVariableCount, NoSuchVariable, ComplementaryLiteral, TooManyClauses, TrailingByte, Unmatched, ForeignCheckpoint, StrayVariable, BadOpening, BadWord, ClauseCountDiffers}
 
 pub record TableRow : Type 0 where
   pub number : ℕ
   pub place : ℕ
 
 -- (request: short slate, cut short, unknown kind, misplaced, bad kit, no such switch, named twice, too many rules, tail,
--- over-ruled, foreign marker, stray switch)
+-- over-ruled, foreign marker, stray switch, bad opening, bad word, rule count differs)
 abbrev pub table-row : Refusal → TableRow
 table-row (ShortBuffer p) = record { number = 1; place = p }
 table-row (Truncated p) = record { number = 2; place = p }
@@ -22,3 +22,6 @@ table-row (TrailingByte p) = record { number = 9; place = p }
 table-row (Unmatched p) = record { number = 10; place = p }
 table-row (ForeignCheckpoint p) = record { number = 11; place = p }
 table-row (StrayVariable p) = record { number = 12; place = p }
+table-row (BadOpening p) = record { number = 13; place = p }
+table-row (BadWord p) = record { number = 14; place = p }
+table-row (ClauseCountDiffers p) = record { number = 15; place = p }

@@ -43,6 +43,9 @@ pub enum Refusal {
     Unmatched(usize),
     ForeignCheckpoint(usize),
     StrayVariable(usize),
+    BadOpening(usize),
+    BadWord(usize),
+    ClauseCountDiffers(usize),
 }
 
 // Accepted or refused: by the reader, and above it by acceptance and on entering a walk.
@@ -88,7 +91,8 @@ fn wide(x: u8) -> usize
     x as usize
 }
 
-fn empty_clause() -> Clause
+// A clause without literals.
+pub fn empty_clause() -> Clause
     ensures { λ r. ⌜ r ≡ no-clause ⌝ }
 {
     Clause {
@@ -107,7 +111,7 @@ fn no_clauses() -> [Clause; MAX_CLAUSES]
 }
 
 // The clause that names v as well.
-fn add_literal(c: Clause, v: usize, sign: bool) -> Clause
+pub fn add_literal(c: Clause, v: usize, sign: bool) -> Clause
     requires { ⌜ v < 64 ⌝ }
     ensures { λ r. ⌜ r ≡ with-literal c v sign ⌝ }
 {
@@ -125,7 +129,7 @@ fn add_literal(c: Clause, v: usize, sign: bool) -> Clause
 }
 
 // The variables that the clause names the other way.
-fn other_side(c: Clause, sign: bool) -> u64
+pub fn other_side(c: Clause, sign: bool) -> u64
     ensures { λ r. ⌜ r ≡ side c (not sign) ⌝ }
 {
     if sign { c.negative } else { c.positive }
@@ -396,6 +400,9 @@ pub fn number_of(refusal: Refusal) -> u64
         Refusal::Unmatched(_) => 10,
         Refusal::ForeignCheckpoint(_) => 11,
         Refusal::StrayVariable(_) => 12,
+        Refusal::BadOpening(_) => 13,
+        Refusal::BadWord(_) => 14,
+        Refusal::ClauseCountDiffers(_) => 15,
     }
 }
 
@@ -416,6 +423,9 @@ pub fn place_of(refusal: Refusal) -> usize
         Refusal::Unmatched(p) => p,
         Refusal::ForeignCheckpoint(p) => p,
         Refusal::StrayVariable(p) => p,
+        Refusal::BadOpening(p) => p,
+        Refusal::BadWord(p) => p,
+        Refusal::ClauseCountDiffers(p) => p,
     }
 }
 

@@ -1,0 +1,6 @@
+pub mod Convert
+pub mod InnerReader
+pub mod InnerScan
+pub mod InnerWriter
+pub mod Text
+pub mod Written
