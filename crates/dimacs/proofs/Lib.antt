@@ -1,1 +1,3 @@
 pub mod PieceLaws
+pub mod ScanLaws
+pub mod TextLaws

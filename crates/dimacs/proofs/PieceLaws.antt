@@ -17,7 +17,7 @@ module _ (test : ℕ → Bool) where
   until-le [] = omega arith
   until-le (x ∷ s) = go (test x) (until-le s)
     where
-      go : (b : Bool) → until test s ≤ length s → (elim b [ true ↦ 0 | false ↦ suc (until test s) ]) ≤ suc (length s)
+      go : (b : Bool) → until test s ≤ length s → cond b 0 (suc (until test s)) ≤ suc (length s)
       go true h = omega arith
       go false h = omega arith
 
@@ -37,8 +37,8 @@ module _ (test : ℕ → Bool) where
           → (elim b [
             | true ↦ record { at = at; bytes = begun } ∷ pieces test (at + length begun + 1) [] s
             | false ↦ pieces test at (begun ++ (x ∷ [])) s
-          ]) ≡ record { at = at; bytes = begun ++ take (elim b [ true ↦ 0 | false ↦ suc (until test s) ]) (x ∷ s) }
-          ∷ rest-pieces (at + length begun) (x ∷ s) (elim b [ true ↦ 0 | false ↦ suc (until test s) ])
+          ]) ≡ record { at = at; bytes = begun ++ take (cond b 0 (suc (until test s))) (x ∷ s) }
+          ∷ rest-pieces (at + length begun) (x ∷ s) (cond b 0 (suc (until test s)))
       go true h =
           let e : at + length begun + 0 + 1 ≡ at + length begun + 1 = omega arith in
           let b : ltb 0 (suc (length s)) ≡ true = lt-ltb 0 (suc (length s)) (omega arith) in

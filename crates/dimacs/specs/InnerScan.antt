@@ -15,7 +15,7 @@ use Rattle.dimacs.specs.Text.{Piece, pieces, ends-line, parts-words, non
 -- how many bytes stand before the first for which the test holds, or all if it holds for none
 unfoldable pub until : (ℕ → Bool) → List ℕ → ℕ
 until test [] = 0
-until test (x ∷ s) = elim (test x) [ true ↦ 0 | false ↦ suc (until test s) ]
+until test (x ∷ s) = cond (test x) 0 (suc (until test s))
 
 -- a byte of a word
 abbrev pub in-word : ℕ → Bool

@@ -27,12 +27,12 @@ pub fn read_opening(line: &[u8], at: usize) -> Opening
 {
     let a = scan::word_start(line, 0);
     let a_end = scan::word_end(line, a);
-    if !scan::is_p(&line[a..a_end]) {
+    if !scan::same(&line[a..a_end], b"p") {
         return Opening::Other;
     }
     let b = scan::word_start(line, a_end);
     let b_end = scan::word_end(line, b);
-    if !scan::is_cnf(&line[b..b_end]) {
+    if !scan::same(&line[b..b_end], b"cnf") {
         return Opening::Other;
     }
     let c = scan::word_start(line, b_end);

@@ -3,7 +3,7 @@ ghost use mathlib.Core.Path.{_≡_};
 ghost use Prim.Native.Nat.{_+_, _-_, _*_, _≤_};
 ghost use lib.ListN.{length, drop};
 ghost use Rattle.writing.specs.Text.{digit-zero};
-ghost use Rattle.dimacs.specs.Text.{ends-line, parts-words, comment, is-digit, run, value, signed, unsigned, token, same, p-word, cnf-word};
+ghost use Rattle.dimacs.specs.Text.{ends-line, parts-words, comment, is-digit, run, value, signed, unsigned, token, same};
 ghost use Rattle.dimacs.specs.InnerScan.{until, in-word, cap, capped, token-held, OpensAt};
 
 // Numbers above this one are taken for it: it is above every number that a formula has.
@@ -19,10 +19,16 @@ pub enum Token {
 fn parts_words(x: u8) -> bool
     ensures { λ r. ⌜ r ≡ parts-words x ⌝ }
 {
-    match x {
-        9 | 10 | 13 | 32 => true,
-        0..=8 | 11 | 12 | 14..=31 | 33..=255 => false,
+    if x == b' ' {
+        return true;
     }
+    if x == b'\t' {
+        return true;
+    }
+    if x == b'\r' {
+        return true;
+    }
+    x == b'\n'
 }
 
 // Where the line that starts at `from` ends: at its line feed, or with the text.
@@ -95,24 +101,21 @@ pub fn first_other(text: &[u8]) -> usize
     from
 }
 
-// Whether a word is the word `p`.
-pub fn is_p(word: &[u8]) -> bool
-    ensures { λ r. ⌜ r ≡ same (now (word .entry)) p-word ⌝ }
+// Whether two words are the same.
+pub fn same(word: &[u8], other: &[u8]) -> bool
+    ensures { λ r. ⌜ r ≡ same (now (word .entry)) (now (other .entry)) ⌝ }
 {
-    if word.len() != 1 {
+    if word.len() != other.len() {
         return false;
     }
-    word[0] == b'p'
-}
-
-// Whether a word is the word `cnf`.
-pub fn is_cnf(word: &[u8]) -> bool
-    ensures { λ r. ⌜ r ≡ same (now (word .entry)) cnf-word ⌝ }
-{
-    if word.len() != 3 {
-        return false;
+    let mut i: usize = 0;
+    while i < word.len() {
+        if word[i] != other[i] {
+            return false;
+        }
+        i += 1;
     }
-    word[0] == b'c' && word[1] == b'n' && word[2] == b'f'
+    true
 }
 
 fn is_digit(x: u8) -> bool
