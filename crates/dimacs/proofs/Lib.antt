@@ -1,3 +1,6 @@
 pub mod PieceLaws
+pub mod RoundLaws
 pub mod ScanLaws
+pub mod TakeLaws
 pub mod TextLaws
+pub mod WrittenLaws
