@@ -1,7 +1,7 @@
 -- Laws of the words that are taken.
 use Prim.Native.Nat.{ℕ}
 use mathlib.Core.List.{List, [], _∷_, _++_}
-use mathlib.Core.Path.{_≡_, refl}
+use mathlib.Core.Path.{_≡_, refl, ap}
 use Rattle.dimacs.specs.Text.{Piece, Progress, Step, next, stop, take-word, take-words}
 
 -- words that are taken where others have left off, if those were all taken
@@ -17,3 +17,8 @@ take-words-append n (u ∷ us) vs s = go (take-word n u s) (take-words-append n 
     go : (t : Step) → ((s′ : Progress) → take-words n (us ++ vs) s′ ≡ behind n vs (take-words n us s′)) → behind n (us ++ vs) t ≡ behind n vs (behind n us t)
     go (next s′) f = f s′
     go (stop r) f = refl
+
+-- a word that is taken comes before the rest
+pub take-words-first : (n : ℕ) (w : Piece) (ws : List Piece) (s s′ : Progress) → take-word n w s ≡ next s′ → take-words n (w ∷ ws) s ≡ take-words n ws s′
+unfolding take-words
+take-words-first n w ws s s′ e = ap (behind n ws) e
