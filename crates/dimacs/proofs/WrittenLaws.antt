@@ -1,14 +1,14 @@
 -- Laws of what is written: its lines, the words of a line, and what a word says.
-use Prim.Native.Nat.{ℕ, zero, suc, _+_, _*_, _-_, _≤_, _<_}
-use mathlib.Core.Bool.{Bool, true, false, cond, _&&_, _||_}
+use Prim.Native.Nat.{ℕ, suc, _+_, _*_, _-_, _≤_, _<_}
+use mathlib.Core.Bool.{Bool, true, false, _||_}
 use mathlib.Core.List.{List, [], _∷_, _++_, map, append-assoc, append-nil}
-use mathlib.Core.Path.{_≡_, refl, sym, ap, _∙_}
+use mathlib.Core.Path.{_≡_, refl, ap, _∙_}
 use native.Mathlib.Decide.{decLt}
 use native.Mathlib.Numerals.{add-one}
 use native.Mathlib.Omega.{arith}
 use borrow.Author.Tests.{lt-ltb, le-ltb, le-leb, ne-eqb}
-use lib.Dec.{eqb, leb, ltb}
-use lib.ListN.{length, take, drop, length-append}
+use lib.Dec.{eqb, ltb}
+use lib.ListN.{length, drop, length-append}
 use lib.Seq.{take-append-seam, drop-append-add, take-length, append-snoc}
 use Rattle.lists.specs.Every.{Every}
 use Rattle.lists.proofs.EveryLaws.{every-append}
@@ -70,6 +70,7 @@ abbrev pub placed : ℕ → List (List ℕ) → List Piece
 placed at [] = []
 placed at (w ∷ ws) = record { at = at; bytes = w } ∷ placed (at + length w + 1) ws
 
+-- a line is these bytes and a line feed
 line-joined : (ws : List (List ℕ)) → line-of ws ≡ joined ws ++ (line-feed ∷ [])
 line-joined [] = refl
 line-joined (w ∷ []) = refl
@@ -91,7 +92,7 @@ joined-whole (w ∷ v ∷ ws) h =
     every-append (λ x. ends-line x ≡ false) w (blank ∷ joined (v ∷ ws)) (word-whole w (h .0 .whole)) (refl, joined-whole (v ∷ ws) (h .1))
 
 -- the first line of a text that starts with a written one
-pub line-first : (at : ℕ) (ws : List (List ℕ)) (s : List ℕ) → Every Word ws
+line-first : (at : ℕ) (ws : List (List ℕ)) (s : List ℕ) → Every Word ws
     → pieces ends-line at [] (line-of ws ++ s) ≡ record { at = at; bytes = joined ws } ∷ pieces ends-line (at + length (joined ws) + 1) [] s
 line-first at ws s h = rw (line-joined ws, append-snoc) (pieces-part ends-line at (joined ws) line-feed s (joined-whole ws h) refl)
 
@@ -129,10 +130,11 @@ digits-run (x ∷ s) h =
     let m = h .0 .1 in
     rw (le-leb digit-zero x l, le-leb x (digit-zero + 9) (omega arith), digits-run s (h .1))
 
--- the number in decimal is a run of digits
+-- a number in decimal is a run of digits
 pub decimal-run : (x : ℕ) → run (decimal x) ≡ true
 decimal-run x = let k = decimal-some x in rw (ne-eqb (length (decimal x)) 0 (omega arith), digits-run (decimal x) (decimal-digits x))
 
+-- digits behind others write what they tell
 value-told : (a : ℕ) (s : List ℕ) → value-from a s ≡ told a s
 unfolding value-from
 value-told a [] = refl
@@ -188,6 +190,7 @@ literal-is-word l = go (l .positive)
 abbrev pub clause-words : List Literal → List (List ℕ)
 clause-words c = map literal-word c ++ (decimal 0 ∷ [])
 
+-- each is a word
 pub clause-each-word : (c : List Literal) → Every Word (clause-words c)
 clause-each-word [] = (decimal-word 0, tt)
 clause-each-word (l ∷ c) = (literal-is-word l, clause-each-word c)
