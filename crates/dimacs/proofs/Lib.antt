@@ -1,3 +1,4 @@
+pub mod KeepLaws
 pub mod PieceLaws
 pub mod RoundLaws
 pub mod ScanLaws

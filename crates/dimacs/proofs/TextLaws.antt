@@ -5,10 +5,10 @@ use mathlib.Core.List.{List, [], _∷_, _++_}
 use mathlib.Core.Path.{_≡_, refl, sym, ap, ap₂, _∙_}
 use native.Mathlib.Numerals.{add-one}
 use native.Mathlib.Omega.{arith}
-use borrow.Author.Tests.{ltb-true, ltb-false, lt-ltb, le-ltb, eqb-true, ne-eqb, eq-eqb}
+use borrow.Author.Tests.{ltb-true, ltb-false, lt-ltb, le-ltb, eqb-true, not-true}
 use lib.Dec.{eqb, ltb}
 use lib.ListN.{length, take, drop, getD, length-drop, drop-of-length-le}
-use lib.Seq.{drop-drop, drop-cons, length-take-le}
+use lib.Seq.{length-take-le, drop-drop, drop-cons, getD-drop}
 use Rattle.lists.proofs.TestLaws.{bool-clash}
 use Rattle.formula.specs.Decoding.{refused}
 use Rattle.formula.specs.declared.Refusal.the-variants.{BadOpening}
@@ -122,13 +122,84 @@ opens-none t from h e l r =
 -- ---- words
 
 -- no byte, no word
-pub words-end : (at : ℕ) → words-at at [] ≡ []
+pub words-none : (at : ℕ) → words-at at [] ≡ []
 unfolding pieces non-empty
-words-end at = refl
+words-none at = refl
 
--- the words of a part behind an offset of a line, that are those of all from there on
+-- a byte that parts words is passed
+words-part : (at x : ℕ) (s : List ℕ) → parts-words x ≡ true → words-at at (x ∷ s) ≡ words-at (at + 1) s
+unfolding pieces non-empty
+words-part at x s e = go (parts-words x) e
+  where
+    go : (b : Bool) → b ≡ true
+        → non-empty (elim b [ true ↦ record { at = at; bytes = [] } ∷ pieces parts-words (at + 0 + 1) [] s | false ↦ pieces parts-words at (x ∷ []) s ]) ≡ words-at (at + 1) s
+    go true q = let f : at + 0 + 1 ≡ at + 1 = omega arith in ap (λ (k : ℕ). words-at k s) f
+    go false q = bool-clash {x = false} q refl
+
+-- and so are all up to the next word
+words-skip : (at : ℕ) (s : List ℕ) → words-at at s ≡ words-at (at + until in-word s) (drop (until in-word s) s)
+unfolding until
+words-skip at [] = let f : at + 0 ≡ at = omega arith in rw f
+words-skip at (x ∷ s) = go (parts-words x) refl (words-skip (at + 1) s)
+  where
+    go : (b : Bool) → parts-words x ≡ b → words-at (at + 1) s ≡ words-at (at + 1 + until in-word s) (drop (until in-word s) s)
+        → words-at at (x ∷ s) ≡ words-at (at + cond (not b) 0 (suc (until in-word s))) (drop (cond (not b) 0 (suc (until in-word s))) (x ∷ s))
+    go true e h =
+        let f : at + 1 + until in-word s ≡ at + suc (until in-word s) = omega arith in
+        words-part at x s e ∙ h ∙ ap (λ (k : ℕ). words-at k (drop (until in-word s) s)) f
+    go false e h = let f : at + 0 ≡ at = omega arith in rw f refl
+
+-- the byte behind a word parts
+until-stops : (test : ℕ → Bool) (s : List ℕ) → until test s < length s → test (getD s (until test s) 0) ≡ true
+unfolding until
+until-stops test [] h = absurd (omega arith)
+until-stops test (x ∷ s) h = go (test x) refl (until-stops test s) h
+  where
+    go : (b : Bool) → test x ≡ b → (until test s < length s → test (getD s (until test s) 0) ≡ true) → cond b 0 (suc (until test s)) < suc (length s)
+        → test (getD (x ∷ s) (cond b 0 (suc (until test s))) 0) ≡ true
+    go true e f l = e
+    go false e f l = f (omega arith)
+
+-- so what is behind the word is read from there
+rest-words : (at : ℕ) (s : List ℕ) (k : ℕ) → until parts-words s ≡ k → non-empty (rest-pieces parts-words at s k) ≡ words-at (at + k) (drop k s)
+unfolding non-empty
+rest-words at s k e = go (ltb k (length s)) refl
+  where
+    go : (b : Bool) → ltb k (length s) ≡ b → non-empty (cond b (pieces parts-words (at + k + 1) [] (drop (suc k) s)) []) ≡ words-at (at + k) (drop k s)
+    go true q =
+        let l = ltb-true k (length s) q in
+        let p : parts-words (getD s k 0) ≡ true = rw e at (until-stops parts-words s (rw e l)) in
+        sym (ap (words-at (at + k)) (drop-cons s k 0 l) ∙ words-part (at + k) (getD s k 0) (drop (suc k) s) p)
+    go false q = sym (ap (words-at (at + k)) (drop-of-length-le s (ltb-false k (length s) q)) ∙ words-none (at + k))
+
+-- a piece with a byte is kept
+kept-piece : (p : Piece) (ps : List Piece) → 0 < length (p .bytes) → non-empty (p ∷ ps) ≡ p ∷ non-empty ps
+unfolding non-empty
+kept-piece p ps h = go (eqb (length (p .bytes)) 0) refl
+  where
+    go : (b : Bool) → eqb (length (p .bytes)) 0 ≡ b → (elim b [ true ↦ non-empty ps | false ↦ p ∷ non-empty ps ]) ≡ p ∷ non-empty ps
+    go true e = absurd (omega (arith, eqb-true (length (p .bytes)) 0 e))
+    go false e = refl
+
+-- a word at the front, and those behind it
+words-word : (at : ℕ) (s : List ℕ) → 0 < until parts-words s
+    → (let k = until parts-words s in words-at at s ≡ record { at = at; bytes = take k s } ∷ words-at (at + k) (drop k s))
+words-word at s h =
+    let k = until parts-words s in
+    let w : Piece = record { at = at; bytes = take k s } in
+    let l : length (take k s) ≡ k = length-take-le k s (until-le parts-words s) in
+    ap non-empty (pieces-until parts-words at s)
+    ∙ kept-piece w (rest-pieces parts-words at s k) (omega arith)
+    ∙ ap (λ (ps : List Piece). w ∷ ps) (rest-words at s k refl)
+
+-- the first byte does not part
+until-some : (test : ℕ → Bool) (s : List ℕ) (i : ℕ) → i < length s → test (getD s i 0) ≡ false → 0 < until test (drop i s)
+unfolding until
+until-some test s i h e = rw (drop-cons s i 0 h, e) (omega arith)
+
+-- the words of a line from an offset on
 module _ (at : ℕ) (s : List ℕ) where
-  -- where the next word starts and ends
+  -- where the next word starts, and where it ends
   abbrev pub start-in : ℕ → ℕ
   start-in i = i + until in-word (drop i s)
 
@@ -138,7 +209,7 @@ module _ (at : ℕ) (s : List ℕ) where
   abbrev pub words-from : ℕ → List Piece
   words-from i = words-at (at + i) (drop i s)
 
-  -- the bytes of the word from i on
+  -- the word there
   abbrev pub word-from : ℕ → Piece
   word-from i = record { at = at + i; bytes = take (until parts-words (drop i s)) (drop i s) }
 
@@ -148,15 +219,26 @@ module _ (at : ℕ) (s : List ℕ) where
   pub end-in-le : (i : ℕ) → i ≤ length s → end-in i ≤ length s
   end-in-le i h = omega (arith, until-le parts-words (drop i s), length-drop i s)
 
-  -- a byte that parts words is passed
-  words-part : (i : ℕ) → i < length s → parts-words (getD s i 0) ≡ true → words-from i ≡ words-from (i + 1)
-  unfolding until non-empty
-  words-part i h e = ?
+  -- the byte where a word starts is one of a word
+  pub start-stops : (i : ℕ) → start-in i < length s → in-word (getD s (start-in i) 0) ≡ true
+  start-stops i h =
+      sym (ap in-word (getD-drop i s (until in-word (drop i s)) 0))
+      ∙ until-stops in-word (drop i s) (omega (arith, length-drop i s))
 
-  -- and so are all up to the next word
+  -- up to there nothing is read
   pub words-start : (i : ℕ) → words-from i ≡ words-from (start-in i)
-  words-start i = ?
+  words-start i =
+      let f : at + i + until in-word (drop i s) ≡ at + (i + until in-word (drop i s)) = omega arith in
+      words-skip (at + i) (drop i s) ∙ ap₂ words-at f (drop-drop (until in-word (drop i s)) i s)
 
   -- a word, and those behind it
   pub words-first : (i : ℕ) → i < length s → in-word (getD s i 0) ≡ true → words-from i ≡ word-from i ∷ words-from (end-in i)
-  words-first i h e = ?
+  words-first i h e =
+      let k = until parts-words (drop i s) in
+      let f : at + i + k ≡ at + (i + k) = omega arith in
+      words-word (at + i) (drop i s) (until-some parts-words s i h (not-true (parts-words (getD s i 0)) e))
+      ∙ ap (λ (ps : List Piece). word-from i ∷ ps) (ap₂ words-at f (drop-drop k i s))
+
+  -- no word behind the end
+  pub words-over : (i : ℕ) → length s ≤ i → words-from i ≡ []
+  words-over i h = ap (words-at (at + i)) (drop-of-length-le s h) ∙ words-none (at + i)

@@ -47,7 +47,7 @@ with-literals-names c (l ∷ ls) v =
     ∙ or-assoc (bit (clause-variables c) v) (eqb (l .variable) v) (names ls v)
 
 -- the masks of a clause name what its literals name
-clause-names : (c : List Literal) (v : ℕ) → bit (clause-variables (clause-of c)) v ≡ names c v
+pub clause-names : (c : List Literal) (v : ℕ) → bit (clause-variables (clause-of c)) v ≡ names c v
 clause-names c v =
     let e : bit (clause-variables no-clause) v ≡ false = bit-none v in
     with-literals-names no-clause c v ∙ rw e
