@@ -1,4 +1,5 @@
 pub mod KeepLaws
+pub mod LineLaws
 pub mod PieceLaws
 pub mod RoundLaws
 pub mod ScanLaws

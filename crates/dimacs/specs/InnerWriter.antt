@@ -1,13 +1,13 @@
 -- What writing a text does, literal by literal and clause by clause; proofs/LineLaws.antt ties it to Written.
-use Prim.Native.Nat.{ℕ, _+_, _≤_}
+use Prim.Native.Nat.{ℕ, _+_}
 use mathlib.Core.Bool.{Bool, true, false, cond}
 use mathlib.Core.List.{List, [], _∷_, _++_, map}
 use mathlib.Core.Path.{_≡_}
 use lib.ListN.{length, drop}
 use Rattle.limits.specs.Limits.{max-variables}
 use Rattle.lists.specs.Every.{Every}
-use Rattle.masks.specs.Mask.{bit}
-use Rattle.writing.specs.Text.{blank, decimal}
+use Rattle.masks.specs.Mask.{bit, with}
+use Rattle.writing.specs.Text.{digit-zero, line-feed, blank, decimal}
 use Rattle.writing.specs.Placed.{Room, Wrote}
 use Rattle.formula.specs.Format.{Literal, clause-bytes, clauses-bytes, without-repeats, WrittenOver}
 use Rattle.formula.specs.Decoding.{readable}
@@ -21,13 +21,18 @@ abbrev pub sign-bytes : Bool → List ℕ
 sign-bytes true = []
 sign-bytes false = minus-sign ∷ []
 
--- the word of a literal of variable v, and a blank
+-- the word of the literal of variable k, from 1, and a blank
 abbrev pub literal-text : Bool → ℕ → List ℕ
-literal-text sign v = sign-bytes sign ++ (decimal (v + 1) ++ (blank ∷ []))
+literal-text sign k = sign-bytes sign ++ (decimal k ++ (blank ∷ []))
 
 -- nothing if the line has the variable
 abbrev pub literal-once : ℕ → Bool → ℕ → List ℕ
-literal-once seen sign v = cond (bit seen v) [] (literal-text sign v)
+literal-once seen sign v = cond (bit seen v) [] (literal-text sign (v + 1))
+
+-- the line of a written clause behind the variables that it has: of each literal that is left its text once, then 0
+unfoldable pub line-rest : ℕ → List Literal → List ℕ
+line-rest seen [] = digit-zero ∷ line-feed ∷ []
+line-rest seen (l ∷ w) = literal-once seen (l .positive) (l .variable) ++ line-rest (with seen (l .variable)) w
 
 -- at `from` the input has a written clause, and b has room for its line from `at` on
 pub record ClauseAt (s : List ℕ) (from : ℕ) (b : List ℕ) (at : ℕ) : Type 0 where
@@ -41,7 +46,7 @@ pub record ClauseAt (s : List ℕ) (from : ℕ) (b : List ℕ) (at : ℕ) : Type
 abbrev pub AfterClause : List ℕ → ℕ → List ℕ → ℕ → List ℕ → Place → Type 0
 AfterClause s from b at c p =
     (w : List Literal) (rest : List ℕ) → drop from s ≡ clause-bytes w ++ rest → WrittenOver max-variables w
-    → Wrote (clause-line (without-repeats w)) at b c (p .at) × (p .from ≡ from + length (clause-bytes w))
+    → Wrote (clause-line (without-repeats w)) at b c (p .at) × (drop (p .from) s ≡ rest)
 
 -- behind kind 1 the input has so many written clauses, and b has room for their lines from `at` on
 pub record Printable (s : List ℕ) (count : ℕ) (b : List ℕ) (at : ℕ) : Type 0 where

@@ -46,8 +46,8 @@ fn put_sign(sign: bool, buffer: &mut [u8], at: usize) -> usize
 
 // The literal of variable k, from 1, and a blank.
 fn put_literal(sign: bool, k: u8, buffer: &mut [u8], at: usize) -> usize
-    requires { ⌜ (1 ≤ k) × Room at (literal-text sign (k - 1)) (now buffer) ⌝ }
-    ensures { λ r. ⌜ Wrote (literal-text sign (k - 1)) at (now (buffer .entry)) (now (buffer .exit)) r ⌝ }
+    requires { ⌜ Room at (literal-text sign k) (now buffer) ⌝ }
+    ensures { λ r. ⌜ Wrote (literal-text sign k) at (now (buffer .entry)) (now (buffer .exit)) r ⌝ }
 {
     let digits = put_sign(sign, buffer, at);
     let blank = writing::put_decimal(k as u64, buffer, digits);
