@@ -5,11 +5,13 @@ use mathlib.Core.List.{List, [], _∷_, _++_, map, foldl, append-assoc, append-n
 use mathlib.Core.Path.{_≡_, refl, sym, ap, _∙_}
 use native.Mathlib.Omega.{arith}
 use lib.Dec.{eqb}
-use lib.ListN.{length, getD, drop, length-append, length-drop}
+use lib.ListN.{length, getD, drop, length-append, length-drop, length-map}
 use lib.Seq.{append-snoc, drop-cons}
 use Rattle.limits.specs.Limits.{max-variables}
+use borrow.Author.Tests.{lt-ltb, le-ltb}
 use Rattle.lists.specs.Every.{Every}
 use Rattle.lists.proofs.DropLaws.{drop-next}
+use Rattle.lists.proofs.EveryLaws.{every-element, every-of}
 use Rattle.lists.proofs.TestLaws.{eqb-comm}
 use Rattle.masks.specs.Mask.{with}
 use Rattle.masks.proofs.BitLaws.{bit-with}
@@ -18,13 +20,21 @@ use Rattle.writing.specs.Text.{digit-zero, line-feed, blank, decimal, line-of}
 use Rattle.writing.specs.Placed.{Room, Wrote}
 use Rattle.writing.proofs.DecimalLaws.{decimal-one}
 use Rattle.writing.proofs.PlacedLaws.{placed-none, wrote-more, room-front, room-behind}
-use Rattle.formula.specs.Format.{Literal, literal-kind, literal-bytes, literals-bytes, clause-bytes, clauses-bytes, names, add, without-repeats, WrittenOver}
+use Rattle.formula.specs.Format.{Literal, literal-kind, literal-bytes, literals-bytes, clause-bytes, clauses-bytes, formula-bytes, names, add, without-repeats, WrittenOver, Encodes}
+use Rattle.formula.specs.Decoding.{readable, refused}
+use Rattle.formula.specs.InnerDecode.{decode}
+use Rattle.formula.specs.declared.Refusal.{Refusal}
+use Rattle.formula.specs.declared.Refusal.the-variants.{ShortBuffer}
 use Rattle.formula.specs.Masked.{variables}
 use Rattle.formula.proofs.ClauseLaws.{variables-bit}
+use Rattle.formula.proofs.Demands.{accepted-only}
 use Rattle.formula.proofs.FormatLaws.{names-append}
+use Rattle.dimacs.specs.declared.answers.Converted.the-variants.{Written}
+use Rattle.dimacs.specs.declared.writer.Place.{Place}
 use Rattle.dimacs.specs.Text.{minus-sign}
-use Rattle.dimacs.specs.Written.{literal-word, clause-line, clause-lines}
-use Rattle.dimacs.specs.InnerWriter.{sign-bytes, literal-text, literal-once, line-rest}
+use Rattle.dimacs.specs.Written.{literal-word, clause-line, clause-lines, opening-line, text-of, text-room}
+use Rattle.dimacs.specs.Convert.{converted-values, declined, to-text}
+use Rattle.dimacs.specs.InnerWriter.{sign-bytes, literal-text, literal-once, line-rest, ClauseAt, AfterClause, Printable, Lined, Readable}
 
 -- ---- the line of a clause
 
@@ -218,3 +228,160 @@ module _ {s rest : List ℕ} {w : List Literal} {at : ℕ} {before now : List �
   pub lining-last : (now′ : List ℕ) (next′ : ℕ) → getD s i 0 ≡ 4 → at ≤ length before → Wrote (digit-zero ∷ line-feed ∷ []) next now now′ next′
       → Wrote (clause-line (without-repeats w)) at before now′ next′ × (drop (i + 1) s ≡ rest)
   lining-last now′ next′ h l x = (rw (g .same, line-end h) (wrote-more l (g .wrote) x), spent s rest i (g .left) (g .bytes) h .1)
+
+-- ---- the loop over the clauses
+
+-- a clause, and then others
+record Some (left : List (List Literal)) : Type 0 where
+  clause : List Literal
+  others : List (List Literal)
+  is : left ≡ clause ∷ others
+
+some : (left : List (List Literal)) → 0 < length left → Some left
+some [] h = absurd (omega arith)
+some (w ∷ ws) h = record { clause = w; others = ws; is = refl }
+
+-- the lines are written up to the clauses that are left at `from`, of which there are so many
+pub record Listing (s rest : List ℕ) (ws : List (List Literal)) (at : ℕ) (before now : List ℕ) (from next more : ℕ) : Type 0 where
+  pub left : List (List Literal)
+  pub bytes : drop from s ≡ clauses-bytes left ++ rest
+  pub over : Every (WrittenOver max-variables) left
+  pub many : length left ≡ more
+  pub written : List ℕ
+  pub wrote : Wrote written at before now next
+  pub same : clause-lines (map without-repeats ws) ≡ written ++ clause-lines (map without-repeats left)
+
+-- nothing is written yet
+pub listing-first : (s rest : List ℕ) (from : ℕ) (ws : List (List Literal)) (at : ℕ) (before : List ℕ) (count : ℕ) → drop from s ≡ clauses-bytes ws ++ rest
+    → Every (WrittenOver max-variables) ws → count ≡ length ws → Listing s rest ws at before before from at count
+listing-first s rest from ws at before count e o n =
+    record { left = ws; bytes = e; over = o; many = sym n; written = []; wrote = record { buffer = placed-none at before; next = omega arith }; same = refl }
+
+module _ {s rest : List ℕ} {ws : List (List Literal)} {at : ℕ} {before now : List ℕ} {from next more : ℕ} (g : Listing s rest ws at before now from next more) where
+  clause-bytes-next : (a : Some (g .left)) → drop from s ≡ clause-bytes (a .clause) ++ (clauses-bytes (a .others) ++ rest)
+  unfolding clauses-bytes
+  clause-bytes-next a = g .bytes ∙ rw (a .is) (append-assoc (clause-bytes (a .clause)) (clauses-bytes (a .others)) rest)
+
+  over-next : (a : Some (g .left)) → WrittenOver max-variables (a .clause) × Every (WrittenOver max-variables) (a .others)
+  over-next a = rw (a .is) at (g .over)
+
+  lines-next : (a : Some (g .left))
+      → clause-lines (map without-repeats (g .left)) ≡ clause-line (without-repeats (a .clause)) ++ clause-lines (map without-repeats (a .others))
+  unfolding clause-lines
+  lines-next a = rw (a .is)
+
+  -- the next clause stands there, with room for its line
+  pub listing-clause : 0 < more → Room at (clause-lines (map without-repeats ws)) before → ClauseAt s from now next
+  listing-clause h r =
+      let a = some (g .left) (omega (arith, g .many)) in
+      record {
+        clause = a .clause;
+        rest = clauses-bytes (a .others) ++ rest;
+        bytes = clause-bytes-next a;
+        over = over-next a .0;
+        room = room-front next (clause-line (without-repeats (a .clause))) (clause-lines (map without-repeats (a .others))) _ now (lines-next a) (room-behind at (g .written) _ _ before now next (g .same) r (g .wrote));
+      }
+
+  -- a line more
+  pub listing-more : (now′ : List ℕ) (p : Place) → 0 < more → at ≤ length before → AfterClause s from now next now′ p
+      → Listing s rest ws at before now′ (p .from) (p .at) (more - 1)
+  listing-more now′ p h l f =
+      let a = some (g .left) (omega (arith, g .many)) in
+      let x = f (a .clause) (clauses-bytes (a .others) ++ rest) (clause-bytes-next a) (over-next a .0) in
+      record {
+        left = a .others;
+        bytes = x .1;
+        over = over-next a .1;
+        many = omega (arith, ap length (a .is), g .many);
+        written = g .written ++ clause-line (without-repeats (a .clause));
+        wrote = wrote-more l (g .wrote) (x .0);
+        same = g .same ∙ ap (λ (t : List ℕ). g .written ++ t) (lines-next a) ∙ sym (append-assoc (g .written) (clause-line (without-repeats (a .clause))) _);
+      }
+
+  -- no clause is left
+  pub listing-last : more ≡ 0 → Wrote (clause-lines (map without-repeats ws)) at before now next
+  unfolding clause-lines
+  listing-last h = go (g .left) (g .many ∙ h) (g .same)
+    where
+      go : (left : List (List Literal)) → length left ≡ 0 → clause-lines (map without-repeats ws) ≡ g .written ++ clause-lines (map without-repeats left)
+          → Wrote (clause-lines (map without-repeats ws)) at before now next
+      go [] n e = rw (e, append-nil (g .written)) (g .wrote)
+      go (w ∷ left) n e = absurd (omega arith)
+
+-- ---- the whole text
+
+-- clauses over n variables are clauses over the most
+over-most : {n : ℕ} (ws : List (List Literal)) → n ≤ max-variables → Every (WrittenOver n) ws → Every (WrittenOver max-variables) ws
+over-most {n} ws h o = every-of (WrittenOver max-variables) ws λ w m.
+    let p = every-element (WrittenOver n) ws w o m in
+    record {
+      below = every-of (λ l. l .variable < max-variables) w (λ l k. let b = every-element (λ l. l .variable < n) w l (p .below) k in omega arith);
+      one-way = p .one-way;
+    }
+
+-- the written clauses of a readable input stand behind kind 1
+module _ {s : List ℕ} {n : ℕ} {cs : List (List Literal)} (e : Encodes s n cs) where
+  encoded-bytes : drop 2 s ≡ clauses-bytes (e .written) ++ (5 ∷ [])
+  unfolding formula-bytes
+  encoded-bytes = ap (drop 2) (e .bytes)
+
+  encoded-over : Every (WrittenOver max-variables) (e .written)
+  encoded-over = over-most (e .written) (e .sized .most) (e .sized .clauses)
+
+  encoded-many : length cs ≡ length (e .written)
+  encoded-many = ap length (e .read) ∙ length-map (e .written) without-repeats
+
+  -- the text is the p line and their lines
+  encoded-text : text-of n cs ≡ opening-line n (length cs) ++ clause-lines (map without-repeats (e .written))
+  unfolding text-of
+  encoded-text = ap (λ (ds : List (List Literal)). opening-line n (length cs) ++ clause-lines ds) (e .read)
+
+-- there is room for the p line
+pub opening-room : {s b : List ℕ} {n m : ℕ} → Readable s n m b → Room 0 (opening-line n m) b
+unfolding text-of
+opening-room {s} {b} {n} {m} r =
+    room-front 0 (opening-line n m) (clause-lines (r .clauses)) (text-of n (r .clauses)) b (rw (r .all)) (r .room)
+
+module _ {s b c : List ℕ} {n m p : ℕ} (r : Readable s n m b) (o : Wrote (opening-line n m) 0 b c p) where
+  -- and behind it for the others
+  pub readable-printable : Printable s m c p
+  readable-printable =
+      let e = accepted-only s n (r .clauses) (r .reads) in
+      record {
+        clauses = e .written;
+        rest = 5 ∷ [];
+        bytes = encoded-bytes e;
+        over = encoded-over e;
+        all = r .all ∙ encoded-many e;
+        room = room-behind 0 (opening-line n m) (clause-lines (map without-repeats (e .written))) (text-of n (r .clauses)) b c p (rw (r .all) (encoded-text e)) (r .room) o;
+      }
+
+  -- which make the text
+  pub readable-written : (d : List ℕ) (q : ℕ) → Lined s m p c d q → (cs : List (List Literal)) → decode s ≡ readable n cs → Wrote (text-of n cs) 0 b d q
+  readable-written d q f cs k =
+      let e = accepted-only s n cs k in
+      let same : r .clauses ≡ cs = cc (r .reads) in
+      let many : m ≡ length cs = r .all ∙ ap length same in
+      let h : 0 ≤ length b = omega arith in
+      rw (encoded-text e, ← many) (wrote-more h o (f (e .written) (5 ∷ []) (encoded-bytes e) (encoded-over e) (many ∙ encoded-many e)))
+
+-- ---- the act
+
+-- a short buffer
+pub text-short : (s b : List ℕ) → length b < text-room → to-text s b ≡ declined (ShortBuffer 0) b
+unfolding to-text
+text-short s b h = rw (lt-ltb (length b) text-room h)
+
+module _ (s b : List ℕ) (long : text-room ≤ length b) where
+  -- an input that is refused
+  pub text-refused : (r : Refusal) → decode s ≡ refused r → to-text s b ≡ declined r b
+  unfolding to-text
+  text-refused r e = rw (le-ltb (length b) text-room long, e)
+
+  -- the whole text
+  pub text-written : (n : ℕ) (cs : List (List Literal)) (c : List ℕ) (r : ℕ) → decode s ≡ readable n cs → Wrote (text-of n cs) 0 b c r
+      → to-text s b ≡ record { answer = converted-values (Written r); buffer = c }
+  unfolding to-text
+  text-written n cs c r e w =
+      let z : 0 + length (text-of n cs) ≡ length (text-of n cs) = omega arith in
+      rw (le-ltb (length b) text-room long, e, w .next, w .buffer, z)
