@@ -1,6 +1,7 @@
 pub mod KeepLaws
 pub mod LineLaws
 pub mod PieceLaws
+pub mod RoomLaws
 pub mod RoundLaws
 pub mod ScanLaws
 pub mod TakeLaws

@@ -310,14 +310,13 @@ module _ {s rest : List ℕ} {ws : List (List Literal)} {at : ℕ} {before now :
 
 -- ---- the whole text
 
--- clauses over n variables are clauses over the most
+-- literals and clauses over n variables are over the most
+pub below-most : {n : ℕ} (c : List Literal) → n ≤ max-variables → Every (λ l. l .variable < n) c → Every (λ l. l .variable < max-variables) c
+below-most {n} c h o = every-of (λ l. l .variable < max-variables) c (λ l m. let b = every-element (λ l. l .variable < n) c l o m in omega arith)
+
 over-most : {n : ℕ} (ws : List (List Literal)) → n ≤ max-variables → Every (WrittenOver n) ws → Every (WrittenOver max-variables) ws
-over-most {n} ws h o = every-of (WrittenOver max-variables) ws λ w m.
-    let p = every-element (WrittenOver n) ws w o m in
-    record {
-      below = every-of (λ l. l .variable < max-variables) w (λ l k. let b = every-element (λ l. l .variable < n) w l (p .below) k in omega arith);
-      one-way = p .one-way;
-    }
+over-most {n} ws h o =
+    every-of (WrittenOver max-variables) ws (λ w m. let p = every-element (WrittenOver n) ws w o m in record { below = below-most w h (p .below); one-way = p .one-way })
 
 -- the written clauses of a readable input stand behind kind 1
 module _ {s : List ℕ} {n : ℕ} {cs : List (List Literal)} (e : Encodes s n cs) where
