@@ -1,14 +1,14 @@
--- The lines of clauses: what is written of each literal in turn is the line of what is read, and the loops that write them.
+-- The text of a formula: what is written of each literal in turn is the line of what is read, the loops that write it, and the act.
 use Prim.Native.Nat.{ℕ, suc, _+_, _-_, _<_, _≤_}
-use mathlib.Core.Bool.{Bool, true, false, cond, or-comm, or-false}
+use mathlib.Core.Bool.{Bool, true, false, cond, or-false}
 use mathlib.Core.List.{List, [], _∷_, _++_, map, foldl, append-assoc, append-nil}
 use mathlib.Core.Path.{_≡_, refl, sym, ap, _∙_}
 use native.Mathlib.Omega.{arith}
+use borrow.Author.Tests.{lt-ltb, le-ltb}
 use lib.Dec.{eqb}
 use lib.ListN.{length, getD, drop, length-append, length-drop, length-map}
 use lib.Seq.{append-snoc, drop-cons}
 use Rattle.limits.specs.Limits.{max-variables}
-use borrow.Author.Tests.{lt-ltb, le-ltb}
 use Rattle.lists.specs.Every.{Every}
 use Rattle.lists.proofs.DropLaws.{drop-next}
 use Rattle.lists.proofs.EveryLaws.{every-element, every-of}
@@ -69,11 +69,12 @@ line-texts (l ∷ c) =
     ∙ word-text l (clause-line c)
     ∙ rw (line-texts c) (sym (append-assoc (literal-text (l .positive) (l .variable + 1)) (literals-text c) _))
 
--- one literal more
+-- one literal more is one text more
 texts-last : (c : List Literal) (l : Literal) → literals-text (c ++ (l ∷ [])) ≡ literals-text c ++ literal-text (l .positive) (l .variable + 1)
 texts-last [] l = append-nil (literal-text (l .positive) (l .variable + 1))
 texts-last (x ∷ c) l = rw (texts-last c l) (sym (append-assoc (literal-text (x .positive) (x .variable + 1)) (literals-text c) _))
 
+-- is one variable more
 variables-last : (c : List Literal) (l : Literal) → variables (c ++ (l ∷ [])) ≡ with (variables c) (l .variable)
 unfolding names
 variables-last c l = mask-same (variables (c ++ (l ∷ []))) (with (variables c) (l .variable)) λ i.
@@ -96,7 +97,7 @@ line-fold c (l ∷ w) = line-fold (add c l) w ∙ go (names c (l .variable)) ref
         (append-assoc (literals-text c) (literal-text (l .positive) (l .variable + 1)) _)
 
 -- so the line of what is read of a written clause is written literal by literal
-pub line-read : (w : List Literal) → clause-line (without-repeats w) ≡ line-rest 0 w
+line-read : (w : List Literal) → clause-line (without-repeats w) ≡ line-rest 0 w
 unfolding without-repeats variables
 line-read w = line-fold [] w
 
@@ -119,6 +120,7 @@ pub record Ahead (s rest : List ℕ) (i : ℕ) (left : List Literal) : Type 0 wh
   pub inside : i + 2 ≤ length s
   pub bytes : drop (i + 2) s ≡ literals-bytes others ++ (4 ∷ rest)
 
+-- the kind of a literal tells its sign
 kind-sign : (p : Bool) → eqb (literal-kind p) 2 ≡ p
 kind-sign true = refl
 kind-sign false = refl
@@ -184,10 +186,12 @@ module _ {s rest : List ℕ} {w : List Literal} {at : ℕ} {before now : List �
   abbrev here : List ℕ
   here = literal-once seen (eqb (getD s i 0) 2) (getD s (i + 1) 0 - 1)
 
+  -- the rest of the line is that, and then the others
   rest-next : (a : Ahead s rest i (g .left)) → line-rest seen (g .left) ≡ here ++ line-rest (with seen (getD s (i + 1) 0 - 1)) (a .others)
   unfolding line-rest
   rest-next a = let e : getD s (i + 1) 0 - 1 ≡ a .literal .variable = omega (arith, a .variable) in rw (a .is, a .sign, e)
 
+  -- the literal and the others are over the most variables
   below-next : (a : Ahead s rest i (g .left)) → (a .literal .variable < max-variables) × Every (λ l. l .variable < max-variables) (a .others)
   below-next a = rw (a .is) at (g .below)
 
@@ -217,14 +221,16 @@ module _ {s rest : List ℕ} {w : List Literal} {at : ℕ} {before now : List �
         same = g .same ∙ ap (λ (l : List ℕ). g .written ++ l) (rest-next a) ∙ sym (append-assoc (g .written) here _);
       }
 
-  -- the end of the line
+  -- at kind 4 the rest of the line is its end
   line-end : getD s i 0 ≡ 4 → line-rest seen (g .left) ≡ digit-zero ∷ line-feed ∷ []
   unfolding line-rest
   line-end h = rw (spent s rest i (g .left) (g .bytes) h .0)
 
+  -- for which there is room
   pub end-room : getD s i 0 ≡ 4 → Room at (clause-line (without-repeats w)) before → Room next (digit-zero ∷ line-feed ∷ []) now
   end-room h r = rw (line-end h) at (lining-room r)
 
+  -- and with which the line is whole
   pub lining-last : (now′ : List ℕ) (next′ : ℕ) → getD s i 0 ≡ 4 → at ≤ length before → Wrote (digit-zero ∷ line-feed ∷ []) next now now′ next′
       → Wrote (clause-line (without-repeats w)) at before now′ next′ × (drop (i + 1) s ≡ rest)
   lining-last now′ next′ h l x = (rw (g .same, line-end h) (wrote-more l (g .wrote) x), spent s rest i (g .left) (g .bytes) h .1)
@@ -237,6 +243,7 @@ record Some (left : List (List Literal)) : Type 0 where
   others : List (List Literal)
   is : left ≡ clause ∷ others
 
+-- so it is where there are any
 some : (left : List (List Literal)) → 0 < length left → Some left
 some [] h = absurd (omega arith)
 some (w ∷ ws) h = record { clause = w; others = ws; is = refl }
@@ -258,13 +265,16 @@ listing-first s rest from ws at before count e o n =
     record { left = ws; bytes = e; over = o; many = sym n; written = []; wrote = record { buffer = placed-none at before; next = omega arith }; same = refl }
 
 module _ {s rest : List ℕ} {ws : List (List Literal)} {at : ℕ} {before now : List ℕ} {from next more : ℕ} (g : Listing s rest ws at before now from next more) where
+  -- the bytes of a clause, and then those of the others
   clause-bytes-next : (a : Some (g .left)) → drop from s ≡ clause-bytes (a .clause) ++ (clauses-bytes (a .others) ++ rest)
   unfolding clauses-bytes
   clause-bytes-next a = g .bytes ∙ rw (a .is) (append-assoc (clause-bytes (a .clause)) (clauses-bytes (a .others)) rest)
 
+  -- each is a written clause
   over-next : (a : Some (g .left)) → WrittenOver max-variables (a .clause) × Every (WrittenOver max-variables) (a .others)
   over-next a = rw (a .is) at (g .over)
 
+  -- its line, and then those of the others
   lines-next : (a : Some (g .left))
       → clause-lines (map without-repeats (g .left)) ≡ clause-line (without-repeats (a .clause)) ++ clause-lines (map without-repeats (a .others))
   unfolding clause-lines
@@ -310,23 +320,26 @@ module _ {s rest : List ℕ} {ws : List (List Literal)} {at : ℕ} {before now :
 
 -- ---- the whole text
 
--- literals and clauses over n variables are over the most
+-- literals over n variables are over the most
 pub below-most : {n : ℕ} (c : List Literal) → n ≤ max-variables → Every (λ l. l .variable < n) c → Every (λ l. l .variable < max-variables) c
 below-most {n} c h o = every-of (λ l. l .variable < max-variables) c (λ l m. let b = every-element (λ l. l .variable < n) c l o m in omega arith)
 
+-- and so are written clauses
 over-most : {n : ℕ} (ws : List (List Literal)) → n ≤ max-variables → Every (WrittenOver n) ws → Every (WrittenOver max-variables) ws
 over-most {n} ws h o =
     every-of (WrittenOver max-variables) ws (λ w m. let p = every-element (WrittenOver n) ws w o m in record { below = below-most w h (p .below); one-way = p .one-way })
 
--- the written clauses of a readable input stand behind kind 1
 module _ {s : List ℕ} {n : ℕ} {cs : List (List Literal)} (e : Encodes s n cs) where
+  -- the written clauses of a readable input stand behind kind 1
   encoded-bytes : drop 2 s ≡ clauses-bytes (e .written) ++ (5 ∷ [])
   unfolding formula-bytes
   encoded-bytes = ap (drop 2) (e .bytes)
 
+  -- over the most variables
   encoded-over : Every (WrittenOver max-variables) (e .written)
   encoded-over = over-most (e .written) (e .sized .most) (e .sized .clauses)
 
+  -- as many as are read
   encoded-many : length cs ≡ length (e .written)
   encoded-many = ap length (e .read) ∙ length-map (e .written) without-repeats
 

@@ -1,6 +1,6 @@
 -- How long a text is at most, and the longest one.
 use Prim.Native.Nat.{ℕ, zero, suc, _+_, _*_, _-_, _≤_, _<_}
-use mathlib.Core.Bool.{Bool, true, false, not, cond, _&&_, _||_}
+use mathlib.Core.Bool.{Bool, true, false, cond, _||_}
 use mathlib.Core.List.{List, [], _∷_}
 use mathlib.Core.Path.{_≡_, refl, ap, _∙_}
 use native.Mathlib.Omega.{arith}
@@ -57,7 +57,7 @@ high-names (l ∷ c) v = go (ltb (l .variable) one-digit) refl (high-names c v)
     go true e h = let f = ltb-true (l .variable) one-digit e in rw (ne-eqb (l .variable) (v + one-digit) (omega arith)) h
     go false e h = rw (h, shift _ refl (ltb-false (l .variable) one-digit e))
 
--- so they are a clause
+-- so none of them twice
 high-once : (c : List Literal) → distinct c ≡ true → distinct (high c) ≡ true
 unfolding high distinct
 high-once [] d = refl
@@ -71,6 +71,7 @@ high-once (l ∷ c) d = let a = distinct-rest l c d in go (ltb (l .variable) one
         let s : l .variable - one-digit + one-digit ≡ l .variable = omega arith in
         rw (high-names c (l .variable - one-digit), s, n, h)
 
+-- over so many variables less
 high-below : (m : ℕ) (c : List Literal) → Every (λ l. l .variable < m + one-digit) c → Every (λ l. l .variable < m) (high c)
 unfolding high
 high-below m [] h = tt
@@ -81,11 +82,12 @@ high-below m (l ∷ c) h = go (ltb (l .variable) one-digit) refl (high-below m c
     go true e k = k
     go false e k = let f = ltb-false (l .variable) one-digit e in let b = h .0 in (omega arith, k)
 
--- a literal has three bytes at most, and one more if it has two digits
+-- a sign has one byte at most
 sign-le : (sign : Bool) → length (sign-bytes sign) ≤ 1
 sign-le true = omega arith
 sign-le false = omega arith
 
+-- and a literal three, or one more if it has two digits
 texts-le : (c : List Literal) → Every (λ l. l .variable < max-variables) c → length (literals-text c) ≤ 3 * length c + length (high c)
 unfolding high
 texts-le [] h = omega arith
@@ -112,6 +114,7 @@ line-le {n} c h o =
 
 -- ---- the text
 
+-- nor are the lines of clauses, each
 lines-le : {n : ℕ} (cs : List (List Literal)) → n ≤ max-variables → Every (ClauseOver n) cs → length (clause-lines cs) ≤ length cs * longest-line
 unfolding clause-lines
 lines-le [] h k = omega arith
@@ -146,15 +149,18 @@ all-false : ℕ → List Literal
 all-false zero = []
 all-false (suc n) = record { variable = n; positive = false } ∷ all-false n
 
+-- over n variables or more
 all-false-below : (n m : ℕ) → n ≤ m → Every (λ l. l .variable < m) (all-false n)
 unfolding all-false
 all-false-below zero m h = tt
 all-false-below (suc n) m h = (h, all-false-below n m (omega arith))
 
+-- for the most it is a clause
 all-false-over : ClauseOver max-variables (all-false max-variables)
 unfolding all-false distinct names
 all-false-over = record { below = all-false-below max-variables max-variables (omega arith); once = refl }
 
+-- with the longest line
 all-false-line : length (clause-line (all-false max-variables)) ≡ longest-line
 unfolding all-false decimal decimal-within
 all-false-line = refl

@@ -1,10 +1,9 @@
 // The act write: the formula of an input as text (S16).
 ghost use mathlib.Core.Path.{_≡_};
-ghost use mathlib.Core.List.{List, [], _∷_, _++_};
-ghost use Prim.Native.Nat.{ℕ, _-_, _≤_};
-ghost use lib.ListN.{length};
+ghost use mathlib.Core.List.{List};
+ghost use Prim.Native.Nat.{_-_, _≤_};
 ghost use Rattle.limits.specs.Limits.{max-variables};
-ghost use Rattle.masks.specs.Mask.{bit, with};
+ghost use Rattle.masks.specs.Mask.{with};
 ghost use Rattle.formula.specs.Format.{Literal};
 ghost use Rattle.formula.specs.Decoding.{readable};
 ghost use Rattle.formula.specs.InnerDecode.{decode};

@@ -1,5 +1,5 @@
 -- `put_clauses`: the invariant is that the lines are written up to the clauses that are left. The measure is their number.
-use Prim.Native.Nat.{ℕ, _+_, _-_, _≤_}
+use Prim.Native.Nat.{ℕ, _+_, _-_}
 use mathlib.Core.List.{List, _++_}
 use mathlib.Core.Path.{_≡_}
 use native.Mathlib.Omega.{arith}
