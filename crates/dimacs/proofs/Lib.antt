@@ -1,3 +1,4 @@
+pub mod GoesLaws
 pub mod KeepLaws
 pub mod LineLaws
 pub mod PieceLaws

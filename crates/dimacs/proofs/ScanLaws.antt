@@ -96,6 +96,14 @@ capped-low x h = rw (lt-ltb x cap h)
 pub capped-high : (x : ℕ) → cap ≤ x → capped x ≡ cap
 capped-high x h = rw (le-ltb x cap h)
 
+-- and a number whose cap is below it
+pub capped-back : (x : ℕ) → capped x < cap → capped x ≡ x
+capped-back x h = go (ltb x cap) refl
+  where
+    go : (b : Bool) → ltb x cap ≡ b → capped x ≡ x
+    go true e = capped-low x (ltb-true x cap e)
+    go false e = absurd (omega (arith, capped-high x (ltb-false x cap e)))
+
 -- so the cap of the cap is the cap
 capped-same : (x : ℕ) → x ≤ cap → capped x ≡ x
 capped-same x h = go (ltb x cap) refl

@@ -1,83 +1,72 @@
+-- `take_line`: of the words, those from `from` on are left.
 use borrow.Author.Needs.{needs}
+use Prim.Native.Nat.{_-_, _≤_, _<_}
+use mathlib.Core.Bool.{true}
+use mathlib.Core.Path.{_≡_, refl, sym, ap, _∙_}
+use native.Mathlib.Omega.{arith}
+use lib.ListN.{length, getD}
+use Rattle.dimacs.specs.Text.{Progress}
+use Rattle.dimacs.specs.InnerScan.{in-word, words-at}
+use Rattle.dimacs.specs.InnerReader.{Keeps}
+use Rattle.dimacs.proofs.TextLaws.{words-from, start-le, end-in-le, start-stops, words-start, words-first, words-over}
+use Rattle.dimacs.proofs.GoesLaws.{Goes, goes-start, goes-next, goes-stop, goes-end, take-one}
 use Rattle.dimacs.proofs.reader.take_line.Statement.{statement}
 use Rattle.dimacs.proofs.reader.take_line.Tie as tie
-use Rattle.dimacs.proofs.reader.take_line.Reads as reads
-use Rattle.dimacs.proofs.reader.take_line.Lts as lts
-use Rattle.dimacs.proofs.reader.take_word.Reads as take-word-reads
-use Rattle.dimacs.proofs.scan.word_end.Reads as word-end-reads
-use Rattle.dimacs.proofs.scan.word_start.Reads as word-start-reads
 
 abbrev Inv-loop : tie.InvT-loop
-Inv-loop line at kept₀ reader₀ from₀ kept reader from = ?
+Inv-loop line at r kept₀ reader₀ from₀ kept reader from = ?
 
 abbrev μ-loop : tie.MeasureT-loop
-μ-loop line at kept₀ reader₀ from₀ kept reader from = ?
+μ-loop line at r kept₀ reader₀ from₀ kept reader from = length line - from
 
--- src/reader.rt:125:9
 word-start-requires : tie.Need-word-start-requires Inv-loop μ-loop
 word-start-requires c κs = search needs
 
--- src/reader.rt:126:5
 loop-holds : tie.Need-loop-holds Inv-loop μ-loop
-loop-holds c = search needs
+loop-holds c = ?
 
--- src/reader.rt:127:13
 word-end-requires : tie.Need-word-end-requires Inv-loop μ-loop
-word-end-requires c κs = search needs
+word-end-requires c κs = ?
 
--- src/reader.rt:128:25
 sub-take-word : tie.Need-sub-take-word Inv-loop μ-loop
 sub-take-word c = search needs
 
--- src/reader.rt:128:25
 part-take-word-start : tie.Need-part-take-word-start Inv-loop μ-loop
 part-take-word-start c = search needs
 
--- src/reader.rt:128:25
 part-take-word-end : tie.Need-part-take-word-end Inv-loop μ-loop
 part-take-word-end c = search needs
 
--- src/reader.rt:128:43
 add-take-word : tie.Need-add-take-word Inv-loop μ-loop
-add-take-word c = search needs
+add-take-word c = ?
 
--- src/reader.rt:128:15
 take-word-requires : tie.Need-take-word-requires Inv-loop μ-loop
-take-word-requires c κs = search needs
+take-word-requires c κs = ?
 
--- src/reader.rt:129:25
 enum-known-after : tie.Need-enum-known-after Inv-loop μ-loop
 enum-known-after c = search needs
 
--- src/reader.rt:132:28
 enum-known-refusal : tie.Need-enum-known-refusal Inv-loop μ-loop
 enum-known-refusal c = search needs
 
--- src/reader.rt:133:17
 same-length : tie.Need-same-length Inv-loop μ-loop
-same-length c = search needs
+same-length c = ?
 
--- src/reader.rt:133:17
 returns : tie.Need-returns Inv-loop μ-loop
 returns c = ?
 
--- src/reader.rt:136:9
 word-start-requires-2 : tie.Need-word-start-requires-2 Inv-loop μ-loop
 word-start-requires-2 c κs = search needs
 
--- src/reader.rt:126:5
 loop-less : tie.Need-loop-less Inv-loop μ-loop
-loop-less c = search needs
+loop-less c = ?
 
--- src/reader.rt:126:5
 loop-again : tie.Need-loop-again Inv-loop μ-loop
 loop-again c = ?
 
--- src/reader.rt:120:1
 same-length-2 : tie.Need-same-length-2 Inv-loop μ-loop
-same-length-2 c = search needs
+same-length-2 c = ?
 
--- src/reader.rt:120:1
 returns-2 : tie.Need-returns-2 Inv-loop μ-loop
 returns-2 c = ?
 
