@@ -17,10 +17,11 @@ use Rattle.dimacs.specs.declared.scan.Token as held
 use Rattle.dimacs.specs.declared.scan.Token.the-variants.{Ends, Literal, Bad}
 use Rattle.dimacs.specs.Text.{Piece, ends-line, others, all-words, comment, run, value, Token, ends, names-variable, bad, minus-sign, signed, unsigned, token, Progress, Step, next, stop, take-literal, take-end, take-token, take-word, take-words}
 use Rattle.dimacs.specs.InnerScan.{until, lines-from, words-at, cap, capped, token-held}
-use Rattle.dimacs.specs.InnerReader.{line-at, other-words, lines-behind, words-behind, Keeps, Stepped}
+use Rattle.dimacs.specs.InnerReader.{line-at, other-words, lines-behind, words-behind, Keeps, Ready, Stepped}
 use Rattle.dimacs.proofs.ScanLaws.{capped-le, capped-low, capped-high, capped-back, capped-zero}
+use Rattle.dimacs.proofs.KeepLaws.{has-variables}
 use Rattle.dimacs.proofs.TakeLaws.{take-words-append}
-use Rattle.dimacs.proofs.TextLaws.{end-of, behind-more, others-comment, others-first}
+use Rattle.dimacs.proofs.TextLaws.{end-of, behind-end, behind-more, others-comment, others-first}
 
 -- ---- what an event says of a step
 
@@ -49,25 +50,42 @@ module _ {n : ℕ} {ws : List Piece} {s : Progress} where
   pub goes-start : {r : Reader} {b : List ℕ} → Keeps n s r b → Goes n ws s ws r b
   goes-start k = record { progress = s; keeps = k; same = refl }
 
-  -- the words us are taken, of us and vs that are left
-  pub goes-next : {rest : List Piece} {r x : Reader} {b c : List ℕ} (us vs : List Piece) → rest ≡ us ++ vs → (g : Goes n ws s rest r b)
-      → Stepped n c (take-words n us (g .progress)) (Next x) → Goes n ws s vs x c
-  goes-next {x = x} {c = c} us vs e g h =
-      let t = stepped-next n (take-words n us (g .progress)) x c h in
-      record {
-        progress = t .progress;
-        keeps = t .keeps;
-        same = g .same ∙ ap (λ (ps : List Piece). take-words n ps (g .progress)) e ∙ take-words-append n us vs (g .progress) ∙ ap (λ (q : Step). elim q [ next s′ ↦ take-words n vs s′ | stop y ↦ stop y ]) (t .taken);
-      }
+  -- what is left may be told in other words
+  pub goes-rest : {rest rest′ : List Piece} {r : Reader} {b : List ℕ} → rest ≡ rest′ → Goes n ws s rest r b → Goes n ws s rest′ r b
+  goes-rest e g = record { progress = g .progress; keeps = g .keeps; same = g .same ∙ ap (λ (ps : List Piece). take-words n ps (g .progress)) e }
 
-  -- one of them is refused
-  pub goes-stop : {rest : List Piece} {r : Reader} {b : List ℕ} (c : List ℕ) (y : Refusal) (us vs : List Piece) → rest ≡ us ++ vs → (g : Goes n ws s rest r b)
-      → Stepped n c (take-words n us (g .progress)) (Stopped y) → Stepped n c (take-words n ws s) (Stopped y)
-  goes-stop c y us vs e g h =
-      let t = stepped-stop n (take-words n us (g .progress)) y c h in
-      let f : take-words n ws s ≡ stop y =
-      g .same ∙ ap (λ (ps : List Piece). take-words n ps (g .progress)) e ∙ take-words-append n us vs (g .progress) ∙ ap (λ (q : Step). elim q [ next s′ ↦ take-words n vs s′ | stop y ↦ stop y ]) t in
-      rw f refl
+  module _ {rest : List Piece} {r : Reader} {b : List ℕ} (g : Goes n ws s rest r b) where
+    own : Keeps (r .variables) (g .progress) r b
+    own = subst (λ (m : ℕ). Keeps m (g .progress) r b) (sym (has-variables (g .keeps))) (g .keeps)
+
+    -- a reader that stands there can go on
+    pub goes-ready : Ready r b
+    goes-ready = record { progress = g .progress; keeps = own }
+
+    -- from where it stands
+    pub goes-step : (c : List ℕ) (e : Event) (F : ℕ → Progress → Step) → ((p : Progress) → Keeps (r .variables) p r b → Stepped (r .variables) c (F (r .variables) p) e)
+        → Stepped n c (F n (g .progress)) e
+    goes-step c e F h = subst (λ (m : ℕ). Stepped m c (F m (g .progress)) e) (has-variables (g .keeps)) (h (g .progress) own)
+
+    module _ (us vs : List Piece) (parts : rest ≡ us ++ vs) (c : List ℕ) (e : Event) (h : Stepped n c (take-words n us (g .progress)) e) where
+      both : (t : Step) → take-words n us (g .progress) ≡ t → take-words n ws s ≡ (elim t [ next s′ ↦ take-words n vs s′ | stop y ↦ stop y ])
+      both t q =
+          g .same
+          ∙ ap (λ (ps : List Piece). take-words n ps (g .progress)) parts
+          ∙ take-words-append n us vs (g .progress)
+          ∙ ap (λ (x : Step). elim x [ next s′ ↦ take-words n vs s′ | stop y ↦ stop y ]) q
+
+      -- the words us are taken, and vs are left
+      pub goes-next : (x : Reader) → e ≡ Next x → Goes n ws s vs x c
+      goes-next x q =
+          let t = stepped-next n (take-words n us (g .progress)) x c (subst (λ (y : Event). Stepped n c (take-words n us (g .progress)) y) q h) in
+          record { progress = t .progress; keeps = t .keeps; same = both (next (t .progress)) (t .taken) }
+
+      -- one of them is refused
+      pub goes-stop : (y : Refusal) → e ≡ Stopped y → Stepped n c (take-words n ws s) (Stopped y)
+      goes-stop y q =
+          let t = stepped-stop n (take-words n us (g .progress)) y c (subst (λ (x : Event). Stepped n c (take-words n us (g .progress)) x) q h) in
+          rw (both (stop y) t) refl
 
   -- none is left
   pub goes-end : {rest : List Piece} {r : Reader} {b : List ℕ} → rest ≡ [] → Goes n ws s rest r b → Stepped n b (take-words n ws s) (Next r)
@@ -75,13 +93,16 @@ module _ {n : ℕ} {ws : List Piece} {s : Progress} where
   goes-end e g = let f : take-words n ws s ≡ next (g .progress) = g .same ∙ ap (λ (ps : List Piece). take-words n ps (g .progress)) e in rw f (g .keeps)
 
 -- one word alone
-pub take-one : (n : ℕ) (w : Piece) (s : Progress) → take-words n (w ∷ []) s ≡ take-word n w s
+take-one : (n : ℕ) (w : Piece) (s : Progress) → take-words n (w ∷ []) s ≡ take-word n w s
 unfolding take-words
 take-one n w s = go (take-word n w s)
   where
     go : (t : Step) → (elim t [ next s′ ↦ take-words n [] s′ | stop r ↦ stop r ]) ≡ t
     go (next s′) = refl
     go (stop r) = refl
+
+pub one-step : (n : ℕ) (b : List ℕ) (e : Event) (s : Progress) (w : Piece) → Stepped n b (take-word n w s) e → Stepped n b (take-words n (w ∷ []) s) e
+one-step n b e s w = subst (λ (t : Step). Stepped n b t e) (sym (take-one n w s))
 
 -- ---- lines in turn
 
@@ -90,17 +111,26 @@ pub other-none : (t : List ℕ) (from : ℕ) → comment (drop from t) ≡ true 
 other-none t from e = rw e
 
 -- another line has its own
-pub other-some : (t : List ℕ) (from end : ℕ) → comment (drop from t) ≡ false → end ≡ end-of t from → other-words t from ≡ words-at from (take (end - from) (drop from t))
+other-some : (t : List ℕ) (from end : ℕ) → comment (drop from t) ≡ false → end ≡ end-of t from → other-words t from ≡ words-at from (take (end - from) (drop from t))
 other-some t from end e f = let g : end - from ≡ until ends-line (drop from t) = omega arith in rw (e, g)
 
+pub other-step : (n : ℕ) (s : Progress) (b : List ℕ) (e : Event) (t : List ℕ) (from end : ℕ) → comment (drop from t) ≡ false → end ≡ end-of t from
+    → Stepped n b (take-words n (words-at from (take (end - from) (drop from t))) s) e → Stepped n b (take-words n (other-words t from) s) e
+other-step n s b e t from end f g = subst (λ (ws : List Piece). Stepped n b (take-words n ws s) e) (sym (other-some t from end f g))
+
 -- the words behind a line are those of the next line, and of those behind it
-pub behind-next : (t : List ℕ) (end : ℕ) → end < length t → words-behind t end ≡ other-words t (end + 1) ++ words-behind t (end-of t (end + 1))
+pub behind-next : (t : List ℕ) (at end : ℕ) → at < length t → end ≡ end-of t (at + 1) → words-behind t at ≡ other-words t (at + 1) ++ words-behind t end
 unfolding all-words
-behind-next t end h = ap (λ (ls : List Piece). all-words (others ls)) (behind-more t end h) ∙ go (comment (drop (end + 1) t)) refl
+behind-next t at end h f = ap (λ (ls : List Piece). all-words (others ls)) (behind-more t at h) ∙ go (comment (drop (at + 1) t)) refl
   where
-    go : (b : Bool) → comment (drop (end + 1) t) ≡ b → all-words (others (lines-from t (end + 1))) ≡ other-words t (end + 1) ++ words-behind t (end-of t (end + 1))
-    go true e = ap all-words (others-comment t (end + 1) (omega arith) e) ∙ rw e
-    go false e = ap all-words (others-first t (end + 1) (omega arith) e) ∙ rw e
+    go : (b : Bool) → comment (drop (at + 1) t) ≡ b → all-words (others (lines-from t (at + 1))) ≡ other-words t (at + 1) ++ words-behind t end
+    go true e = ap all-words (others-comment t (at + 1) (omega arith) e) ∙ rw (e, f)
+    go false e = ap all-words (others-first t (at + 1) (omega arith) e) ∙ rw (e, f)
+
+-- behind a line that ends with the text there are none
+pub no-lines : (t : List ℕ) (end : ℕ) → length t ≤ end → words-behind t end ≡ []
+unfolding all-words others
+no-lines t end h = ap (λ (ls : List Piece). all-words (others ls)) (behind-end t end h)
 
 -- ---- tokens
 

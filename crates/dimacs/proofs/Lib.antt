@@ -1,6 +1,7 @@
 pub mod GoesLaws
 pub mod KeepLaws
 pub mod LineLaws
+pub mod OpeningLaws
 pub mod PieceLaws
 pub mod RoomLaws
 pub mod RoundLaws

@@ -13,7 +13,7 @@ use Rattle.lists.proofs.TestLaws.{bool-clash}
 use Rattle.formula.specs.Decoding.{refused}
 use Rattle.formula.specs.declared.Refusal.the-variants.{BadOpening}
 use Rattle.dimacs.specs.Text.{Piece, pieces, ends-line, lines, parts-words, non-empty, comment, others, all-words, opening, by-lines, read-text}
-use Rattle.dimacs.specs.InnerScan.{until, in-word, lines-from, words-at, OpensAt}
+use Rattle.dimacs.specs.InnerScan.{until, in-word, lines-from, words-at, words-from, OpensAt}
 use Rattle.dimacs.specs.InnerReader.{line-at, other-words, lines-behind, words-behind}
 use Rattle.dimacs.proofs.PieceLaws.{until-le, rest-pieces, pieces-until}
 
@@ -206,9 +206,6 @@ module _ (at : ℕ) (s : List ℕ) where
   abbrev pub end-in : ℕ → ℕ
   end-in i = i + until parts-words (drop i s)
 
-  abbrev pub words-from : ℕ → List Piece
-  words-from i = words-at (at + i) (drop i s)
-
   -- the word there
   abbrev pub word-from : ℕ → Piece
   word-from i = record { at = at + i; bytes = take (until parts-words (drop i s)) (drop i s) }
@@ -226,19 +223,32 @@ module _ (at : ℕ) (s : List ℕ) where
       ∙ until-stops in-word (drop i s) (omega (arith, length-drop i s))
 
   -- up to there nothing is read
-  pub words-start : (i : ℕ) → words-from i ≡ words-from (start-in i)
+  pub words-start : (i : ℕ) → words-from at s i ≡ words-from at s (start-in i)
   words-start i =
       let f : at + i + until in-word (drop i s) ≡ at + (i + until in-word (drop i s)) = omega arith in
       words-skip (at + i) (drop i s) ∙ ap₂ words-at f (drop-drop (until in-word (drop i s)) i s)
 
   -- a word, and those behind it
-  pub words-first : (i : ℕ) → i < length s → in-word (getD s i 0) ≡ true → words-from i ≡ word-from i ∷ words-from (end-in i)
+  words-first : (i : ℕ) → i < length s → in-word (getD s i 0) ≡ true → words-from at s i ≡ word-from i ∷ words-from at s (end-in i)
   words-first i h e =
       let k = until parts-words (drop i s) in
       let f : at + i + k ≡ at + (i + k) = omega arith in
       words-word (at + i) (drop i s) (until-some parts-words s i h (not-true (parts-words (getD s i 0)) e))
       ∙ ap (λ (ps : List Piece). word-from i ∷ ps) (ap₂ words-at f (drop-drop k i s))
 
+  -- it has a byte
+  pub word-some : (i : ℕ) → i < length s → in-word (getD s i 0) ≡ true → i < end-in i
+  word-some i h e = omega (arith, until-some parts-words s i h (not-true (parts-words (getD s i 0)) e))
+
+  -- so told by where it ends
+  pub words-next : (i end : ℕ) → i < length s → in-word (getD s i 0) ≡ true → end ≡ end-in i
+      → words-from at s i ≡ record { at = at + i; bytes = take (end - i) (drop i s) } ∷ words-from at s end
+  words-next i end h e f = let g : end - i ≡ until parts-words (drop i s) = omega arith in words-first i h e ∙ rw (g, f)
+
+  -- from the front
+  pub words-whole : words-at at s ≡ words-from at s (start-in 0)
+  words-whole = let f : at + 0 ≡ at = omega arith in sym (ap (λ (k : ℕ). words-at k s) f) ∙ words-start 0
+
   -- no word behind the end
-  pub words-over : (i : ℕ) → length s ≤ i → words-from i ≡ []
+  pub words-over : (i : ℕ) → length s ≤ i → words-from at s i ≡ []
   words-over i h = ap (words-at (at + i)) (drop-of-length-le s h) ∙ words-none (at + i)

@@ -1,6 +1,6 @@
 -- What the scanning of a text computes; proofs/ScanLaws.antt, NumberLaws.antt and OpeningLaws.antt tie it to Text.
-use Prim.Native.Nat.{ℕ, suc, _≤_}
-use mathlib.Core.Bool.{Bool, true, false, not, cond}
+use Prim.Native.Nat.{ℕ, suc, _+_, _≤_}
+use mathlib.Core.Bool.{Bool, false, not, cond, _&&_}
 use mathlib.Core.List.{List, [], _∷_}
 use mathlib.Core.Path.{_≡_}
 use lib.Dec.{ltb}
@@ -10,7 +10,7 @@ use Rattle.dimacs.specs.declared.scan.Token.the-variants.{Ends, Literal,
 use Rattle.dimacs.specs.declared.opening.Numbers.{Numbers}
 use Rattle.dimacs.specs.declared.opening.Opening as held-opening
 use Rattle.dimacs.specs.declared.opening.Opening.the-variants.{PLine, Other}
-use Rattle.dimacs.specs.Text.{Piece, pieces, ends-line, parts-words, non-empty, comment, others, value, Token, ends, names-variable, bad, Opening, p-line, other-line, opening, by-lines, read-text}
+use Rattle.dimacs.specs.Text.{Piece, pieces, ends-line, parts-words, non-empty, comment, others, run, value, Token, ends, names-variable, bad, Opening, p-line, other-line, by-lines, read-text}
 
 -- how many bytes stand before the first for which the test holds, or all if it holds for none
 unfoldable pub until : (ℕ → Bool) → List ℕ → ℕ
@@ -28,6 +28,10 @@ lines-from t from = pieces ends-line from [] (drop from t)
 -- the words of bytes that stand at an offset
 abbrev pub words-at : ℕ → List ℕ → List Piece
 words-at at s = non-empty (pieces parts-words at [] s)
+
+-- the words of the line s at an offset, from index i on
+abbrev pub words-from : ℕ → List ℕ → ℕ → List Piece
+words-from at s i = words-at (at + i) (drop i s)
 
 -- before `from` stand only comments, and the line there is none, or `from` is the length
 pub record OpensAt (t : List ℕ) (from : ℕ) : Type 0 where
@@ -56,6 +60,9 @@ abbrev pub opening-held : Opening → held-opening.Opening
 opening-held (p-line c d) = PLine (numbers-of c d)
 opening-held other-line = Other
 
--- the opening of a line
-abbrev pub opening-in : ℕ → List ℕ → Opening
-opening-in at s = opening (words-at at s)
+-- the words behind p and cnf
+abbrev pub by-numbers : List Piece → Opening
+by-numbers [] = other-line
+by-numbers (c ∷ []) = other-line
+by-numbers (c ∷ d ∷ []) = cond (run (c .bytes) && run (d .bytes)) (p-line c d) other-line
+by-numbers (c ∷ d ∷ e ∷ ws) = other-line

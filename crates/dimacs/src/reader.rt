@@ -206,7 +206,10 @@ fn read_clauses(text: &[u8], end: usize, p: Numbers, kept: &mut [u8]) -> Convert
     requires { ⌜ (end ≤ length (now text)) × (length (now kept) ≡ kept-room) ⌝ }
     ensures { λ x. ⌜ ((l c d : Piece) → p ≡ numbers-of c d → Reads (by-opening (length (now (text .entry))) l (others (lines-behind (now (text .entry)) end)) (p-line c d)) x (now (kept .exit))) ⌝ }
 {
-    if p.variables == 0 || MAX_VARIABLES < p.variables {
+    if p.variables == 0 {
+        return Converted::Refused(Refusal::BadVariableCount(p.third));
+    }
+    if MAX_VARIABLES < p.variables {
         return Converted::Refused(Refusal::BadVariableCount(p.third));
     }
     let r = begin(p.variables, kept);
