@@ -30,13 +30,31 @@ pub record Stands (n : ℕ) (t : Step) (r : Reader) (b : List ℕ) : Type 0 wher
   pub taken : t ≡ next progress
   pub keeps : Keeps n progress r b
 
-pub stepped-next : (n : ℕ) (t : Step) (r : Reader) (b : List ℕ) → Stepped n b t (Next r) → Stands n t r b
-stepped-next n (next s) r b k = record { progress = s; taken = refl; keeps = k }
-stepped-next n (stop x) r b k = absurd k
+pub stepped-next : (n : ℕ) (b : List ℕ) (t : Step) (e : Event) (r : Reader) → e ≡ Next r → Stepped n b t e → Stands n t r b
+stepped-next n b t e r q h = go t (subst (Stepped n b t) q h)
+  where
+    go : (t : Step) → Stepped n b t (Next r) → Stands n t r b
+    go (next s) k = record { progress = s; taken = refl; keeps = k }
+    go (stop x) k = absurd k
 
-pub stepped-stop : (n : ℕ) (t : Step) (x : Refusal) (b : List ℕ) → Stepped n b t (Stopped x) → t ≡ stop x
-stepped-stop n (next s) x b k = absurd k
-stepped-stop n (stop y) x b k = ap stop (sym k)
+pub stepped-stop : (n : ℕ) (b : List ℕ) (t : Step) (e : Event) (x : Refusal) → e ≡ Stopped x → Stepped n b t e → t ≡ stop x
+stepped-stop n b t e x q h = go t (subst (Stepped n b t) q h)
+  where
+    go : (t : Step) → Stepped n b t (Stopped x) → t ≡ stop x
+    go (next s) k = absurd k
+    go (stop y) k = ap stop (sym k)
+
+-- a reader that stands somewhere can go on
+own : {n : ℕ} {s : Progress} {r : Reader} {b : List ℕ} → Keeps n s r b → Keeps (r .variables) s r b
+own {s = s} {r = r} {b = b} k = subst (λ (m : ℕ). Keeps m s r b) (sym (has-variables k)) k
+
+pub keeps-ready : {n : ℕ} {s : Progress} {r : Reader} {b : List ℕ} → Keeps n s r b → Ready r b
+keeps-ready {s = s} k = record { progress = s; keeps = own k }
+
+-- from where it stands
+pub keeps-step : {n : ℕ} {s : Progress} {r : Reader} {b : List ℕ} → Keeps n s r b → (c : List ℕ) (e : Event) (F : ℕ → Progress → Step)
+    → ((p : Progress) → Keeps (r .variables) p r b → Stepped (r .variables) c (F (r .variables) p) e) → Stepped n c (F n s) e
+keeps-step {s = s} k c e F h = subst (λ (m : ℕ). Stepped m c (F m s) e) (has-variables k) (h s (own k))
 
 -- ---- words in turn
 
@@ -55,18 +73,6 @@ module _ {n : ℕ} {ws : List Piece} {s : Progress} where
   goes-rest e g = record { progress = g .progress; keeps = g .keeps; same = g .same ∙ ap (λ (ps : List Piece). take-words n ps (g .progress)) e }
 
   module _ {rest : List Piece} {r : Reader} {b : List ℕ} (g : Goes n ws s rest r b) where
-    own : Keeps (r .variables) (g .progress) r b
-    own = subst (λ (m : ℕ). Keeps m (g .progress) r b) (sym (has-variables (g .keeps))) (g .keeps)
-
-    -- a reader that stands there can go on
-    pub goes-ready : Ready r b
-    goes-ready = record { progress = g .progress; keeps = own }
-
-    -- from where it stands
-    pub goes-step : (c : List ℕ) (e : Event) (F : ℕ → Progress → Step) → ((p : Progress) → Keeps (r .variables) p r b → Stepped (r .variables) c (F (r .variables) p) e)
-        → Stepped n c (F n (g .progress)) e
-    goes-step c e F h = subst (λ (m : ℕ). Stepped m c (F m (g .progress)) e) (has-variables (g .keeps)) (h (g .progress) own)
-
     module _ (us vs : List Piece) (parts : rest ≡ us ++ vs) (c : List ℕ) (e : Event) (h : Stepped n c (take-words n us (g .progress)) e) where
       both : (t : Step) → take-words n us (g .progress) ≡ t → take-words n ws s ≡ (elim t [ next s′ ↦ take-words n vs s′ | stop y ↦ stop y ])
       both t q =
@@ -78,13 +84,13 @@ module _ {n : ℕ} {ws : List Piece} {s : Progress} where
       -- the words us are taken, and vs are left
       pub goes-next : (x : Reader) → e ≡ Next x → Goes n ws s vs x c
       goes-next x q =
-          let t = stepped-next n (take-words n us (g .progress)) x c (subst (λ (y : Event). Stepped n c (take-words n us (g .progress)) y) q h) in
+          let t = stepped-next n c (take-words n us (g .progress)) e x q h in
           record { progress = t .progress; keeps = t .keeps; same = both (next (t .progress)) (t .taken) }
 
       -- one of them is refused
       pub goes-stop : (y : Refusal) → e ≡ Stopped y → Stepped n c (take-words n ws s) (Stopped y)
       goes-stop y q =
-          let t = stepped-stop n (take-words n us (g .progress)) y c (subst (λ (x : Event). Stepped n c (take-words n us (g .progress)) x) q h) in
+          let t = stepped-stop n c (take-words n us (g .progress)) e y q h in
           rw (both (stop y) t) refl
 
   -- none is left

@@ -1,6 +1,6 @@
 -- Laws of the p line: a word more, or none.
 use Prim.Native.Nat.{ℕ, _+_, _-_, _≤_, _<_}
-use mathlib.Core.Bool.{Bool, true, false, cond, _&&_, and-false}
+use mathlib.Core.Bool.{Bool, true, false, and-false}
 use mathlib.Core.List.{List, [], _∷_}
 use mathlib.Core.Path.{_≡_, refl, sym, ap, _∙_}
 use native.Mathlib.Omega.{arith}
@@ -10,10 +10,28 @@ use lib.ListN.{length, take, drop, drop-of-length-le}
 use lib.Seq.{take-nil}
 use Rattle.lists.proofs.TestLaws.{bool-clash}
 use Rattle.dimacs.specs.Text.{Piece, run, same, p-word, cnf-word, Opening, p-line, other-line, opening}
-use Rattle.dimacs.specs.InnerScan.{words-at, words-from, by-numbers}
-use Rattle.dimacs.proofs.TextLaws.{start-in, end-in, start-stops, words-start, words-next, words-whole, words-over}
+use Rattle.dimacs.specs.InnerScan.{words-from, by-numbers}
+use Rattle.dimacs.proofs.TextLaws.{start-in, end-in, start-le, end-in-le, start-stops, words-start, words-next, words-over}
 
 -- ---- words of the p line
+
+-- no byte is neither p nor cnf
+pub p-some : same [] p-word ≡ false
+unfolding same
+p-some = refl
+
+pub cnf-some : same [] cnf-word ≡ false
+unfolding same
+cnf-some = refl
+
+-- no word is no p line, nor is one
+pub opening-none : opening [] ≡ other-line
+unfolding opening
+opening-none = refl
+
+pub opening-one : (a : Piece) → opening (a ∷ []) ≡ other-line
+unfolding opening
+opening-one a = refl
 
 pub opening-first : (a : Piece) (ws : List Piece) → same (a .bytes) p-word ≡ false → opening (a ∷ ws) ≡ other-line
 unfolding opening
@@ -46,6 +64,9 @@ pub numbers-second : (c d : Piece) (ws : List Piece) → run (d .bytes) ≡ fals
 numbers-second c d [] e = rw (e, and-false (run (c .bytes)))
 numbers-second c d (x ∷ ws) e = refl
 
+pub numbers-both : (c d : Piece) → run (c .bytes) ≡ true → run (d .bytes) ≡ true → by-numbers (c ∷ d ∷ []) ≡ p-line c d
+numbers-both c d e f = rw (e, f)
+
 -- ---- the next word of a line
 
 -- the bytes from index `start` to `end` of the line s at an offset
@@ -70,6 +91,26 @@ next-word at s i start end e f = go (ltb start (length s)) refl
     go false q =
         let l = ltb-false start (length s) q in
         none (from-start ∙ words-over at s start l) (rw (drop-of-length-le s l) (take-nil (end - start)))
+
+-- where a word starts and ends is within the line
+pub record Reach (s : List ℕ) (start end : ℕ) : Type 0 where
+  pub starts : start ≤ length s
+  pub ends : end ≤ length s
+  pub forward : start ≤ end
+
+pub reach : (at : ℕ) (s : List ℕ) (i start end : ℕ) → i ≤ length s → start ≡ start-in at s i → end ≡ end-in at s start → Reach s start end
+reach at s i start end h e f =
+    let l : start ≤ length s = omega (arith, start-le at s i h) in
+    record { starts = l; ends = omega (arith, end-in-le at s start l); forward = omega arith }
+
+-- a word more
+pub more-words : (at : ℕ) (s : List ℕ) (i start : ℕ) → start ≡ start-in at s i → start < length s → (w : Piece) × (ws : List Piece) × (words-from at s i ≡ w ∷ ws)
+more-words at s i start e h =
+    (_, _, words-start at s i ∙ ap (words-from at s) (sym e) ∙ words-next at s start _ h (rw (← e) at (start-stops at s i (rw (← e) h))) refl)
+
+-- none
+pub no-words : (at : ℕ) (s : List ℕ) (i start : ℕ) → start ≡ start-in at s i → length s ≤ start → words-from at s i ≡ []
+no-words at s i start e h = words-start at s i ∙ ap (words-from at s) (sym e) ∙ words-over at s start h
 
 module _ (at : ℕ) (s : List ℕ) (i start end : ℕ) (test : List ℕ → Bool) (empty : test [] ≡ false) where
   -- a word that passes a test is one

@@ -246,8 +246,11 @@ module _ (at : ℕ) (s : List ℕ) where
   words-next i end h e f = let g : end - i ≡ until parts-words (drop i s) = omega arith in words-first i h e ∙ rw (g, f)
 
   -- from the front
+  pub words-zero : words-at at s ≡ words-from at s 0
+  words-zero = let f : at + 0 ≡ at = omega arith in sym (ap (λ (k : ℕ). words-at k s) f)
+
   pub words-whole : words-at at s ≡ words-from at s (start-in 0)
-  words-whole = let f : at + 0 ≡ at = omega arith in sym (ap (λ (k : ℕ). words-at k s) f) ∙ words-start 0
+  words-whole = words-zero ∙ words-start 0
 
   -- no word behind the end
   pub words-over : (i : ℕ) → length s ≤ i → words-from at s i ≡ []

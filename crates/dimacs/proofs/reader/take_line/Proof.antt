@@ -10,7 +10,7 @@ use Rattle.dimacs.specs.Text.{Piece, Progress, take-word}
 use Rattle.dimacs.specs.InnerScan.{in-word, words-at, words-from}
 use Rattle.dimacs.specs.InnerReader.{Keeps}
 use Rattle.dimacs.proofs.TextLaws.{start-in, end-in, start-le, end-in-le, start-stops, words-start, word-some, words-next, words-whole, words-over}
-use Rattle.dimacs.proofs.GoesLaws.{Goes, goes-start, goes-rest, goes-ready, goes-step, goes-next, goes-stop, goes-end, one-step}
+use Rattle.dimacs.proofs.GoesLaws.{keeps-ready, Goes, goes-start, goes-rest, keeps-step, goes-next, goes-stop, goes-end, one-step}
 use Rattle.dimacs.proofs.reader.take_line.Statement.{statement}
 use Rattle.dimacs.proofs.reader.take_line.Tie as tie
 
@@ -80,7 +80,7 @@ add-take-word : tie.Need-add-take-word Inv-loop μ-loop
 add-take-word c = omega (arith, c .before .before .before .before .before .before .before .pre .0, c .before .before .before .loop .inv .1)
 
 take-word-requires : tie.Need-take-word-requires Inv-loop μ-loop
-take-word-requires c κs = let r = c .before .before .before .before .before .before .before .before .pre .1 in goes-ready (c .before .before .before .before .loop .inv .3 (r .progress) (r .keeps))
+take-word-requires c κs = let r = c .before .before .before .before .before .before .before .before .pre .1 in keeps-ready (c .before .before .before .before .loop .inv .3 (r .progress) (r .keeps) .keeps)
 
 enum-known-after : tie.Need-enum-known-after Inv-loop μ-loop
 enum-known-after c = search needs
@@ -96,7 +96,7 @@ returns c = λ s k.
     let d = c .before .before .before .before .before in
     let g = c .before .before .before .before .before .before .before .before .before .before .loop .inv .3 s k in
     goes-stop g (word d ∷ []) (words-from (at d) (line d) (end d)) (parts d) _ _
-    (one-step _ _ _ _ (word d) (goes-step g _ _ (λ m. take-word m (word d)) (d .take-word .ensures))) _ (c .before .refusal .given .1)
+    (one-step _ _ _ _ (word d) (keeps-step (g .keeps) _ _ (λ m. take-word m (word d)) (d .take-word .ensures))) _ (c .before .refusal .given .1)
 
 word-start-requires-2 : tie.Need-word-start-requires-2 Inv-loop μ-loop
 word-start-requires-2 c κs = inside (c .before .before .before .before .before)
@@ -107,13 +107,16 @@ loop-less c = omega (arith, c .word-start2 .ensures, forward (c .before .before 
 loop-again : tie.Need-loop-again Inv-loop μ-loop
 loop-again c =
     let d = c .before .before .before .before .before .before in
-    rw (c .word-start2 .ensures)
-    (c .before .before .before .before .before .kept .given ∙ c .before .before .before .before .before .before .before .before .before .before .before .loop .inv .0, start-le (at d) (line d) (end d) (inside d), start-stops (at d) (line d) (end d),
-    λ s k.
-    let g = c .before .before .before .before .before .before .before .before .before .before .before .loop .inv .3 s k in
-    goes-rest (words-start (at d) (line d) (end d))
-    (goes-next g (word d ∷ []) (words-from (at d) (line d) (end d)) (parts d) _ _
-    (one-step _ _ _ _ (word d) (goes-step g _ _ (λ m. take-word m (word d)) (d .take-word .ensures))) _ (c .before .before .after .given .1)))
+    rw (c .word-start2 .ensures) (
+      c .before .before .before .before .before .kept .given ∙ c .before .before .before .before .before .before .before .before .before .before .before .loop .inv .0,
+      start-le (at d) (line d) (end d) (inside d),
+      start-stops (at d) (line d) (end d),
+      λ s k.
+          let g = c .before .before .before .before .before .before .before .before .before .before .before .loop .inv .3 s k in
+          goes-rest (words-start (at d) (line d) (end d))
+          (goes-next g (word d ∷ []) (words-from (at d) (line d) (end d)) (parts d) _ _
+          (one-step _ _ _ _ (word d) (keeps-step (g .keeps) _ _ (λ m. take-word m (word d)) (d .take-word .ensures))) _ (c .before .before .after .given .1)),
+    )
 
 same-length-2 : tie.Need-same-length-2 Inv-loop μ-loop
 same-length-2 c = c .before .loop .inv .0

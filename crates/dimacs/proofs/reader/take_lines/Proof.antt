@@ -8,7 +8,7 @@ use lib.ListN.{length}
 use Rattle.dimacs.specs.Text.{Progress, take-words, all-words, others}
 use Rattle.dimacs.specs.InnerReader.{other-words, words-behind, Keeps}
 use Rattle.dimacs.proofs.TextLaws.{end-of, end-le, behind-end}
-use Rattle.dimacs.proofs.GoesLaws.{Goes, goes-start, goes-ready, goes-step, goes-next, goes-stop, goes-end, behind-next, no-lines}
+use Rattle.dimacs.proofs.GoesLaws.{keeps-ready, Goes, goes-start, keeps-step, goes-next, goes-stop, goes-end, behind-next, no-lines}
 use Rattle.dimacs.proofs.reader.take_lines.Statement.{statement}
 use Rattle.dimacs.proofs.reader.take_lines.Tie as tie
 
@@ -55,7 +55,7 @@ line-end-requires c κs = search needs
 take-other-requires : tie.Need-take-other-requires Inv-loop μ-loop
 take-other-requires c κs =
     let r = c .before .before .before .before .before .before .pre .1 in
-    (omega arith, c .before .line-end .ensures, goes-ready (c .before .before .before .loop .inv .2 (r .progress) (r .keeps)))
+    (omega arith, c .before .line-end .ensures, keeps-ready (c .before .before .before .loop .inv .2 (r .progress) (r .keeps) .keeps))
 
 enum-known-after : tie.Need-enum-known-after Inv-loop μ-loop
 enum-known-after c = search needs
@@ -65,12 +65,14 @@ loop-less c = omega (arith, ends (c .before .before .before .before .before), he
 
 loop-again : tie.Need-loop-again Inv-loop μ-loop
 loop-again c =
-    let d = c .before .before .before .before .before in
-    (c .before .before .before .before .kept .given ∙ c .before .before .before .before .before .before .before .before .before .loop .inv .0, inside d,
-    λ s k.
-    let g = c .before .before .before .before .before .before .before .before .before .loop .inv .2 s k in
-    goes-next g (other-words (text d) (last d + 1)) (words-behind (text d) (end d)) (parts d) _ _
-    (goes-step g _ _ (λ m. take-words m (other-words (text d) (last d + 1))) (d .take-other .ensures)) _ (c .before .after .given .1))
+    let d = c .before .before .before .before .before in (
+      c .before .before .before .before .kept .given ∙ c .before .before .before .before .before .before .before .before .before .loop .inv .0,
+      inside d,
+      λ s k.
+          let g = c .before .before .before .before .before .before .before .before .before .loop .inv .2 s k in
+          goes-next g (other-words (text d) (last d + 1)) (words-behind (text d) (end d)) (parts d) _ _
+          (keeps-step (g .keeps) _ _ (λ m. take-words m (other-words (text d) (last d + 1))) (d .take-other .ensures)) _ (c .before .after .given .1),
+    )
 
 enum-known-refusal : tie.Need-enum-known-refusal Inv-loop μ-loop
 enum-known-refusal c = search needs
@@ -83,7 +85,7 @@ returns c = λ s k.
     let d = c .before .before .before .before .before in
     let g = c .before .before .before .before .before .before .before .before .before .loop .inv .2 s k in
     goes-stop g (other-words (text d) (last d + 1)) (words-behind (text d) (end d)) (parts d) _ _
-    (goes-step g _ _ (λ m. take-words m (other-words (text d) (last d + 1))) (d .take-other .ensures)) _ (c .before .refusal .given .1)
+    (keeps-step (g .keeps) _ _ (λ m. take-words m (other-words (text d) (last d + 1))) (d .take-other .ensures)) _ (c .before .refusal .given .1)
 
 same-length-2 : tie.Need-same-length-2 Inv-loop μ-loop
 same-length-2 c = c .before .loop .inv .0
