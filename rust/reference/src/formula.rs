@@ -11,9 +11,9 @@ pub const MAX_CLAUSES: usize = 96;
 /// A refusal: its number and place in the table of S3.1.
 #[derive(Clone, Copy, Debug, PartialEq, Eq)]
 pub struct Refusal {
-    /// 1 to 12.
+    /// 1 to 15.
     pub number: u8,
-    /// An offset in the input, or at 10 the number of the violator's clauses.
+    /// An offset in the input or the text, or at 10 the number of the violator's clauses.
     pub place: usize,
 }
 
@@ -139,8 +139,7 @@ fn decode_variables(input: &[u8]) -> Result<usize, Refusal> {
     }
 }
 
-/// The variable, as a mask, of the literal at an offset: refused by 7 if the open clause names it the other way. To a clause that
-/// names it the same way it adds nothing.
+/// The variable, as a mask, of the literal at an offset.
 fn decode_literal(
     input: &[u8],
     at: usize,
@@ -148,6 +147,17 @@ fn decode_literal(
     other_way: u64,
 ) -> Result<u64, Refusal> {
     let number = usize::from(body_at(input, at)?);
+    named_variable(number, variables, other_way, at)
+}
+
+/// The variable of a number, as a mask: refused by 6 if there is none, and by 7 if the open clause names it the other way. To a
+/// clause that names it the same way it adds nothing.
+pub(crate) fn named_variable(
+    number: usize,
+    variables: usize,
+    other_way: u64,
+    at: usize,
+) -> Result<u64, Refusal> {
     if number == 0 || number > variables {
         return Err(Refusal::new(6, at));
     }

@@ -2,8 +2,8 @@
 
 use crate::values::{from_hex, number};
 use norwythai_reference::{
-    check, judge, list, print, start_checkpoint, walk, Answer, Checkpoint, Refusal, Walked,
-    CHECKPOINT_LENGTH,
+    check, from_dimacs, judge, list, print, start_checkpoint, to_dimacs, walk, Answer, Checkpoint,
+    Refusal, Walked, CHECKPOINT_LENGTH,
 };
 use std::collections::BTreeMap;
 
@@ -205,6 +205,32 @@ fn compare_printed(line: &str) -> Compared {
     )
 }
 
+/// An act that converts the bytes in a field, and writes into a lent buffer.
+fn compare_conversion(
+    line: &str,
+    given: &str,
+    convert: fn(&[u8], &mut [u8]) -> Result<usize, Refusal>,
+) -> Compared {
+    let length: usize = number(field(line, "buffer_len")?)?;
+    let fill: u8 = number(field(line, "buffer_fill")?)?;
+    let mut buffer = vec![fill; length];
+    let found = convert(&hex_field(line, given)?, &mut buffer);
+    let written: usize = number(field(line, "written")?)?;
+    let output = hex_field(line, "output")?;
+    compare("the vector's own output", output.len(), written)?;
+    let expected = match refusal_of(line)? {
+        Some(refusal) => {
+            compare("the vector's own count", written, 0)?;
+            Err(refusal)
+        }
+        None => Ok(written),
+    };
+    compare("answer", found, expected)?;
+    let mut expected_buffer = vec![fill; length];
+    expected_buffer[..written].copy_from_slice(&output);
+    compare("buffer", buffer, expected_buffer)
+}
+
 /// Compares the reference with one vector.
 pub fn compare_line(line: &str) -> Compared {
     match field(line, "act")? {
@@ -214,6 +240,8 @@ pub fn compare_line(line: &str) -> Compared {
         "walk" => compare_walk(line),
         "chain" => compare_chain(line),
         "printed" => compare_printed(line),
+        "read_text" => compare_conversion(line, "text", from_dimacs),
+        "write_text" => compare_conversion(line, "sheet", to_dimacs),
         _ => Err("unknown act".to_string()),
     }
 }
