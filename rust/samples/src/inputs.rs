@@ -97,7 +97,7 @@ fn repeat_literals(random: &mut Random, clauses: &mut Clauses) {
 }
 
 /// The number of variables and the clauses of a readable formula, matched or not.
-fn some_parts(random: &mut Random) -> (usize, Clauses) {
+pub(crate) fn some_parts(random: &mut Random) -> (usize, Clauses) {
     let n = some_variables(random);
     let mut clauses = match random.below(12) {
         0 => some_clauses(random, n, n, (3, 3), 50),
@@ -126,10 +126,13 @@ fn some_parts(random: &mut Random) -> (usize, Clauses) {
     (n, clauses)
 }
 
+fn encode_parts((n, clauses): (usize, Clauses)) -> Vec<u8> {
+    encode(n, &clauses)
+}
+
 /// A readable formula, matched or not.
 fn some_formula(random: &mut Random) -> Vec<u8> {
-    let (n, clauses) = some_parts(random);
-    encode(n, &clauses)
+    encode_parts(some_parts(random))
 }
 
 /// A formula that is matched, as the caller finds out.
@@ -142,28 +145,28 @@ pub fn some_matched_formula(random: &mut Random, is_matched: fn(&[u8]) -> bool) 
     }
 }
 
-/// A formula of 96 or 97 clauses, or with a number of variables at a limit.
-fn formula_at_a_limit(random: &mut Random) -> Vec<u8> {
+/// 96 or 97 clauses, or a number of variables at a limit or past it.
+pub(crate) fn parts_at_a_limit(random: &mut Random) -> (usize, Clauses) {
     let n = random.pick(&[1, 2, 48]);
     let count = random.pick(&[0, 1, 95, 96, 97, 98]);
     let lengths = random.pick(&[(0, 0), (1, 1), (0, 48), (48, 48)]);
     let mut clauses = some_clauses(random, n, count, lengths, 50);
     repeat_literals(random, &mut clauses);
-    let mut input = encode(n, &clauses);
     if random.percent(50) {
-        input[1] = random.pick(&[0, 1, 48, 49, 255]);
+        (random.pick(&[0, 1, 48, 49, 255]), clauses)
+    } else {
+        (n, clauses)
     }
-    input
 }
 
 /// A formula but for a clause that names a variable both ways; a clause without literals stays as it is.
-fn contradictory(random: &mut Random) -> Vec<u8> {
+pub(crate) fn contradictory_parts(random: &mut Random) -> (usize, Clauses) {
     let (n, mut clauses) = some_parts(random);
     if !clauses.is_empty() {
         let at = random.below(clauses.len());
         put_again(random, &mut clauses[at], -1);
     }
-    encode(n, &clauses)
+    (n, clauses)
 }
 
 /// A formula with some damage; it may still be a formula.
@@ -210,9 +213,9 @@ pub fn some_input(random: &mut Random, is_matched: fn(&[u8]) -> bool) -> Vec<u8>
     match random.below(20) {
         0..=11 => some_matched_formula(random, is_matched),
         12 | 13 => some_formula(random),
-        14 => contradictory(random),
+        14 => encode_parts(contradictory_parts(random)),
         15 | 16 => damaged(random),
-        17 | 18 => formula_at_a_limit(random),
+        17 | 18 => encode_parts(parts_at_a_limit(random)),
         _ => noise(random),
     }
 }

@@ -1,5 +1,5 @@
-//! What the tests and the benchmark make inputs with: random numbers that are the same in every run, encoded formulas, whole and
-//! damaged, and what else calls get.
+//! What the tests and the benchmark make inputs with: random numbers that are the same in every run, encoded formulas and DIMACS
+//! texts, whole and damaged, and what else calls get.
 
 #![forbid(unsafe_code)]
 #![deny(missing_docs)]
@@ -8,8 +8,10 @@ mod calls;
 mod formulas;
 mod inputs;
 mod random;
+mod texts;
 
 pub use calls::{some_assignment, some_budget, some_checkpoint};
 pub use formulas::{encode, stairs, Clauses};
 pub use inputs::{some_input, some_matched_formula};
 pub use random::Random;
+pub use texts::some_text;

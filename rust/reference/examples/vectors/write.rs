@@ -2,9 +2,12 @@
 
 use crate::values::to_hex;
 use norwythai_reference::{
-    check, judge, print, start_checkpoint, walk, Answer, Checkpoint, Refusal, LIST_BUDGET,
+    check, from_dimacs, judge, print, start_checkpoint, to_dimacs, walk, write_text, Answer,
+    Checkpoint, Refusal, FORMULA_BUFFER, LIST_BUDGET, TEXT_BUFFER,
 };
-use norwythai_samples::{some_assignment, some_budget, some_checkpoint, some_input, Random};
+use norwythai_samples::{
+    some_assignment, some_budget, some_checkpoint, some_input, some_text, Random,
+};
 
 /// A longer input or printed walk takes much of a file of the corpus. Such an input is given to fewer calls, and such a walk is
 /// written only for one input of so many, which is no long one itself.
@@ -121,6 +124,58 @@ fn printed_line(from: &str, input: &[u8], text: &str) -> String {
     line("printed", from, &fields)
 }
 
+/// An act between formulas and texts.
+struct Conversion {
+    act: &'static str,
+    /// The field that it is given.
+    given: &'static str,
+    convert: fn(&[u8], &mut [u8]) -> Result<usize, Refusal>,
+    /// The bytes that its buffer must have.
+    least: usize,
+}
+
+const READ_TEXT: Conversion = Conversion {
+    act: "read_text",
+    given: "text",
+    convert: from_dimacs,
+    least: FORMULA_BUFFER,
+};
+
+const WRITE_TEXT: Conversion = Conversion {
+    act: "write_text",
+    given: "sheet",
+    convert: to_dimacs,
+    least: TEXT_BUFFER,
+};
+
+impl Conversion {
+    fn line(&self, from: &str, bytes: &[u8], length: usize, fill: u8) -> String {
+        let mut buffer = vec![fill; length];
+        let found = (self.convert)(bytes, &mut buffer);
+        let written = found.unwrap_or(0);
+        let fields = format!(
+            "\"{}\": \"{}\", \"buffer_len\": {length}, \"buffer_fill\": {fill}, \"refusal\": {}, \
+             \"written\": {written}, \"output\": \"{}\"",
+            self.given,
+            to_hex(bytes),
+            refusal_text(found.err()),
+            to_hex(&buffer[..written]),
+        );
+        line(self.act, from, &fields)
+    }
+
+    /// With a buffer of some length, mostly just long enough.
+    fn some_line(&self, from: &str, random: &mut Random, bytes: &[u8]) -> String {
+        let length = match random.below(8) {
+            0 => self.least - 1,
+            1 => self.least + 1,
+            2 => random.below(self.least),
+            _ => self.least,
+        };
+        self.line(from, bytes, length, random.byte())
+    }
+}
+
 fn is_matched(input: &[u8]) -> bool {
     judge(input, &mut [0; 96]).is_ok()
 }
@@ -160,6 +215,10 @@ fn act_lines(from: &str, random: &mut Random, input: &[u8]) -> Vec<String> {
         let given = some_checkpoint(random, &known);
         lines.push(walk_line(from, input, &given, some_budget(random)));
     }
+    lines.push(WRITE_TEXT.some_line(from, random, input));
+    if let Ok(text) = write_text(input) {
+        lines.push(READ_TEXT.some_line("written", random, &text));
+    }
     lines
 }
 
@@ -190,6 +249,8 @@ pub fn generated_vectors(seed: u64, count: usize) -> Vec<String> {
             lines.push(printed_line(from, &input, &text));
         }
         long_texts += usize::from(is_long);
+        let text = some_text(&mut random);
+        lines.push(READ_TEXT.some_line(from, &mut random, &text));
     }
     lines
 }
@@ -232,6 +293,20 @@ mod tests {
     }
 
     #[test]
+    fn lines_of_texts() {
+        assert_eq!(
+            WRITE_TEXT.line("edge", &[1, 2, 3, 2, 4, 5], 18_636, 9),
+            "{\"act\": \"write_text\", \"from\": \"edge\", \"sheet\": \"010203020405\", \"buffer_len\": 18636, \
+             \"buffer_fill\": 9, \"refusal\": null, \"written\": 15, \"output\": \"7020636e66203220310a2d3220300a\"}"
+        );
+        assert_eq!(
+            READ_TEXT.line("edge", b"p cnf 2 1\n-2", 9_315, 9),
+            "{\"act\": \"read_text\", \"from\": \"edge\", \"text\": \"7020636e66203220310a2d32\", \"buffer_len\": 9315, \
+             \"buffer_fill\": 9, \"refusal\": [2, 12], \"written\": 0, \"output\": \"\"}"
+        );
+    }
+
+    #[test]
     fn a_refused_walk_gives_its_checkpoint_back() {
         let mut foreign = start_checkpoint();
         foreign[0] = 9;
@@ -249,7 +324,16 @@ mod tests {
         for line in &lines {
             assert_eq!(compare_line(line), Ok(()), "{line}");
         }
-        for act in ["start", "check", "judge", "walk", "chain", "printed"] {
+        for act in [
+            "start",
+            "check",
+            "judge",
+            "walk",
+            "chain",
+            "printed",
+            "read_text",
+            "write_text",
+        ] {
             let start = format!("{{\"act\": \"{act}\"");
             assert!(lines.iter().any(|line| line.starts_with(&start)), "{act}");
         }
@@ -261,5 +345,9 @@ mod tests {
         assert!(compare_line(&right.replace("yes", "no")).is_err());
         let right = walk_line("edge", EXAMPLE, &start_checkpoint(), 1);
         assert!(compare_line(&right.replace("\"moves\": 1", "\"moves\": 2")).is_err());
+        let right = READ_TEXT.line("edge", b"p cnf 2 0", 9_315, 0);
+        assert_eq!(compare_line(&right), Ok(()));
+        assert!(compare_line(&right.replace("010205", "010204")).is_err());
+        assert!(compare_line(&right.replace("null", "[15, 8]")).is_err());
     }
 }
