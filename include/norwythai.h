@@ -1,5 +1,5 @@
 /*
- * Norwythai: the models of a matched CNF formula, one after the other.
+ * Norwythai: the models of a matched CNF formula, one after the other; and DIMACS CNF text read and written.
  *
  * The functions of libcapi.a. For each it is proved what it returns and how it leaves every buffer, on all inputs:
  * crates/capi/specs/Interface.antt has the definitions, and the comments here say them in words. None keeps any state, allocates or
@@ -31,15 +31,20 @@
  * assignment is a 64-bit number: variable v, counted from 1, is true if bit v - 1 is set. A model is an assignment in which every clause
  * has a literal that is true, and no variable above n is.
  *
+ * A TEXT is DIMACS CNF: lines that start with c are comments, anywhere; the first other line is `p cnf` with the numbers of variables
+ * and clauses; then come the literals as numbers, a minus before those that are negative, and 0 at the end of each clause. A line ends at
+ * a line feed (0A) or with the text. Words are parted by blanks (20), tabs (09), carriage returns (0D) and line feeds. Lines without
+ * words may stand behind the p line only. A text may be of any length, and no zero byte ends it.
+ *
  * THE RESULTS are NORWYTHAI_RESULTS numbers:
  *
- *              check        judge          walk             list
+ *              check        judge          walk             list                          from_dimacs, to_dimacs
  *   results[0] the answer, 0 to 3 as below
- *   results[1] 0            0              the model, or 0  the last call's model, or 0
+ *   results[1] 0            0              the model, or 0  the last call's model, or 0   0
  *   results[2] the refusal's number, or 0 if the answer is no refusal
  *   results[3] the refusal's place, or 0 if the answer is no refusal
- *   results[4] 0            variables n    steps made       how many models were written
- *   results[5] 0            clauses m      expansions made  0
+ *   results[4] 0            variables n    steps made       how many models were written  how many bytes were written
+ *   results[5] 0            clauses m      expansions made  0                             0
  *
  *   answer  check               judge               walk                                 list
  *   0       NORWYTHAI_YES       NORWYTHAI_MATCHED   NORWYTHAI_MODEL                      NORWYTHAI_MODEL: `models` is full
@@ -47,24 +52,37 @@
  *   2       -                   -                   NORWYTHAI_ENDED: no model is left    NORWYTHAI_ENDED: no model is left
  *   3       NORWYTHAI_REFUSED   NORWYTHAI_REFUSED   NORWYTHAI_REFUSED                    NORWYTHAI_REFUSED
  *
- * REFUSALS. Places are offsets into the input, counted from 0, except at 10.
+ * from_dimacs and to_dimacs answer 0, NORWYTHAI_WRITTEN, or 3, NORWYTHAI_REFUSED.
+ *
+ * REFUSALS. Places are offsets into the input or the text, counted from 0, except at 10. In a text the place at 5 to 8 is the word's
+ * first byte.
  *
  *   number  trade's word     given if                                            place
- *    1      short slate      the buffer for judge is below 96 bytes              0
- *    2      cut short        the input runs out within a record or before kind 5 length of the input
+ *    1      short slate      the buffer is below 96 bytes (judge), 9,315
+ *                            (from_dimacs) or 18,636 (to_dimacs)                 0
+ *    2      cut short        the input runs out within a record or before kind
+ *                            5, or the text within a clause                      length of the input or the text
  *    3      unknown kind     a record's kind is 0 or above 5                     its kind byte
  *    4      misplaced        a record of this kind may not come here             its kind byte
- *    5      bad kit          n is not 1 to 48                                    its kind byte
- *    6      no such switch   a literal's variable is not 1 to n                  its kind byte
- *    7      named twice      the clause already names the variable the other way its kind byte
- *    8      too many rules   a 97th clause ends                                  its kind byte
+ *    5      bad kit          n is not 1 to 48                                    its kind byte, or the word
+ *    6      no such switch   a literal's variable is not 1 to n                  its kind byte, or the word
+ *    7      named twice      the clause already names the variable the other way its kind byte, or the word
+ *    8      too many rules   a 97th clause ends                                  its kind byte, or the word
  *    9      tail             the input goes on behind kind 5                     first byte behind
  *   10      over-ruled       the clauses can't be matched with variables         number of marked clauses
  *   11      foreign marker   the walk of this input never has this checkpoint    0
  *   12      stray switch     a checked assignment has a variable above n true    0
+ *   13      bad opening      the first line that is no comment is no p line of   its first byte, or the text's
+ *                            four words: p, cnf and two runs of digits           length if there is none
+ *   14      bad word         a word behind the p line is not digits with or      its first byte
+ *                            without one minus before them, or is a minus
+ *                            with zero
+ *   15      rule count       there are not as many clauses as the p line says    first byte of that number
+ *           differs
  *
  * They are tested in the order 1, then record by record 2 to 8, then 9, 10, 11, 12. check gives 2 to 9 and 12 only; judge 1 to 10;
- * walk and list 2 to 11. On a refusal results[1], results[4] and results[5] are 0.
+ * walk and list 2 to 11; to_dimacs 1 to 9. from_dimacs tests 1, 13, 5, then word by word 14, 6, 7, 8, and at the end 2 and 15. On a
+ * refusal results[1], results[4] and results[5] are 0.
  *
  * A CHECKPOINT is NORWYTHAI_CHECKPOINT bytes that say where a walk stands: mode, length, 48 bytes of trail. norwythai_start gives the
  * first, norwythai_walk and norwythai_list each the next. It can be kept, copied and sent anywhere, and used again with the same input.
@@ -84,8 +102,10 @@
 #define NORWYTHAI_RESULTS 6
 #define NORWYTHAI_CHECKPOINT 50
 #define NORWYTHAI_BUFFER 96
+#define NORWYTHAI_FORMULA_BUFFER 9315
+#define NORWYTHAI_TEXT_BUFFER 18636
 
-/* The answers of walk and list; the last one is also check's and judge's. */
+/* The answers of walk and list; the last one is also the others'. */
 #define NORWYTHAI_MODEL 0
 #define NORWYTHAI_SPENT 1
 #define NORWYTHAI_ENDED 2
@@ -97,6 +117,9 @@
 
 /* The other answer of judge. */
 #define NORWYTHAI_MATCHED 0
+
+/* The other answer of from_dimacs and to_dimacs. */
+#define NORWYTHAI_WRITTEN 0
 
 /* Marks a function whose returned number is not to be ignored. */
 #if (defined(__cplusplus) && __cplusplus >= 201703L) || (defined(__STDC_VERSION__) && __STDC_VERSION__ >= 202311L)
@@ -162,6 +185,30 @@ uint32_t norwythai_walk(const uint8_t *input, size_t input_length, uint8_t *chec
 NORWYTHAI_NODISCARD
 uint32_t norwythai_list(const uint8_t *input, size_t input_length, uint8_t *checkpoint, size_t checkpoint_length,
                         uint64_t *models, size_t models_length, uint64_t *results, size_t results_length);
+
+/*
+ * Reads a DIMACS CNF text into an encoded formula: the clauses in order, each literal once, at its first place in the clause.
+ * Reads the text; writes the results and into the buffer, of which it needs NORWYTHAI_FORMULA_BUFFER bytes or more (fewer: refusal 1,
+ * whatever the text is). The formula is the first results[4] bytes of the buffer. What stands behind them does not change; on a refusal
+ * no byte of the buffer does.
+ * With `text_length` or `buffer_length` 0, `text` or `buffer` is the address of any byte and not null.
+ */
+NORWYTHAI_NODISCARD
+uint32_t norwythai_from_dimacs(const uint8_t *text, size_t text_length, uint8_t *buffer, size_t buffer_length,
+                               uint64_t *results, size_t results_length);
+
+/*
+ * Writes an encoded formula, which need not be matched, as DIMACS CNF text: the p line, then a line for each clause in order, each
+ * literal once, at its first place in the clause; one blank between words, each line ending in a line feed. norwythai_from_dimacs reads
+ * the same formula from it.
+ * Reads the input; writes the results and into the buffer, of which it needs NORWYTHAI_TEXT_BUFFER bytes or more (fewer: refusal 1,
+ * whatever the input is). The text is the first results[4] bytes of the buffer, with no zero byte behind them. What stands there does
+ * not change; on a refusal no byte of the buffer does.
+ * With `input_length` or `buffer_length` 0, `input` or `buffer` is the address of any byte and not null.
+ */
+NORWYTHAI_NODISCARD
+uint32_t norwythai_to_dimacs(const uint8_t *input, size_t input_length, uint8_t *buffer, size_t buffer_length,
+                             uint64_t *results, size_t results_length);
 
 #ifdef __cplusplus
 }

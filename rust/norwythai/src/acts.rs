@@ -3,7 +3,7 @@
 use crate::assignment::Assignment;
 use crate::checkpoint::Checkpoint;
 use crate::ffi::{self, Results};
-use crate::limits::MAX_CLAUSES;
+use crate::limits::{FORMULA_BUFFER, MAX_CLAUSES, TEXT_BUFFER};
 use crate::refusal::Refusal;
 use std::error::Error;
 use std::fmt;
@@ -239,6 +239,55 @@ pub fn list(
     }
 }
 
+/// Reads a DIMACS CNF text: the encoded formula, its clauses in order and each literal once, at its first place in its clause. The
+/// text is bytes and no `str`, since comments may have any.
+///
+/// ```
+/// use norwythai::{from_dimacs, Refusal};
+///
+/// let formula = from_dimacs(b"c two switches, of which one is on\np cnf 2 2\n1 2 0\n-1 -2 0\n")?;
+/// assert_eq!(formula, [1, 2, 2, 1, 2, 2, 4, 3, 1, 3, 2, 4, 5]);
+///
+/// let refusal = from_dimacs(b"p cnf 2 1\n1 off 0\n").unwrap_err();
+/// assert_eq!(refusal, Refusal::BadWord { place: 12 });
+/// # Ok::<(), Refusal>(())
+/// ```
+pub fn from_dimacs(text: &[u8]) -> Result<Vec<u8>, Refusal> {
+    let mut buffer = vec![0; FORMULA_BUFFER];
+    let written = from_dimacs_into(text, &mut buffer)?;
+    buffer.truncate(written);
+    Ok(buffer)
+}
+
+/// [`from_dimacs`] into the front of a lent buffer of at least [`FORMULA_BUFFER`] bytes: how many it wrote. The others stay as they
+/// are, and at a refusal all do.
+pub fn from_dimacs_into(text: &[u8], buffer: &mut [u8]) -> Result<usize, Refusal> {
+    written(ffi::from_dimacs(text, buffer))
+}
+
+/// Writes an encoded formula, also one that is unmatched, as DIMACS CNF text: the p line and a line for each clause, with each
+/// literal once, at its first place in its clause. [`from_dimacs`] reads the same clauses from it.
+///
+/// ```
+/// use norwythai::to_dimacs;
+///
+/// let text = to_dimacs(&[1, 2, 2, 1, 2, 2, 4, 3, 1, 3, 2, 3, 1, 4, 5])?;
+/// assert_eq!(text, "p cnf 2 2\n1 2 0\n-1 -2 0\n");
+/// # Ok::<(), norwythai::Refusal>(())
+/// ```
+pub fn to_dimacs(input: &[u8]) -> Result<String, Refusal> {
+    let mut buffer = vec![0; TEXT_BUFFER];
+    let written = to_dimacs_into(input, &mut buffer)?;
+    buffer.truncate(written);
+    Ok(String::from_utf8(buffer).expect("a text of digits, blanks, signs and a p line"))
+}
+
+/// [`to_dimacs`] into the front of a lent buffer of at least [`TEXT_BUFFER`] bytes: how many it wrote. The others stay as they are,
+/// and at a refusal all do.
+pub fn to_dimacs_into(input: &[u8], buffer: &mut [u8]) -> Result<usize, Refusal> {
+    written(ffi::to_dimacs(input, buffer))
+}
+
 /// Where things stand in the results.
 const ANSWER: usize = 0;
 const MODEL: usize = 1;
@@ -267,6 +316,14 @@ fn answer(results: Results) -> Option<Answer> {
         1 => Some(Answer::Spent),
         2 => Some(Answer::Ended),
         _ => None,
+    }
+}
+
+/// How many bytes were written.
+fn written(results: Results) -> Result<usize, Refusal> {
+    match accept(results)?[ANSWER] {
+        0 => Ok(index(results, FIRST_COUNT)),
+        _ => broken(results),
     }
 }
 

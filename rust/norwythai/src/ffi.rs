@@ -5,7 +5,8 @@
 
 use crate::limits::CHECKPOINT_LENGTH;
 use crate::raw::{
-    norwythai_check, norwythai_judge, norwythai_list, norwythai_start, norwythai_walk,
+    norwythai_check, norwythai_from_dimacs, norwythai_judge, norwythai_list, norwythai_start,
+    norwythai_to_dimacs, norwythai_walk,
 };
 
 /// What every act but start writes, by its index: the answer, a model, a refusal's number and place, and two counts.
@@ -34,11 +35,15 @@ pub(crate) fn check(input: &[u8], assignment: u64) -> Results {
     results
 }
 
-pub(crate) fn judge(input: &[u8], buffer: &mut [u8]) -> Results {
+/// A C function that reads an input or a text, and writes a buffer and the results.
+type Writer = unsafe extern "C" fn(*const u8, usize, *mut u8, usize, *mut u64, usize) -> u32;
+
+/// Calls one of these functions of [`raw`](crate::raw).
+fn write(function: Writer, input: &[u8], buffer: &mut [u8]) -> Results {
     let mut results = [0; RESULTS_LENGTH];
     // SAFETY: `input` may be read, `buffer` and `results` written for the lengths given, and no two of them overlap.
     let returned = unsafe {
-        norwythai_judge(
+        function(
             input.as_ptr(),
             input.len(),
             buffer.as_mut_ptr(),
@@ -49,6 +54,18 @@ pub(crate) fn judge(input: &[u8], buffer: &mut [u8]) -> Results {
     };
     require(returned);
     results
+}
+
+pub(crate) fn judge(input: &[u8], buffer: &mut [u8]) -> Results {
+    write(norwythai_judge, input, buffer)
+}
+
+pub(crate) fn from_dimacs(text: &[u8], buffer: &mut [u8]) -> Results {
+    write(norwythai_from_dimacs, text, buffer)
+}
+
+pub(crate) fn to_dimacs(input: &[u8], buffer: &mut [u8]) -> Results {
+    write(norwythai_to_dimacs, input, buffer)
 }
 
 pub(crate) fn start() -> [u8; CHECKPOINT_LENGTH] {

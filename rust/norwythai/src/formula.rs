@@ -1,6 +1,8 @@
 //! Encoded formulas.
 
-use crate::acts::{check, judge, list, walk, JudgeError, Listed, Matching, Walked};
+use crate::acts::{
+    check, from_dimacs, judge, list, to_dimacs, walk, JudgeError, Listed, Matching, Walked,
+};
 use crate::assignment::Assignment;
 use crate::checkpoint::Checkpoint;
 use crate::models::Models;
@@ -24,14 +26,23 @@ use std::borrow::Cow;
 /// let lines: Vec<String> = models?.iter().map(|model| model.digits(2).to_string()).collect();
 /// assert_eq!(lines, ["01", "10"]);
 ///
-/// // The same, from bytes that came from somewhere.
+/// // The same, from bytes that came from somewhere, and from DIMACS CNF text.
 /// let read = Formula::from(&[1, 2, 2, 1, 2, 2, 4, 3, 1, 3, 2, 4, 5][..]);
 /// assert_eq!(read, formula);
+/// assert_eq!(Formula::from_dimacs(b"p cnf 2 2\n1 2 0\n-1 -2 0\n")?, formula);
+/// assert_eq!(formula.to_dimacs()?, "p cnf 2 2\n1 2 0\n-1 -2 0\n");
 /// # Ok(())
 /// # }
 /// ```
 #[derive(Clone, Debug, PartialEq, Eq)]
 pub struct Formula<'a>(Cow<'a, [u8]>);
+
+impl Formula<'static> {
+    /// See [`from_dimacs`].
+    pub fn from_dimacs(text: &[u8]) -> Result<Self, Refusal> {
+        from_dimacs(text).map(Formula::from)
+    }
+}
 
 impl Formula<'_> {
     /// The encoded formula.
@@ -57,6 +68,11 @@ impl Formula<'_> {
     /// See [`list`].
     pub fn list(&self, checkpoint: &mut Checkpoint, models: &mut [u64]) -> Result<Listed, Refusal> {
         list(&self.0, checkpoint, models)
+    }
+
+    /// See [`to_dimacs`].
+    pub fn to_dimacs(&self) -> Result<String, Refusal> {
+        to_dimacs(&self.0)
     }
 
     /// All models, in the order of the walk.

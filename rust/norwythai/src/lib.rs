@@ -3,8 +3,9 @@
 //! A formula has up to 48 variables and 96 clauses. It is *matched* if each clause can have a variable of its own among those
 //! that it names. The library reads an encoded formula, says whether an assignment is a model ([`check`]), matches the clauses
 //! ([`judge`]), and lists all models of a matched formula ([`walk`], [`list`], [`Models`]), each exactly once. The listing can be
-//! stopped after any number of steps and goes on from a [`Checkpoint`], which is a line of text if need be. Whatever the bytes
-//! are, an act answers: with a [`Refusal`], if it has to.
+//! stopped after any number of steps and goes on from a [`Checkpoint`], which is a line of text if need be. DIMACS CNF text is read
+//! into an encoded formula and written from one ([`from_dimacs`], [`to_dimacs`]). Whatever the bytes are, an act answers: with a
+//! [`Refusal`], if it has to.
 //!
 //! Clubs call these things sheets (formulas), rules (clauses), switches (variables), set-ups (assignments) and markers
 //! (checkpoints); the sentences of refusals do, too.
@@ -50,12 +51,13 @@ pub mod raw;
 mod refusal;
 
 pub use acts::{
-    check, judge, judge_into, list, walk, Answer, JudgeError, Listed, Matching, Size, Walked,
+    check, from_dimacs, from_dimacs_into, judge, judge_into, list, to_dimacs, to_dimacs_into, walk,
+    Answer, JudgeError, Listed, Matching, Size, Walked,
 };
 pub use assignment::{Assignment, Digits};
 pub use builder::{BuildError, FormulaBuilder, Literal};
 pub use checkpoint::{Checkpoint, ParseCheckpointError};
 pub use formula::Formula;
-pub use limits::{MAX_CLAUSES, MAX_VARIABLES};
+pub use limits::{FORMULA_BUFFER, MAX_CLAUSES, MAX_VARIABLES, TEXT_BUFFER};
 pub use models::Models;
 pub use refusal::Refusal;

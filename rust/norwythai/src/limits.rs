@@ -8,3 +8,9 @@ pub const MAX_CLAUSES: usize = 96;
 
 /// The bytes of a checkpoint: its mode, its length, and one for each variable.
 pub(crate) const CHECKPOINT_LENGTH: usize = 2 + MAX_VARIABLES as usize;
+
+/// The bytes that a buffer for an encoded formula must have, 9,315: the most that one has without repeats.
+pub const FORMULA_BUFFER: usize = 3 + MAX_CLAUSES * (2 * MAX_VARIABLES as usize + 1);
+
+/// The bytes that a buffer for a text must have, 18,636: 12 for the p line and, for each clause, 4 a variable and 2 for its end.
+pub const TEXT_BUFFER: usize = 12 + MAX_CLAUSES * (4 * MAX_VARIABLES as usize + 2);

@@ -2,8 +2,8 @@
 //!
 //! Each returns 0 if it has written its results (start: the checkpoint), and 1 if the results are not 6 numbers or the checkpoint
 //! is not 50 bytes: then no byte of any buffer has changed. A refusal is an answer: the function returns 0. The results are the
-//! answer (0 model, yes or matched; 1 spent or no; 2 ended; 3 refused), a model, the refusal's number and place, and two counts;
-//! include/norwythai.h has them all.
+//! answer (0 model, yes, matched or written; 1 spent or no; 2 ended; 3 refused), a model, the refusal's number and place, and two
+//! counts; include/norwythai.h has them all.
 //!
 //! # Safety
 //!
@@ -63,6 +63,28 @@ extern "C" {
         checkpoint_length: usize,
         models: *mut u64,
         models_length: usize,
+        results: *mut u64,
+        results_length: usize,
+    ) -> u32;
+
+    /// [`from_dimacs_into`](crate::from_dimacs_into): reads the text; writes the buffer and the results.
+    #[must_use = "1 says that nothing was written"]
+    pub fn norwythai_from_dimacs(
+        text: *const u8,
+        text_length: usize,
+        buffer: *mut u8,
+        buffer_length: usize,
+        results: *mut u64,
+        results_length: usize,
+    ) -> u32;
+
+    /// [`to_dimacs_into`](crate::to_dimacs_into): reads the input; writes the buffer and the results.
+    #[must_use = "1 says that nothing was written"]
+    pub fn norwythai_to_dimacs(
+        input: *const u8,
+        input_length: usize,
+        buffer: *mut u8,
+        buffer_length: usize,
         results: *mut u64,
         results_length: usize,
     ) -> u32;

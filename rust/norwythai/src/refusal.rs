@@ -3,26 +3,27 @@
 use std::error::Error;
 use std::fmt;
 
-/// Why an act is refused. Each case has a number, 1 to 12, and a place.
+/// Why an act is refused. Each case has a number, 1 to 15, and a place.
 ///
-/// A place is an offset in the encoded formula, counted from 0, where the case says nothing else. The sentences that a
-/// refusal displays speak of sheets, rules, switches, set-ups and markers, as clubs do.
+/// A place is an offset, counted from 0, in the encoded formula or in the DIMACS text that the act was given, where the case says
+/// nothing else. The sentences that a refusal displays speak of sheets, rules, switches, set-ups and markers, as clubs do.
 ///
 /// ```
 /// use norwythai::{check, Assignment, Refusal};
 ///
 /// let refusal = check(&[1, 49, 5], Assignment::from_bits(0)).unwrap_err();
-/// assert_eq!(refusal, Refusal::BadVariableCount);
+/// assert_eq!(refusal, Refusal::BadVariableCount { place: 0 });
 /// assert_eq!((refusal.number(), refusal.place()), (5, 0));
-/// assert_eq!(refusal.to_string(), "the sheet's kit must have 1 to 48 switches");
+/// assert_eq!(refusal.to_string(), "the number of switches is not 1 to 48, at byte 0 (counted from 0)");
 /// ```
 #[derive(Clone, Copy, Debug, PartialEq, Eq, Hash)]
 pub enum Refusal {
-    /// 1: the buffer lent to judge has fewer than 96 bytes.
+    /// 1: the lent buffer has fewer than 96 bytes (judge), [`FORMULA_BUFFER`](crate::FORMULA_BUFFER) or
+    /// [`TEXT_BUFFER`](crate::TEXT_BUFFER).
     ShortBuffer,
-    /// 2: the input stops within a record, or without the record that ends the formula.
+    /// 2: the input stops within a record, or without the record that ends the formula; the text stops within a clause.
     Truncated {
-        /// The length of the input.
+        /// The length of the input or the text.
         place: usize,
     },
     /// 3: a record's kind byte is not 1 to 5.
@@ -36,20 +37,23 @@ pub enum Refusal {
         place: usize,
     },
     /// 5: the number of variables is 0 or above 48.
-    BadVariableCount,
+    BadVariableCount {
+        /// The record's kind byte, or in a text the number's first byte.
+        place: usize,
+    },
     /// 6: a literal's variable is 0 or above the number of variables.
     NoSuchVariable {
-        /// The record's kind byte.
+        /// The record's kind byte, or in a text the word's first byte.
         place: usize,
     },
     /// 7: the clause has the literal's complement already, so that it would name the variable both ways.
     ComplementaryLiteral {
-        /// The record's kind byte.
+        /// The record's kind byte, or in a text the word's first byte.
         place: usize,
     },
     /// 8: the end of a 97th clause.
     TooManyClauses {
-        /// That byte.
+        /// Its kind byte, or in a text the first byte of its 0.
         place: usize,
     },
     /// 9: a byte follows the formula's end.
@@ -69,6 +73,21 @@ pub enum Refusal {
         /// Which assignment it is, counted from 0: check is given one, so 0.
         place: usize,
     },
+    /// 13: the first line of a text that is no comment is not `p`, `cnf` and two numbers.
+    BadOpening {
+        /// That line's first byte, or the length of the text if there is none.
+        place: usize,
+    },
+    /// 14: a word of a text, after its p line, is neither a literal nor the 0 that ends a clause.
+    BadWord {
+        /// The word's first byte.
+        place: usize,
+    },
+    /// 15: a text has more or fewer clauses than its p line says.
+    ClauseCountDiffers {
+        /// The first byte of the number of clauses in the p line.
+        place: usize,
+    },
 }
 
 impl Refusal {
@@ -79,7 +98,7 @@ impl Refusal {
             (2, place) => Refusal::Truncated { place },
             (3, place) => Refusal::UnknownKind { place },
             (4, place) => Refusal::Misplaced { place },
-            (5, 0) => Refusal::BadVariableCount,
+            (5, place) => Refusal::BadVariableCount { place },
             (6, place) => Refusal::NoSuchVariable { place },
             (7, place) => Refusal::ComplementaryLiteral { place },
             (8, place) => Refusal::TooManyClauses { place },
@@ -87,18 +106,21 @@ impl Refusal {
             (10, clauses) => Refusal::Unmatched { clauses },
             (11, 0) => Refusal::ForeignCheckpoint,
             (12, place) => Refusal::StrayVariable { place },
+            (13, place) => Refusal::BadOpening { place },
+            (14, place) => Refusal::BadWord { place },
+            (15, place) => Refusal::ClauseCountDiffers { place },
             _ => return None,
         })
     }
 
-    /// Its number, 1 to 12.
+    /// Its number, 1 to 15.
     pub fn number(&self) -> u8 {
         match self {
             Refusal::ShortBuffer => 1,
             Refusal::Truncated { .. } => 2,
             Refusal::UnknownKind { .. } => 3,
             Refusal::Misplaced { .. } => 4,
-            Refusal::BadVariableCount => 5,
+            Refusal::BadVariableCount { .. } => 5,
             Refusal::NoSuchVariable { .. } => 6,
             Refusal::ComplementaryLiteral { .. } => 7,
             Refusal::TooManyClauses { .. } => 8,
@@ -106,6 +128,9 @@ impl Refusal {
             Refusal::Unmatched { .. } => 10,
             Refusal::ForeignCheckpoint => 11,
             Refusal::StrayVariable { .. } => 12,
+            Refusal::BadOpening { .. } => 13,
+            Refusal::BadWord { .. } => 14,
+            Refusal::ClauseCountDiffers { .. } => 15,
         }
     }
 
@@ -115,13 +140,17 @@ impl Refusal {
             Refusal::Truncated { place }
             | Refusal::UnknownKind { place }
             | Refusal::Misplaced { place }
+            | Refusal::BadVariableCount { place }
             | Refusal::NoSuchVariable { place }
             | Refusal::ComplementaryLiteral { place }
             | Refusal::TooManyClauses { place }
             | Refusal::TrailingByte { place }
-            | Refusal::StrayVariable { place } => place,
+            | Refusal::StrayVariable { place }
+            | Refusal::BadOpening { place }
+            | Refusal::BadWord { place }
+            | Refusal::ClauseCountDiffers { place } => place,
             Refusal::Unmatched { clauses } => clauses,
-            Refusal::ShortBuffer | Refusal::BadVariableCount | Refusal::ForeignCheckpoint => 0,
+            Refusal::ShortBuffer | Refusal::ForeignCheckpoint => 0,
         }
     }
 }
@@ -129,10 +158,10 @@ impl Refusal {
 impl fmt::Display for Refusal {
     fn fmt(&self, f: &mut fmt::Formatter) -> fmt::Result {
         match *self {
-            Refusal::ShortBuffer => write!(f, "the slate has fewer than 96 bytes"),
+            Refusal::ShortBuffer => write!(f, "the slate or buffer lent for the answer is too short"),
             Refusal::Truncated { place } => write!(
                 f,
-                "the sheet is cut short: its {place} bytes stop before the end of the sheet"
+                "the sheet is cut short: its {place} bytes stop before the end of the sheet or of a rule"
             ),
             Refusal::UnknownKind { place } => write!(
                 f,
@@ -142,7 +171,10 @@ impl fmt::Display for Refusal {
                 f,
                 "the sheet has a record that may not stand where it does, at byte {place} (counted from 0)"
             ),
-            Refusal::BadVariableCount => write!(f, "the sheet's kit must have 1 to 48 switches"),
+            Refusal::BadVariableCount { place } => write!(
+                f,
+                "the number of switches is not 1 to 48, at byte {place} (counted from 0)"
+            ),
             Refusal::NoSuchVariable { place } => write!(
                 f,
                 "a rule names a switch that the kit doesn't have, at byte {place} (counted from 0)"
@@ -175,6 +207,19 @@ impl fmt::Display for Refusal {
             Refusal::StrayVariable { .. } => {
                 write!(f, "the set-up has a switch on that the kit doesn't have")
             }
+            Refusal::BadOpening { place } => write!(
+                f,
+                "the text has no line `p cnf SWITCHES RULES` where it must begin, at byte {place} (counted from 0)"
+            ),
+            Refusal::BadWord { place } => write!(
+                f,
+                "the text has a word that is neither a switch, with or without a minus, nor the end of a rule, at byte {place} \
+                 (counted from 0)"
+            ),
+            Refusal::ClauseCountDiffers { place } => write!(
+                f,
+                "the text has more or fewer rules than its p line says, at byte {place} (counted from 0)"
+            ),
         }
     }
 }

@@ -51,8 +51,8 @@ fn other_texts_are_no_checkpoints() {
 #[test]
 fn refusals_have_numbers_places_and_sentences() {
     let mut sentences = Vec::new();
-    for number in 1..=12 {
-        let place = if matches!(number, 1 | 5 | 11) { 0 } else { 31 };
+    for number in 1..=15 {
+        let place = if matches!(number, 1 | 11) { 0 } else { 31 };
         let refusal = Refusal::from_parts(number, place).unwrap();
         assert_eq!(
             (u64::from(refusal.number()), refusal.place()),
@@ -66,7 +66,8 @@ fn refusals_have_numbers_places_and_sentences() {
         sentences.push(sentence);
     }
     assert_eq!(Refusal::from_parts(0, 0), None);
-    assert_eq!(Refusal::from_parts(13, 0), None);
+    assert_eq!(Refusal::from_parts(16, 0), None);
+    assert_eq!(Refusal::from_parts(1, 1), None);
     assert_eq!(Refusal::from_parts(11, 1), None);
 }
 
@@ -152,7 +153,7 @@ fn the_builder_refuses_what_cannot_be_read() {
         let error = FormulaBuilder::new(variables).unwrap_err();
         assert_eq!(error, BuildError::BadVariableCount { variables });
         let refused = check(&[1, variables, 5], Assignment::default());
-        assert_eq!(refused, Err(Refusal::BadVariableCount));
+        assert_eq!(refused, Err(Refusal::BadVariableCount { place: 0 }));
     }
     let mut builder = FormulaBuilder::new(2).unwrap();
     for variable in [0, 3, 255] {

@@ -1,4 +1,4 @@
-//! What calls get beside the input: assignments, budgets, and checkpoints that a walk may or may not have.
+//! What calls get beside the input: assignments, budgets, buffers, and checkpoints that a walk may or may not have.
 
 use crate::random::Random;
 
@@ -29,6 +29,16 @@ pub fn some_budget(random: &mut Random) -> u32 {
         7 => u32::MAX,
         8 => random.below(200) as u32,
         _ => random.bits() as u32,
+    }
+}
+
+/// The length of a buffer that must have so many bytes: mostly just so many, at times more or too few.
+pub fn some_length(random: &mut Random, least: usize) -> usize {
+    match random.below(16) {
+        0 => least - 1,
+        1 => random.below(least),
+        2 => least + random.between(1, 100),
+        _ => least,
     }
 }
 

@@ -10,7 +10,7 @@ mod inputs;
 mod random;
 mod texts;
 
-pub use calls::{some_assignment, some_budget, some_checkpoint};
+pub use calls::{some_assignment, some_budget, some_checkpoint, some_length};
 pub use formulas::{encode, stairs, Clauses};
 pub use inputs::{some_input, some_matched_formula};
 pub use random::Random;

@@ -1,10 +1,10 @@
 //! Each act, through the crate and through its C function, compared with the reference.
 
 use crate::raw;
-use crate::tally::Tally;
+use crate::tally::{Conversions, Tally};
 use norwythai::{Answer, Checkpoint, JudgeError, Refusal};
 use norwythai_reference as reference;
-use norwythai_samples::{some_budget, Random};
+use norwythai_samples::{some_budget, some_length, Random};
 
 /// What results have before a call; no act writes it.
 const UNWRITTEN: u64 = 0xa5a5_a5a5_a5a5_a5a5;
@@ -285,6 +285,94 @@ pub fn compare_start(tally: &mut Tally, random: &mut Random) {
     tally.starts += 1;
 }
 
+/// An act between formulas and texts, by all its forms: each writes into a lent buffer but the last, which gives what it wrote.
+pub struct Conversion {
+    pub reference: fn(&[u8], &mut [u8]) -> Result<usize, reference::Refusal>,
+    pub lent: fn(&[u8], &mut [u8]) -> Result<usize, Refusal>,
+    pub raw: fn(&[u8], &mut [u8], &mut [u64]) -> u32,
+    pub owned: fn(&[u8]) -> Result<Vec<u8>, Refusal>,
+    /// The bytes that the buffer must have.
+    pub least: usize,
+    pub tally: fn(&mut Tally) -> &mut Conversions,
+}
+
+pub const FROM_DIMACS: Conversion = Conversion {
+    reference: reference::from_dimacs,
+    lent: norwythai::from_dimacs_into,
+    raw: raw::from_dimacs,
+    owned: norwythai::from_dimacs,
+    least: norwythai::FORMULA_BUFFER,
+    tally: |tally| &mut tally.from_dimacs,
+};
+
+pub const TO_DIMACS: Conversion = Conversion {
+    reference: reference::to_dimacs,
+    lent: norwythai::to_dimacs_into,
+    raw: raw::to_dimacs,
+    owned: |input| norwythai::to_dimacs(input).map(String::into_bytes),
+    least: norwythai::TEXT_BUFFER,
+    tally: |tally| &mut tally.to_dimacs,
+};
+
+impl Conversion {
+    /// Compares a call with a buffer of some length, and gives what was written if it is not refused.
+    pub fn compare(&self, tally: &mut Tally, random: &mut Random, given: &[u8]) -> Option<Vec<u8>> {
+        let length = some_length(random, self.least);
+        let before = vec![random.byte(); length];
+        let mut expected_buffer = before.clone();
+        let expected = (self.reference)(given, &mut expected_buffer);
+
+        let mut buffer = before.clone();
+        let found = (self.lent)(given, &mut buffer);
+        assert_eq!(found, expected.map_err(refusal_of), "{given:02x?}");
+        assert!(buffer == expected_buffer, "{given:02x?}");
+
+        let mut buffer = before;
+        let mut results = [UNWRITTEN; 6];
+        assert_eq!((self.raw)(given, &mut buffer, &mut results), 0);
+        assert!(buffer == expected_buffer, "{given:02x?}");
+        let expected_results = match expected {
+            Ok(written) => [0, 0, 0, 0, written as u64, 0],
+            Err(refusal) => refused_results(refusal),
+        };
+        assert_eq!(results, expected_results, "{given:02x?}");
+
+        let written = expected.map(|written| expected_buffer[..written].to_vec());
+        if length >= self.least {
+            let expected = written.clone().map_err(refusal_of);
+            assert!((self.owned)(given) == expected, "{given:02x?}");
+        }
+        (self.tally)(tally).count(expected);
+        written.ok()
+    }
+
+    /// With results of a wrong length it returns 1 and writes nothing.
+    fn compare_wrong_length(&self, given: &[u8], fill: u8, unwritten: &[u64]) {
+        let mut results = unwritten.to_vec();
+        let mut buffer = vec![fill; self.least];
+        assert_eq!((self.raw)(given, &mut buffer, &mut results), 1);
+        assert_eq!(results, unwritten);
+        assert!(buffer.iter().all(|byte| *byte == fill));
+    }
+}
+
+/// Writes a formula, if it is readable, and reads it again: it has the same variables and clauses, and no repeats.
+pub fn compare_round_trip(tally: &mut Tally, input: &[u8]) {
+    let Ok(formula) = reference::decode(input) else {
+        return;
+    };
+    let text = norwythai::to_dimacs(input).unwrap();
+    let again = norwythai::from_dimacs(text.as_bytes()).unwrap();
+    let read = reference::decode(&again).unwrap();
+    assert_eq!(read.variables(), formula.variables(), "{input:02x?}");
+    assert_eq!(read.clauses(), formula.clauses(), "{input:02x?}");
+    let names = read.clauses().iter().map(|c| c.named().count_ones());
+    let length = names.map(|n| 2 * n as usize + 1).sum::<usize>() + 3;
+    assert_eq!(again.len(), length, "{input:02x?}");
+    assert_eq!(norwythai::to_dimacs(&again), Ok(text), "{input:02x?}");
+    tally.round_trips += 1;
+}
+
 /// The C functions with arrays of wrong lengths: they return 1 and write nothing.
 pub fn compare_wrong_lengths(tally: &mut Tally, random: &mut Random, input: &[u8]) {
     let fill = random.byte();
@@ -310,7 +398,10 @@ pub fn compare_wrong_lengths(tally: &mut Tally, random: &mut Random, input: &[u8
         );
         assert_eq!((&results, checkpoint), (&unwritten, good));
         assert_eq!(models, [UNWRITTEN; 3]);
-        tally.wrong_lengths += 4;
+
+        FROM_DIMACS.compare_wrong_length(b"p cnf 2 1\n1 0\n", fill, &unwritten);
+        TO_DIMACS.compare_wrong_length(input, fill, &unwritten);
+        tally.wrong_lengths += 6;
     }
     for checkpoint_length in [0, 1, 49, 51, 100, random.below(50)] {
         let given = vec![fill & 3; checkpoint_length];

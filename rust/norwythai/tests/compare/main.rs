@@ -7,13 +7,14 @@ mod raw;
 mod tally;
 
 use acts::{
-    answer_of, compare_chain, compare_check, compare_judge, compare_list, compare_start,
-    compare_walk, compare_wrong_lengths,
+    answer_of, compare_chain, compare_check, compare_judge, compare_list, compare_round_trip,
+    compare_start, compare_walk, compare_wrong_lengths, FROM_DIMACS, TO_DIMACS,
 };
 use norwythai::{Answer, Checkpoint, Models, Refusal};
 use norwythai_reference as reference;
 use norwythai_samples::{
-    some_assignment, some_budget, some_checkpoint, some_input, some_matched_formula, Random,
+    some_assignment, some_budget, some_checkpoint, some_input, some_matched_formula, some_text,
+    Random,
 };
 use tally::Tally;
 
@@ -57,6 +58,21 @@ fn compare_input(
     pool
 }
 
+/// The acts between formulas and texts: the input is written, and read again, and so are texts that are no input's.
+fn compare_texts(tally: &mut Tally, random: &mut Random, input: &[u8]) {
+    if let Some(text) = TO_DIMACS.compare(tally, random, input) {
+        FROM_DIMACS.compare(tally, random, &text);
+    }
+    compare_round_trip(tally, input);
+    for _ in 0..4 {
+        let text = some_text(random);
+        if let Some(formula) = FROM_DIMACS.compare(tally, random, &text) {
+            TO_DIMACS.compare(tally, random, &formula);
+            compare_round_trip(tally, &formula);
+        }
+    }
+}
+
 fn wanted_calls() -> usize {
     match std::env::var("NORWYTHAI_CALLS") {
         Ok(text) => text.parse().expect("NORWYTHAI_CALLS is a number"),
@@ -75,6 +91,7 @@ fn every_act_answers_as_the_reference() {
         let input = some_input(&mut random, is_matched);
         tally.input(&input);
         others = compare_input(&mut tally, &mut random, &input, &others);
+        compare_texts(&mut tally, &mut random, &input);
         compare_start(&mut tally, &mut random);
         if round % 20 == 0 {
             compare_wrong_lengths(&mut tally, &mut random, &input);

@@ -1,7 +1,8 @@
 //! The C functions themselves, called with arrays of any length. Each array stands between guards, which no call may change.
 
 use norwythai::raw::{
-    norwythai_check, norwythai_judge, norwythai_list, norwythai_start, norwythai_walk,
+    norwythai_check, norwythai_from_dimacs, norwythai_judge, norwythai_list, norwythai_start,
+    norwythai_to_dimacs, norwythai_walk,
 };
 use std::fmt::Debug;
 
@@ -63,11 +64,14 @@ pub fn check(input: &[u8], assignment: u64, results: &mut [u64]) -> u32 {
     returned
 }
 
-pub fn judge(input: &[u8], buffer: &mut [u8], results: &mut [u64]) -> u32 {
+/// A function that reads an input or a text, and writes a buffer and the results.
+type Writer = unsafe extern "C" fn(*const u8, usize, *mut u8, usize, *mut u64, usize) -> u32;
+
+fn write(function: Writer, input: &[u8], buffer: &mut [u8], results: &mut [u64]) -> u32 {
     let (mut lent, mut written) = (bytes(buffer), numbers(results));
     // SAFETY: the pointers are good for the lengths, and the arrays do not overlap.
     let returned = unsafe {
-        norwythai_judge(
+        function(
             input.as_ptr(),
             input.len(),
             lent.pointer(),
@@ -79,6 +83,18 @@ pub fn judge(input: &[u8], buffer: &mut [u8], results: &mut [u64]) -> u32 {
     lent.take(buffer);
     written.take(results);
     returned
+}
+
+pub fn judge(input: &[u8], buffer: &mut [u8], results: &mut [u64]) -> u32 {
+    write(norwythai_judge, input, buffer, results)
+}
+
+pub fn from_dimacs(text: &[u8], buffer: &mut [u8], results: &mut [u64]) -> u32 {
+    write(norwythai_from_dimacs, text, buffer, results)
+}
+
+pub fn to_dimacs(input: &[u8], buffer: &mut [u8], results: &mut [u64]) -> u32 {
+    write(norwythai_to_dimacs, input, buffer, results)
 }
 
 pub fn start(checkpoint: &mut [u8]) -> u32 {

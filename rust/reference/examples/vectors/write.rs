@@ -6,7 +6,7 @@ use norwythai_reference::{
     Checkpoint, Refusal, FORMULA_BUFFER, LIST_BUDGET, TEXT_BUFFER,
 };
 use norwythai_samples::{
-    some_assignment, some_budget, some_checkpoint, some_input, some_text, Random,
+    some_assignment, some_budget, some_checkpoint, some_input, some_length, some_text, Random,
 };
 
 /// A longer input or printed walk takes much of a file of the corpus. Such an input is given to fewer calls, and such a walk is
@@ -164,14 +164,9 @@ impl Conversion {
         line(self.act, from, &fields)
     }
 
-    /// With a buffer of some length, mostly just long enough.
+    /// With a buffer of some length.
     fn some_line(&self, from: &str, random: &mut Random, bytes: &[u8]) -> String {
-        let length = match random.below(8) {
-            0 => self.least - 1,
-            1 => self.least + 1,
-            2 => random.below(self.least),
-            _ => self.least,
-        };
+        let length = some_length(random, self.least);
         self.line(from, bytes, length, random.byte())
     }
 }
