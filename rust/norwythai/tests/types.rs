@@ -1,8 +1,9 @@
 //! The crate's own types: texts, errors and the builder.
 
 use norwythai::{
-    check, judge, Assignment, BuildError, Checkpoint, Formula, FormulaBuilder, JudgeError, Literal,
-    ParseCheckpointError, Refusal,
+    check, from_dimacs, judge, to_dimacs, Assignment, BuildError, Checkpoint, Formula,
+    FormulaBuilder, JudgeError, Literal, ParseCheckpointError, Refusal, FORMULA_BUFFER,
+    TEXT_BUFFER,
 };
 
 #[test]
@@ -85,6 +86,55 @@ fn sentences_name_the_rules_that_cannot_be_paired() {
     );
     let error = judge(&[]).unwrap_err();
     assert_eq!(error, JudgeError::Refused(Refusal::Truncated { place: 0 }));
+}
+
+#[test]
+fn texts_are_read_and_written() {
+    assert_eq!((FORMULA_BUFFER, TEXT_BUFFER), (9_315, 18_636));
+    let text = b"c \xff\np cnf 48 2\r\n-48 -48 9\r\nc\r\n0\r\n0";
+    let formula = Formula::from_dimacs(text).unwrap();
+    assert_eq!(formula.as_bytes(), [1, 48, 3, 48, 2, 9, 4, 4, 5]);
+    let written = formula.to_dimacs().unwrap();
+    assert_eq!(written, "p cnf 48 2\n-48 9 0\n0\n");
+    assert_eq!(Formula::from_dimacs(written.as_bytes()), Ok(formula));
+
+    // The longest text that is written.
+    let mut builder = FormulaBuilder::new(48).unwrap();
+    let literals: Vec<Literal> = (1..=48).map(Literal::negative).collect();
+    for _ in 0..96 {
+        builder.clause(&literals).unwrap();
+    }
+    let fullest = builder.build();
+    let longest = fullest.to_dimacs().unwrap();
+    assert_eq!(longest.len(), 17_772);
+    assert_eq!(Formula::from_dimacs(longest.as_bytes()), Ok(fullest));
+}
+
+#[test]
+fn refusals_of_texts_say_where() {
+    let refused = |text: &str| from_dimacs(text.as_bytes()).unwrap_err().to_string();
+    assert_eq!(
+        refused("\np cnf 2 1\n1 0"),
+        "the text has no line `p cnf SWITCHES RULES` where it must begin, at byte 0 (counted from 0)"
+    );
+    assert_eq!(
+        refused("p cnf 49 0"),
+        "the number of switches is not 1 to 48, at byte 6 (counted from 0)"
+    );
+    assert_eq!(
+        refused("p cnf 2 1\n1 two 0"),
+        "the text has a word that is neither a switch, with or without a minus, nor the end of a rule, at byte 12 (counted from 0)"
+    );
+    assert_eq!(
+        refused("p cnf 2 2\n1 2 0"),
+        "the text has more or fewer rules than its p line says, at byte 8 (counted from 0)"
+    );
+    assert_eq!(
+        refused("p cnf 2 1\n1 2"),
+        "the sheet is cut short: its 13 bytes stop before the end of the sheet or of a rule"
+    );
+    let refusal = to_dimacs(&[1, 2, 2, 3, 4, 5]).unwrap_err();
+    assert_eq!(refusal, Refusal::NoSuchVariable { place: 2 });
 }
 
 #[test]

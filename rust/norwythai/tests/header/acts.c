@@ -90,6 +90,52 @@ static int test_list(void) {
     return 0;
 }
 
+static int test_from_dimacs(void) {
+    static const char TEXT[] = "c one of two\np cnf 2 2\n1 2\nc and again\n1 0\n-1 -2 0";
+    static uint8_t buffer[NORWYTHAI_FORMULA_BUFFER + 1];
+    const uint8_t *text = (const uint8_t *)TEXT;
+    uint64_t results[NORWYTHAI_RESULTS];
+
+    memset(buffer, 7, sizeof buffer);
+    REQUIRE(norwythai_from_dimacs(text, sizeof TEXT - 1, buffer, sizeof buffer, results, NORWYTHAI_RESULTS) == 0);
+    REQUIRE(results[0] == NORWYTHAI_WRITTEN && results[4] == sizeof INPUT && results[5] == 0);
+    REQUIRE(memcmp(buffer, INPUT, sizeof INPUT) == 0 && buffer[sizeof INPUT] == 7);
+
+    /* The zero byte at the end of a string is no part of the text, but of its last word. */
+    memset(buffer, 7, sizeof buffer);
+    REQUIRE(norwythai_from_dimacs(text, sizeof TEXT, buffer, sizeof buffer, results, NORWYTHAI_RESULTS) == 0);
+    REQUIRE(results[0] == NORWYTHAI_REFUSED && results[2] == 14 && results[3] == sizeof TEXT - 2 && results[4] == 0);
+    /* Without the 0 of the last clause, without all clauses, and without the p line. */
+    REQUIRE(norwythai_from_dimacs(text, sizeof TEXT - 2, buffer, sizeof buffer, results, NORWYTHAI_RESULTS) == 0);
+    REQUIRE(results[0] == NORWYTHAI_REFUSED && results[2] == 2 && results[3] == sizeof TEXT - 2);
+    REQUIRE(norwythai_from_dimacs(text, 23, buffer, sizeof buffer, results, NORWYTHAI_RESULTS) == 0);
+    REQUIRE(results[0] == NORWYTHAI_REFUSED && results[2] == 15 && results[3] == 21);
+    REQUIRE(norwythai_from_dimacs(text, 0, buffer, sizeof buffer, results, NORWYTHAI_RESULTS) == 0);
+    REQUIRE(results[0] == NORWYTHAI_REFUSED && results[2] == 13 && results[3] == 0);
+    REQUIRE(norwythai_from_dimacs(text, sizeof TEXT - 1, buffer, NORWYTHAI_FORMULA_BUFFER - 1, results, NORWYTHAI_RESULTS) == 0);
+    REQUIRE(results[0] == NORWYTHAI_REFUSED && results[2] == 1 && results[3] == 0);
+    REQUIRE(buffer[0] == 7 && memcmp(buffer, buffer + 1, sizeof buffer - 1) == 0);
+    return 0;
+}
+
+static int test_to_dimacs(void) {
+    static const char TEXT[] = "p cnf 2 2\n1 2 0\n-1 -2 0\n";
+    static uint8_t buffer[NORWYTHAI_TEXT_BUFFER + 1];
+    uint64_t results[NORWYTHAI_RESULTS];
+
+    memset(buffer, 7, sizeof buffer);
+    REQUIRE(norwythai_to_dimacs(BOTH_WAYS, sizeof BOTH_WAYS, buffer, sizeof buffer, results, NORWYTHAI_RESULTS) == 0);
+    REQUIRE(results[0] == NORWYTHAI_REFUSED && results[2] == 7 && results[3] == 6 && results[4] == 0);
+    REQUIRE(norwythai_to_dimacs(INPUT, sizeof INPUT, buffer, NORWYTHAI_TEXT_BUFFER - 1, results, NORWYTHAI_RESULTS) == 0);
+    REQUIRE(results[0] == NORWYTHAI_REFUSED && results[2] == 1 && results[3] == 0);
+    REQUIRE(buffer[0] == 7 && memcmp(buffer, buffer + 1, sizeof buffer - 1) == 0);
+
+    REQUIRE(norwythai_to_dimacs(REPEATED, sizeof REPEATED, buffer, sizeof buffer, results, NORWYTHAI_RESULTS) == 0);
+    REQUIRE(results[0] == NORWYTHAI_WRITTEN && results[4] == sizeof TEXT - 1 && results[5] == 0);
+    REQUIRE(memcmp(buffer, TEXT, sizeof TEXT - 1) == 0 && buffer[sizeof TEXT - 1] == 7);
+    return 0;
+}
+
 /* A length in bytes is not that of the results. */
 static int test_lengths(void) {
     uint64_t results[NORWYTHAI_RESULTS] = {7, 7, 7, 7, 7, 7};
@@ -101,5 +147,5 @@ static int test_lengths(void) {
 }
 
 int main(void) {
-    return test_check() || test_judge() || test_walk() || test_list() || test_lengths();
+    return test_check() || test_judge() || test_walk() || test_list() || test_from_dimacs() || test_to_dimacs() || test_lengths();
 }
