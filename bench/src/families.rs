@@ -1,6 +1,6 @@
 //! The families of formulas: those of data/families.txt, and more that are generated, the same in every run.
 
-use norwythai_reference::{decode, judge};
+use norwythai_reference::{decode, judge, write_text};
 use norwythai_samples::{encode, stairs, Clauses, Random};
 
 /// The formulas that are kept as data.
@@ -111,15 +111,25 @@ impl Family {
 
 /// The fullest input: 96 clauses, each with all 48 variables. Without repeated literals none is longer. It is not matched.
 pub fn fullest_input() -> Vec<u8> {
-    let clause: Vec<i8> = (1..=LARGEST as i8)
-        .map(|variable| {
-            if variable % 2 == 0 {
-                -variable
-            } else {
-                variable
-            }
-        })
-        .collect();
+    full_input(|variable| {
+        if variable % 2 == 0 {
+            -variable
+        } else {
+            variable
+        }
+    })
+}
+
+/// The fullest input with all literals negative: no formula is written as a longer text.
+pub fn longest_text_input() -> Vec<u8> {
+    let input = full_input(|variable| -variable);
+    assert!(write_text(&input).is_ok_and(|text| text.len() == 17_772));
+    input
+}
+
+/// 96 clauses of the literals of all 48 variables.
+fn full_input(literal: fn(i8) -> i8) -> Vec<u8> {
+    let clause: Vec<i8> = (1..=LARGEST as i8).map(literal).collect();
     let input = encode(LARGEST, &vec![clause; 96]);
     assert!(input.len() == 9315 && decode(&input).is_ok());
     input

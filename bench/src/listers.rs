@@ -36,6 +36,12 @@ pub trait Lister {
         checkpoint: &mut Bytes,
         models: &mut [u64],
     ) -> Result<usize, Refused>;
+
+    /// Reads a DIMACS text into the buffer, and gives the formula's length.
+    fn read_text(&self, text: &[u8], buffer: &mut [u8]) -> Result<usize, Refused>;
+
+    /// Writes the formula into the buffer as DIMACS text, and gives its length.
+    fn write_text(&self, input: &[u8], buffer: &mut [u8]) -> Result<usize, Refused>;
 }
 
 /// The proved library, by its safe wrapper.
@@ -83,9 +89,17 @@ impl Lister for Proved {
         *bytes = *checkpoint.as_bytes();
         Ok(listed.written)
     }
+
+    fn read_text(&self, text: &[u8], buffer: &mut [u8]) -> Result<usize, Refused> {
+        norwythai::from_dimacs_into(text, buffer).map_err(refused)
+    }
+
+    fn write_text(&self, input: &[u8], buffer: &mut [u8]) -> Result<usize, Refused> {
+        norwythai::to_dimacs_into(input, buffer).map_err(refused)
+    }
 }
 
-/// The two Rust implementations have the same functions, but check is the plain one's alone: it has nothing to tune.
+/// The two Rust implementations have the same functions, but check and texts are the plain one's alone: they have nothing to tune.
 macro_rules! rust_lister {
     ($name:ident, $module:ident) => {
         impl Lister for $name {
@@ -133,6 +147,14 @@ macro_rules! rust_lister {
                     $module::list(input, checkpoint, models).map_err(|r| (r.number, r.place))?;
                 *checkpoint = listed.checkpoint;
                 Ok(listed.written)
+            }
+
+            fn read_text(&self, text: &[u8], buffer: &mut [u8]) -> Result<usize, Refused> {
+                plain::from_dimacs(text, buffer).map_err(|r| (r.number, r.place))
+            }
+
+            fn write_text(&self, input: &[u8], buffer: &mut [u8]) -> Result<usize, Refused> {
+                plain::to_dimacs(input, buffer).map_err(|r| (r.number, r.place))
             }
         }
     };

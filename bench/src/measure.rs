@@ -1,8 +1,9 @@
 //! The times of the acts, and the table of ratios.
 
-use crate::families::{fullest_input, Case, Family, FAMILIES};
-use crate::listers::{Bytes, Lister, Plain, Proved, Tuned};
+use crate::families::{fullest_input, longest_text_input, Case, Family, FAMILIES};
+use crate::listers::{Bytes, Lister, Plain, Proved, Refused, Tuned};
 use crate::table::{count_text, print_table, row, time_text};
+use norwythai::{FORMULA_BUFFER, TEXT_BUFFER};
 use std::fmt::Debug;
 use std::hint::black_box;
 use std::time::Instant;
@@ -147,17 +148,60 @@ fn decode_times() -> Times {
     })
 }
 
+/// An act that writes into a lent buffer, and gives how much.
+type Conversion = fn(&dyn Lister, &[u8], &mut [u8]) -> Result<usize, Refused>;
+
+/// The times of such an act with a buffer of so many bytes, which is not cleared before.
+fn conversion_times(input: &[u8], room: usize, convert: Conversion) -> Times {
+    let mut buffer = vec![0; room];
+    times(|lister| {
+        let written = convert(lister, black_box(input), &mut buffer);
+        assert!(black_box(written).is_ok());
+        black_box(&buffer);
+    })
+}
+
+fn from_dimacs_times(text: &[u8]) -> Times {
+    conversion_times(text, FORMULA_BUFFER, |lister, text, buffer| {
+        lister.read_text(text, buffer)
+    })
+}
+
+fn to_dimacs_times(input: &[u8]) -> Times {
+    conversion_times(input, TEXT_BUFFER, |lister, input, buffer| {
+        lister.write_text(input, buffer)
+    })
+}
+
 /// What all three give, once it is the same.
-fn same<T: PartialEq + Debug>(what: &str, case: &Case, act: impl Fn(&dyn Lister) -> T) -> T {
+fn same<T: PartialEq + Debug>(what: &str, name: &str, act: impl Fn(&dyn Lister) -> T) -> T {
     let [proved, plain, tuned] = LISTERS.map(act);
-    assert!(plain == proved, "{}: {what}: proved and plain", case.name);
-    assert!(tuned == proved, "{}: {what}: proved and tuned", case.name);
+    assert!(plain == proved, "{name}: {what}: proved and plain");
+    assert!(tuned == proved, "{name}: {what}: proved and tuned");
     proved
+}
+
+/// The formula's text, from which it is read again.
+fn same_text(name: &str, input: &[u8]) -> Vec<u8> {
+    let text = same("to_dimacs", name, |lister| {
+        let mut text = vec![0; TEXT_BUFFER];
+        let written = lister.write_text(input, &mut text);
+        text.truncate(written.expect("a formula"));
+        text
+    });
+    let read = same("from_dimacs", name, |lister| {
+        let mut formula = vec![0; FORMULA_BUFFER];
+        let written = lister.read_text(&text, &mut formula);
+        formula.truncate(written.expect("the text of a formula"));
+        formula
+    });
+    assert!(read == input, "{name}: from_dimacs and to_dimacs");
+    text
 }
 
 /// The first models, so many at most, and the checkpoint after them.
 fn same_models(case: &Case, most: usize) -> (Vec<u64>, Bytes) {
-    same("list", case, |lister| {
+    same("list", &case.name, |lister| {
         let mut models = vec![0; most];
         let mut checkpoint = START;
         let written = lister.list(&case.input, &mut checkpoint, &mut models);
@@ -170,7 +214,7 @@ fn same_models(case: &Case, most: usize) -> (Vec<u64>, Bytes) {
 pub fn deep_checkpoint(case: &Case) -> Bytes {
     let models = same_models(case, SHORT).0.len();
     let (_, checkpoint) = same_models(case, models / 2);
-    same("walk", case, |lister| {
+    same("walk", &case.name, |lister| {
         let mut next = checkpoint;
         (lister.walk(&case.input, &mut next, BUDGET), next)
     })
@@ -180,7 +224,7 @@ pub fn deep_checkpoint(case: &Case) -> Bytes {
 }
 
 fn require_same_judge(case: &Case) {
-    same("judge", case, |lister| {
+    same("judge", &case.name, |lister| {
         let mut buffer = [0; 96];
         (lister.judge(&case.input, &mut buffer), buffer)
     })
@@ -284,6 +328,24 @@ fn judge_row(family: &Family, cases: &[Case]) -> Row {
     }
 }
 
+/// The rows of texts that are read and written.
+fn text_rows(family: &str, inputs: &[Vec<u8>]) -> [Row; 2] {
+    let row = |act: &str, times| Row {
+        family: family.to_string(),
+        act: act.to_string(),
+        times,
+    };
+    let reading = inputs
+        .iter()
+        .map(|input| from_dimacs_times(&same_text(family, input)))
+        .collect();
+    let writing = inputs.iter().map(|input| to_dimacs_times(input)).collect();
+    [row("from DIMACS", reading), row("to DIMACS", writing)]
+}
+
+/// The family whose texts are read and written.
+const TEXT_FAMILY: &Family = &FAMILIES[1];
+
 fn family_rows(family: &Family) -> Vec<Row> {
     let cases = family.cases();
     vec![
@@ -301,6 +363,10 @@ fn all_rows() -> Vec<Row> {
         act: "check".to_string(),
         times: vec![decode_times()],
     });
+    let cases = TEXT_FAMILY.cases().into_iter();
+    let inputs: Vec<Vec<u8>> = cases.map(|case| case.input).collect();
+    rows.extend(text_rows(TEXT_FAMILY.title, &inputs));
+    rows.extend(text_rows("longest text", &[longest_text_input()]));
     rows
 }
 
@@ -378,7 +444,7 @@ pub fn print_comparison() {
     table.extend(rows.iter().map(Row::cells));
     print_table(&table);
     println!();
-    println!("- all three have listed the same models and given the same walk calls and matchings");
+    println!("- all three have listed the same models and given the same walk calls, matchings and texts");
     println!("- best of {ROUNDS} rounds after a warm-up, {FEWEST_ROUNDS} for the longest acts; a time is the geometric mean over a family's formulas");
     println!("- buffers were not cleared between calls; waits for a core are taken off");
     print_verdict(&rows);

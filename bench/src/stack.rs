@@ -9,8 +9,10 @@ use crate::listers::{Bytes, Lister, Proved};
 use crate::measure::{deep_checkpoint, BUDGET, START};
 use crate::table::{count_text, print_table, row};
 use norwythai::raw::{
-    norwythai_check, norwythai_judge, norwythai_list, norwythai_start, norwythai_walk,
+    norwythai_check, norwythai_from_dimacs, norwythai_judge, norwythai_list, norwythai_start,
+    norwythai_to_dimacs, norwythai_walk,
 };
+use norwythai::{to_dimacs, FORMULA_BUFFER, TEXT_BUFFER};
 use norwythai_samples::encode;
 use std::hint::black_box;
 use std::mem::MaybeUninit;
@@ -88,18 +90,22 @@ fn check_stack(input: &[u8]) -> usize {
     })
 }
 
-fn judge_stack(input: &[u8]) -> usize {
+/// A function that reads an input or a text, and writes a buffer and the results.
+type Writer = unsafe extern "C" fn(*const u8, usize, *mut u8, usize, *mut u64, usize) -> u32;
+
+/// The stack of such a function, with a buffer of so many bytes.
+fn writer_stack(function: Writer, input: &[u8], room: usize) -> usize {
     let mut results = [0; 6];
-    let mut buffer = [0; 96];
+    let mut buffer = vec![0; room];
     stack_of(&mut || {
         let top = stack_pointer();
         // SAFETY: the pointers are good for the lengths, and the arrays do not overlap.
         let returned = unsafe {
-            norwythai_judge(
+            function(
                 input.as_ptr(),
                 input.len(),
                 buffer.as_mut_ptr(),
-                96,
+                room,
                 results.as_mut_ptr(),
                 6,
             )
@@ -107,6 +113,20 @@ fn judge_stack(input: &[u8]) -> usize {
         assert_eq!(returned, 0);
         top
     })
+}
+
+fn judge_stack(input: &[u8]) -> usize {
+    writer_stack(norwythai_judge, input, 96)
+}
+
+/// The formula's own text is read.
+fn from_dimacs_stack(input: &[u8]) -> usize {
+    let text = to_dimacs(input).expect("a formula");
+    writer_stack(norwythai_from_dimacs, text.as_bytes(), FORMULA_BUFFER)
+}
+
+fn to_dimacs_stack(input: &[u8]) -> usize {
+    writer_stack(norwythai_to_dimacs, input, TEXT_BUFFER)
 }
 
 fn start_stack() -> usize {
@@ -262,14 +282,17 @@ fn print_functions() {
             .expect("there are inputs")
     };
     let fullest = fullest_input();
-    let check = largest(&|input, _| check_stack(input)).max(check_stack(&fullest));
-    let judge = largest(&|input, _| judge_stack(input)).max(judge_stack(&fullest));
+    // Also on the fullest input, which is not matched.
+    let with_fullest =
+        |stack: fn(&[u8]) -> usize| largest(&|input, _| stack(input)).max(stack(&fullest));
     let rows = [
-        ("norwythai_check", check),
-        ("norwythai_judge", judge),
+        ("norwythai_check", with_fullest(check_stack)),
+        ("norwythai_judge", with_fullest(judge_stack)),
         ("norwythai_start", start_stack()),
         ("norwythai_walk", largest(&walk_stack)),
         ("norwythai_list", largest(&list_stack)),
+        ("norwythai_from_dimacs", with_fullest(from_dimacs_stack)),
+        ("norwythai_to_dimacs", with_fullest(to_dimacs_stack)),
     ];
     let mut table = vec![row(&["function", "bytes of stack"])];
     table.extend(rows.map(|(name, bytes)| row(&[name, &count_text(bytes as u64)])));

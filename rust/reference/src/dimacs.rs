@@ -18,7 +18,7 @@ struct Piece<'a> {
 
 impl<'a> Piece<'a> {
     /// The pieces between the bytes that part them, empty ones too.
-    fn split(self, parts: fn(u8) -> bool) -> impl Iterator<Item = Piece<'a>> {
+    fn split(self, parts: impl Fn(u8) -> bool) -> impl Iterator<Item = Piece<'a>> {
         let mut at = self.at;
         self.bytes
             .split(move |byte| parts(*byte))
@@ -45,17 +45,15 @@ impl<'a> Piece<'a> {
     }
 }
 
-/// The number that digits write, of which there are one or more; the largest one where it is larger.
+/// The number that one or more digits write; where it is too large, the largest one.
 fn number(digits: &[u8]) -> Option<usize> {
-    if digits.is_empty() || !digits.iter().all(u8::is_ascii_digit) {
+    if digits.is_empty() {
         return None;
     }
-    let number = digits.iter().fold(0_usize, |number, digit| {
-        number
-            .saturating_mul(10)
-            .saturating_add(usize::from(digit - b'0'))
-    });
-    Some(number)
+    digits.iter().try_fold(0_usize, |number, byte| {
+        let digit = char::from(*byte).to_digit(10)?;
+        Some(number.saturating_mul(10).saturating_add(digit as usize))
+    })
 }
 
 /// The p line (S15.2).
