@@ -1,13 +1,15 @@
-/* pages FILE SIZE: prints the models of the encoded formula in FILE, a digit for each variable, in pages of SIZE models.
+/* pages FILE SIZE: prints the models of the formula in FILE, a digit for each variable, in pages of SIZE models. The file has DIMACS
+ * text if its name ends in .cnf, else the encoded formula.
  *
  * In this folder, once `rt staticlib capi` has built the library:
  *
  *     cc -std=c99 -o pages pages.c ../../target/staticlib/libcapi.a
- *     ./pages ../two_variables.bin 10
+ *     ./pages ../velodrome.cnf 10
  */
 #include <stdint.h>
 #include <stdio.h>
 #include <stdlib.h>
+#include <string.h>
 
 #include "../../include/norwythai.h"
 
@@ -105,6 +107,25 @@ static int print_pages(const uint8_t *input, size_t length, size_t size) {
     return fflush(stdout) == 0 ? EXIT_SUCCESS : fail("the output can't be written");
 }
 
+/* The same of a DIMACS text. */
+static int print_text_pages(const uint8_t *text, size_t length, size_t size) {
+    static uint8_t formula[NORWYTHAI_FORMULA_BUFFER];
+    uint64_t results[NORWYTHAI_RESULTS];
+
+    if (norwythai_from_dimacs(text, length, formula, NORWYTHAI_FORMULA_BUFFER, results, NORWYTHAI_RESULTS) != 0) {
+        return fail("an array has the wrong length");
+    }
+    if (results[ANSWER] != NORWYTHAI_WRITTEN) {
+        return refused(results);
+    }
+    return print_pages(formula, (size_t)results[WRITTEN], size);
+}
+
+static int ends_in(const char *name, const char *end) {
+    size_t length = strlen(name), end_length = strlen(end);
+    return length >= end_length && strcmp(name + length - end_length, end) == 0;
+}
+
 int main(int argc, char **argv) {
     long size = argc == 3 ? strtol(argv[2], NULL, 10) : 0;
     if (size < 1 || size > PAGE_MOST) {
@@ -115,7 +136,8 @@ int main(int argc, char **argv) {
     if (input == NULL) {
         return fail("the file can't be read");
     }
-    int status = print_pages(input, length, (size_t)size);
+    int is_text = ends_in(argv[1], ".cnf");
+    int status = is_text ? print_text_pages(input, length, (size_t)size) : print_pages(input, length, (size_t)size);
     free(input);
     return status;
 }

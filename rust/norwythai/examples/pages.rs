@@ -1,12 +1,18 @@
-//! pages FILE SIZE [CHECKPOINT]: prints the next models of the encoded formula in a file, SIZE of them, a digit for each
-//! variable, and then the checkpoint to go on with, or `end` if no model is left.
+//! pages FILE SIZE [CHECKPOINT]: prints the next models of the formula in a file, SIZE of them, a digit for each variable, and then
+//! the checkpoint to go on with, or `end` if no model is left. The file has DIMACS text if its name ends in .cnf, else the encoded
+//! formula.
 
 use norwythai::{Checkpoint, Formula};
 use std::error::Error;
 use std::process::ExitCode;
 
 fn print_page(file: &str, size: &str, checkpoint: Option<&String>) -> Result<(), Box<dyn Error>> {
-    let formula = Formula::from(std::fs::read(file)?);
+    let bytes = std::fs::read(file)?;
+    let formula = if file.ends_with(".cnf") {
+        Formula::from_dimacs(&bytes)?
+    } else {
+        Formula::from(bytes)
+    };
     let size: usize = size.parse()?;
     let start = match checkpoint {
         Some(text) => text.parse()?,

@@ -303,3 +303,19 @@ fn what_is_written_is_read_again() {
     }
     assert!(formulas > 1_500 && texts > 1_000, "{formulas} {texts}");
 }
+
+#[test]
+fn each_example_is_encoded_from_its_text() {
+    let folder = concat!(env!("CARGO_MANIFEST_DIR"), "/../../examples");
+    let mut texts = 0;
+    for entry in std::fs::read_dir(folder).unwrap() {
+        let path = entry.unwrap().path();
+        if path.extension().is_some_and(|end| end == "cnf") {
+            let formula = read_text(&std::fs::read(&path).unwrap());
+            let encoded = std::fs::read(path.with_extension("bin")).unwrap();
+            assert_eq!(formula, Ok(encoded), "{}", path.display());
+            texts += 1;
+        }
+    }
+    assert!(texts >= 5, "{texts}");
+}

@@ -118,6 +118,19 @@ fn the_example_lists_models_in_pages() {
     assert!(!output.status.success());
     assert_eq!(output.stderr, b"pages: refused 10 at 3\n");
 
+    // A text, and one that ends within a clause.
+    let [text, encoded] =
+        ["examples/velodrome.cnf", "examples/velodrome.bin"].map(|f| pages(repository(f), "1000"));
+    assert!(text.status.success());
+    // a line for the page, and 546 models
+    assert_eq!(String::from_utf8_lossy(&text.stdout).lines().count(), 547);
+    assert_eq!(text.stdout, encoded.stdout);
+    let file = temporary("input.cnf");
+    std::fs::write(&file, "p cnf 2 1\n1 2").unwrap();
+    let output = pages(file, "2");
+    assert!(!output.status.success());
+    assert_eq!(output.stderr, b"pages: refused 2 at 13\n");
+
     // An empty file, and one with the clause (1) in very many records.
     let file = temporary("input.bin");
     std::fs::write(&file, []).unwrap();
