@@ -1,1 +1,2 @@
 pub mod EdgeCases
+pub mod TextCases

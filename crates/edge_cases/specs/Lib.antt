@@ -1,1 +1,2 @@
 pub mod MarkedCases
+pub mod TextCases
