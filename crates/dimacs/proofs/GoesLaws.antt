@@ -173,7 +173,7 @@ digits-some s z g sign k none = go (run s) (eqb (value s) 0) refl
     go true false e q = let f : value s ≡ k = cc in let h = eqb-false (value s) 0 e in omega arith
     go false b e q = let w : _≡_ {A = ℕ} 0 1 = cc in absurd (omega arith)
 
-token-some : (w : List ℕ) (sign : Bool) (k : ℕ) → token w ≡ names-variable sign k → 1 ≤ k
+pub token-some : (w : List ℕ) (sign : Bool) (k : ℕ) → token w ≡ names-variable sign k → 1 ≤ k
 token-some [] sign k e = let z : _≡_ {A = ℕ} 0 1 = cc in absurd (omega arith)
 token-some (x ∷ s) sign k e = go (eqb x minus-sign) e
   where

@@ -82,7 +82,7 @@ unfolding distinct
 over-none = record { below = tt; once = refl }
 
 -- one clause more, where there are fewer than 96
-sized-more : {n : ℕ} {cs : List (List Literal)} {c : List Literal} → Sized n cs → ClauseOver n c → length cs < max-clauses → Sized n (cs ++ (c ∷ []))
+pub sized-more : {n : ℕ} {cs : List (List Literal)} {c : List Literal} → Sized n cs → ClauseOver n c → length cs < max-clauses → Sized n (cs ++ (c ∷ []))
 sized-more {n} {cs} {c} z o h =
     record {
       some = z .some;

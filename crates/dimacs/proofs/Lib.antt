@@ -7,6 +7,7 @@ pub mod ReadLaws
 pub mod RoomLaws
 pub mod RoundLaws
 pub mod ScanLaws
+pub mod TableLaws
 pub mod TakeLaws
 pub mod TextLaws
 pub mod WrittenLaws
