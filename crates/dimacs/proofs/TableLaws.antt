@@ -3,7 +3,7 @@ use Prim.Native.Nat.{ℕ, suc, _-_, _<_, _≤_}
 use mathlib.Core.Bool.{Bool, true, false, cond, _&&_, and-false}
 use mathlib.Core.List.{List, [], _∷_, _++_}
 use mathlib.Core.Logic.{_⊎_, inl, inr}
-use mathlib.Core.Path.{_≡_, refl, sym, ap, subst, _∙_}
+use mathlib.Core.Path.{_≡_, refl, ap, _∙_}
 use native.Mathlib.Omega.{arith}
 use borrow.Author.Tests.{ltb-true, ltb-false, leb-true, leb-false, eqb-true, eqb-false, lt-ltb, le-ltb, le-leb, lt-leb, eq-eqb, ne-eqb}
 use lib.Dec.{eqb, leb, ltb}
@@ -11,7 +11,7 @@ use lib.ListN.{length}
 use lib.Seq.{append-snoc}
 use Rattle.limits.specs.Limits.{max-variables, max-clauses}
 use Rattle.formula.specs.declared.Refusal.{Refusal}
-use Rattle.formula.specs.declared.Refusal.the-variants.{Truncated, BadVariableCount, NoSuchVariable, ComplementaryLiteral, TooManyClauses, BadOpening, BadWord, ClauseCountDiffers}
+use Rattle.formula.specs.declared.Refusal.the-variants.{Truncated, BadVariableCount, NoSuchVariable, ComplementaryLiteral, TooManyClauses, ClauseCountDiffers}
 use Rattle.formula.specs.Format.{Literal, names, has-complement, add, ClauseOver, Sized}
 use Rattle.formula.specs.Decoding.{Decoding, readable, refused}
 use Rattle.formula.specs.Refusals.{table-row}
@@ -180,3 +180,54 @@ text-sized t n cs e =
     let p = text-read-only t n cs e .passes in
     let k : Within n (record { ended = cs; current = [] }) = rw (p .taken) at (all-means (p .opens)) in
     k .sized
+
+-- ---- the other way: the table's rows give what is read
+
+-- a text that opens so is read by its words
+opens-read : {t : List ℕ} {n : ℕ} {d : Piece} {ws : List Piece} → Opens t n d ws → read-text t ≡ closing (length t) n d (take-words n ws progress-start)
+unfolding read-text
+opens-read o = rw (o .first, o .is-p-line, ← o .count, lt-ltb 0 _ (o .some), le-leb _ max-variables (o .most), o .follow)
+
+-- a word that is reached and refused refuses the text
+reaches-read : {t : List ℕ} {n : ℕ} {w : Piece} {s : Progress} {r : Refusal} → Reaches t n w s → take-word n w s ≡ stop r → read-text t ≡ refused r
+unfolding take-words
+reaches-read {n = n} {w = w} a e = opens-read (a .opens) ∙ rw (take-words-append n (a .before) (w ∷ a .after) progress-start, a .taken, e, take-words)
+
+-- a text whose words all pass is read by what is behind them
+passes-read : {t : List ℕ} {n : ℕ} {d : Piece} {s : Progress} → Passes t n d s → read-text t ≡ closing (length t) n d (next s)
+passes-read p = opens-read (p .opens) ∙ rw (p .taken)
+
+-- S15.4: what the table says is read
+pub text-read-all : (t : List ℕ) (n : ℕ) (cs : List (List Literal)) → TextRead t n cs → read-text t ≡ readable n cs
+text-read-all t n cs h = passes-read (h .passes) ∙ rw (eq-eqb (length cs) (value (h .fourth .bytes)) (h .count))
+
+-- S15.4: a refusal is given wherever its row of the table applies
+pub text-refused-all : (t : List ℕ) (r : Refusal) → TextRefused t r → read-text t ≡ refused r
+unfolding read-text
+text-refused-all t r (no-line e) = rw e
+text-refused-all t r (no-p-line l ls e q) = rw (e, q)
+text-refused-all t r (count-bad l c d ls e q (inl h)) = rw (e, q, le-ltb 0 (value (c .bytes)) (omega arith))
+text-refused-all t r (count-bad l c d ls e q (inr h)) = rw (e, q, lt-leb (value (c .bytes)) max-variables h, and-false (ltb 0 (value (c .bytes))))
+text-refused-all t r (word-bad n w s a q) = reaches-read a (rw q)
+text-refused-all t r (variable-unknown n w s sign k a q h) = reaches-read a (rw (q, lt-leb k n h))
+text-refused-all t r (literal-complementary n w s sign k a q h f) = reaches-read a (rw (q, le-leb k n h, f))
+text-refused-all t r (clause-extra n w s a q h) = reaches-read a (rw (q, le-ltb (length (s .ended)) max-clauses (omega arith)))
+text-refused-all t r (clause-open n d s p h) = passes-read p ∙ go (s .current) h
+  where
+    go : (c : List Literal) → (c ≡ [] → ⊥) → closing (length t) n d (next (record { ended = s .ended; current = c })) ≡ refused (Truncated (length t))
+    go [] h = absurd (h refl)
+    go (l ∷ c) h = rw (ne-eqb (suc (length c)) 0 (λ z. absurd (omega arith)))
+text-refused-all t r (count-differs n d s p e h) = passes-read p ∙ rw (e, ne-eqb (length (s .ended)) (value (d .bytes)) h)
+
+-- S3.1: a text is refused with 2, 5 to 8 or 13 to 15
+pub text-numbers : {t : List ℕ} {r : Refusal} → TextRefused t r
+    → (let k = table-row r .number in ((k ≡ 2) ⊎ ((5 ≤ k) × (k ≤ 8))) ⊎ ((13 ≤ k) × (k ≤ 15)))
+text-numbers (no-line e) = inr (omega arith)
+text-numbers (no-p-line l ls e q) = inr (omega arith)
+text-numbers (count-bad l c d ls e q h) = inl (inr (omega arith))
+text-numbers (word-bad n w s a q) = inr (omega arith)
+text-numbers (variable-unknown n w s sign k a q h) = inl (inr (omega arith))
+text-numbers (literal-complementary n w s sign k a q h f) = inl (inr (omega arith))
+text-numbers (clause-extra n w s a q h) = inl (inr (omega arith))
+text-numbers (clause-open n d s p h) = inl (inl refl)
+text-numbers (count-differs n d s p e h) = inr (omega arith)
