@@ -3,6 +3,7 @@ pub mod KeepLaws
 pub mod LineLaws
 pub mod OpeningLaws
 pub mod PieceLaws
+pub mod PlaceLaws
 pub mod ReadLaws
 pub mod RoomLaws
 pub mod RoundLaws
