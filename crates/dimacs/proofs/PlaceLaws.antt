@@ -90,15 +90,15 @@ all-inside m [] h = tt
 all-inside m (l ∷ ls) h = every-append (Inside m) (words l) (all-words ls) (words-inside m l (h .0)) (all-inside m ls (h .1))
 
 module _ (t : List ℕ) where
-  -- the lines of a text that are no comments
+  -- the lines of a text that are no comments end at most where it does
   lines-inside : (ls : List Piece) → others (lines t) ≡ ls → Every (Inside (length t)) ls
   lines-inside ls e = rw e at (others-every (Inside (length t)) (lines t) (pieces-inside ends-line (length t) 0 [] t (omega arith)))
 
-  -- the words of the numbers of its p line
+  -- and so do the words of the two numbers of its p line
   numbers-inside : (l c d : Piece) (ls : List Piece) → others (lines t) ≡ l ∷ ls → opening (words l) ≡ p-line c d → Inside (length t) c × Inside (length t) d
   numbers-inside l c d ls e q = rw q at (opening-every (Inside (length t)) (words l) (words-inside (length t) l (lines-inside (l ∷ ls) e .0)))
 
-  -- a word behind it
+  -- a word behind the p line starts at most there
   word-inside : {n : ℕ} {w : Piece} {s : Progress} → Reaches t n w s → w .at ≤ length t
   word-inside {w = w} a =
       let o = a .opens in

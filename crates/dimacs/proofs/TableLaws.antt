@@ -24,12 +24,12 @@ use Rattle.dimacs.proofs.TakeLaws.{take-words-append, take-words-first}
 
 -- ---- what is read so far
 
--- it keeps to the limits
+-- the clauses that have ended, and the literals of the one that has not, keep to the limits of n variables
 record Within (n : ℕ) (s : Progress) : Type 0 where
   sized : Sized n (s .ended)
   over : ClauseOver n (s .current)
 
--- a clause to which a literal is added is a clause
+-- a clause over n variables with a literal added is such a clause
 add-over : {n : ℕ} {c : List Literal} (l : Literal) → ClauseOver n c → l .variable < n → ClauseOver n (add c l)
 unfolding add
 add-over {n} {c} l o h = go (names c (l .variable)) refl
@@ -40,13 +40,14 @@ add-over {n} {c} l o h = go (names c (l .variable)) refl
 
 -- ---- words
 
--- what a step says: what is read so far keeps to the limits, or the text is refused
+-- what the step of a word says: what is read then keeps to the limits, or the text is refused so by the table
 abbrev StepMeans : List ℕ → ℕ → Step → Type 0
 StepMeans t n (next s) = Within n s
 StepMeans t n (stop r) = TextRefused t r
 
+-- of a word that is reached
 module _ {t : List ℕ} {n : ℕ} {w : Piece} {s : Progress} (at : Reaches t n w s) (k : Within n s) where
-  -- the end of a clause, where it is reached
+  -- the step of a clause's end says so
   end-means : token (w .bytes) ≡ ends → StepMeans t n (take-end (w .at) s)
   end-means q = go (ltb (length (s .ended)) max-clauses) refl
     where
@@ -55,7 +56,7 @@ module _ {t : List ℕ} {n : ℕ} {w : Piece} {s : Progress} (at : Reaches t n w
       go true e = record { sized = sized-more (k .sized) (k .over) (ltb-true (length (s .ended)) max-clauses e); over = over-none }
       go false e = clause-extra n w s at q (omega (arith, ltb-false (length (s .ended)) max-clauses e, k .sized .few))
 
-  -- a literal
+  -- and that of a literal
   literal-means : (sign : Bool) (v : ℕ) → token (w .bytes) ≡ names-variable sign v → StepMeans t n (take-literal n (w .at) s sign v)
   literal-means sign v q = go (leb v n) (has-complement (s .current) l) refl refl
     where
@@ -68,7 +69,7 @@ module _ {t : List ℕ} {n : ℕ} {w : Piece} {s : Progress} (at : Reaches t n w
       go true false e f = record { sized = k .sized; over = add-over l (k .over) (omega (arith, leb-true v n e, token-some (w .bytes) sign v q)) }
       go false b e f = variable-unknown n w s sign v at q (leb-false v n e)
 
-  -- any word
+  -- and so that of any word
   word-means : StepMeans t n (take-word n w s)
   word-means = go (token (w .bytes)) refl
     where
@@ -77,13 +78,13 @@ module _ {t : List ℕ} {n : ℕ} {w : Piece} {s : Progress} (at : Reaches t n w
       go (names-variable sign v) q = literal-means sign v q
       go bad q = word-bad n w s at q
 
--- one word more is taken
+-- a word behind words that are taken, taken itself, is one more of them
 taken-more : (n : ℕ) (us : List Piece) (w : Piece) (s s′ : Progress) → take-words n us progress-start ≡ next s → take-word n w s ≡ next s′
     → take-words n (us ++ (w ∷ [])) progress-start ≡ next s′
 unfolding take-words
 taken-more n us w s s′ e f = take-words-append n us (w ∷ []) progress-start ∙ rw e (take-words-first n w [] s s′ f)
 
--- so do the steps of the words ws, if those before them are taken
+-- the steps of the words ws say so, if all words before them are taken
 words-means : {t : List ℕ} {n : ℕ} {d : Piece} (us ws : List Piece) (s : Progress) → Opens t n d (us ++ ws) → take-words n us progress-start ≡ next s
     → Within n s → StepMeans t n (take-words n ws s)
 unfolding take-words
@@ -99,21 +100,21 @@ words-means {t} {n} {d} us (w ∷ ws) s o e k =
 
 -- ---- the whole text
 
--- before the first word
+-- before the first word nothing is read
 within-start : {n : ℕ} → 1 ≤ n → n ≤ max-variables → Within n progress-start
 within-start some most = record { sized = record { some = some; most = most; few = omega arith; clauses = tt }; over = over-none }
 
--- all words behind the p line
+-- the steps of all words behind the p line say so
 all-means : {t : List ℕ} {n : ℕ} {d : Piece} {ws : List Piece} → Opens t n d ws → StepMeans t n (take-words n ws progress-start)
 unfolding take-words
 all-means {ws = ws} o = words-means [] ws progress-start o refl (within-start (o .some) (o .most))
 
--- what a result of reading says of the text
+-- what a result of reading says of the text, by the table
 abbrev TextMeans : List ℕ → Decoding → Type 0
 TextMeans t (readable n cs) = TextRead t n cs
 TextMeans t (refused r) = TextRefused t r
 
--- behind the last word
+-- the result behind the last word says what the text is
 closing-means : {t : List ℕ} {n : ℕ} {d : Piece} {ws : List Piece} → Opens t n d ws → (x : Step) → take-words n ws progress-start ≡ x → StepMeans t n x
     → TextMeans t (closing (length t) n d x)
 closing-means o (stop r) e h = h
@@ -130,7 +131,7 @@ closing-means {t} {n} {d} {ws} o (next s) e h = go (s .current) refl (eqb (lengt
         rw (ne-eqb (suc (length c)) 0 (λ z. absurd (omega arith)))
         (clause-open n d (record { ended = s .ended; current = l ∷ c }) (passes (l ∷ c) q) (λ z. absurd (omega (arith, ap length z))))
 
--- by the p line
+-- and so does the result by the first line that is no comment
 opening-means : (t : List ℕ) (l : Piece) (ls : List Piece) → others (lines t) ≡ l ∷ ls → TextMeans t (by-opening (length t) l ls (opening (words l)))
 opening-means t l ls e = go (opening (words l)) refl
   where
@@ -157,7 +158,7 @@ opening-means t l ls e = go (opening (words l)) refl
     go (p-line c d) q = count c d q (ltb 0 (value (c .bytes))) (leb (value (c .bytes)) max-variables) refl refl
     go other-line q = no-p-line l ls e q
 
--- what reading gives says what the text is
+-- and so what reading gives
 text-means : (t : List ℕ) → TextMeans t (read-text t)
 unfolding read-text
 text-means t = go (others (lines t)) refl
@@ -166,7 +167,7 @@ text-means t = go (others (lines t)) refl
     go [] e = no-line e
     go (l ∷ ls) e = opening-means t l ls e
 
--- S15.4: what is read is as the table says
+-- S15.4: a text is read only if its words all pass, no clause is open, and there are as many as its p line says
 pub text-read-only : (t : List ℕ) (n : ℕ) (cs : List (List Literal)) → read-text t ≡ readable n cs → TextRead t n cs
 text-read-only t n cs e = rw e at (text-means t)
 
@@ -183,7 +184,7 @@ text-sized t n cs e =
 
 -- ---- the other way: the table's rows give what is read
 
--- a text that opens so is read by its words
+-- a text that opens with a p line of 1 to 48 variables is read by its words
 opens-read : {t : List ℕ} {n : ℕ} {d : Piece} {ws : List Piece} → Opens t n d ws → read-text t ≡ closing (length t) n d (take-words n ws progress-start)
 unfolding read-text
 opens-read o = rw (o .first, o .is-p-line, ← o .count, lt-ltb 0 _ (o .some), le-leb _ max-variables (o .most), o .follow)
@@ -193,11 +194,11 @@ reaches-read : {t : List ℕ} {n : ℕ} {w : Piece} {s : Progress} {r : Refusal}
 unfolding take-words
 reaches-read {n = n} {w = w} a e = opens-read (a .opens) ∙ rw (take-words-append n (a .before) (w ∷ a .after) progress-start, a .taken, e, take-words)
 
--- a text whose words all pass is read by what is behind them
+-- a text whose words are all taken is read by what they give
 passes-read : {t : List ℕ} {n : ℕ} {d : Piece} {s : Progress} → Passes t n d s → read-text t ≡ closing (length t) n d (next s)
 passes-read p = opens-read (p .opens) ∙ rw (p .taken)
 
--- S15.4: what the table says is read
+-- S15.4: every such text is read, as these clauses
 pub text-read-all : (t : List ℕ) (n : ℕ) (cs : List (List Literal)) → TextRead t n cs → read-text t ≡ readable n cs
 text-read-all t n cs h = passes-read (h .passes) ∙ rw (eq-eqb (length cs) (value (h .fourth .bytes)) (h .count))
 
