@@ -1,3 +1,5 @@
+pub mod ActLaws
+pub mod Demands
 pub mod GoesLaws
 pub mod KeepLaws
 pub mod LineLaws
