@@ -30,9 +30,9 @@ import sys
 ROOT = pathlib.Path(__file__).resolve().parent.parent
 CRATES = ROOT / 'crates'
 PROOFS = ROOT / 'docs' / 'PROOFS.md'
-STATEMENTS = ('Demands', 'Theorems', 'ListTheorems', 'MarkedCases')
+STATEMENTS = ('Demands', 'Theorems', 'ListTheorems', 'MarkedCases', 'TextCases')
 APART = ('exhaustive', 'vectors')  # for tests: no statement rests on them
-OURS = ('enumeration::root', 'formula::decode', 'masks::lowest', 'masks::meets', 'masks::minus', 'splitting::choose_free')  # ask nothing, and are for our own crates all the same
+OURS = ('enumeration::root', 'formula::decode', 'formula::empty_clause', 'formula::other_side', 'masks::lowest', 'masks::meets', 'masks::minus', 'splitting::choose_free')  # ask nothing, and are for our own crates all the same
 
 USE = re.compile(r'Rattle·(\w+?)(?:·\w+)?\.(specs|proofs)\.([\w.-]+?)(?:\.\{(.*)\}|\s+as\s+(\S+?))?;?$')
 MODIFIERS = ('pub', 'abbrev', 'unfoldable')
