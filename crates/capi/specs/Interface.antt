@@ -8,6 +8,7 @@ use Rattle.limits.specs.Limits.{max-variables}
 use Rattle.lists.specs.Over.{over}
 use Rattle.formula.specs.Check as check
 use Rattle.formula.specs.Check.{Said, said-yes, said-no, said-neither, checked}
+use Rattle.dimacs.specs.Convert.{ConvertedValues, Conversion, to-encoded, to-text}
 use Rattle.matched.specs.Judge as judging
 use Rattle.matched.specs.Judge.{judge}
 use Rattle.walk.specs.Checkpoints.{Checkpoint, start}
@@ -37,6 +38,10 @@ check-results a = said-code (a .said) ∷ 0 ∷ a .number ∷ a .place ∷ 0 ∷
 -- accepted if there is no refusal's number; at the end the numbers of variables and of clauses
 abbrev pub judge-results : judging.JudgementValues → List ℕ
 judge-results a = cond (eqb (a .number) 0) 0 3 ∷ 0 ∷ a .number ∷ a .place ∷ a .variables ∷ a .clauses ∷ []
+
+-- written if there is no refusal's number; then how many bytes
+abbrev pub conversion-results : ConvertedValues → List ℕ
+conversion-results a = cond (eqb (a .number) 0) 0 3 ∷ 0 ∷ a .number ∷ a .place ∷ a .count ∷ 0 ∷ []
 
 -- the model, or 0; at the end the steps and the expansions
 abbrev pub walk-results : Result → List ℕ
@@ -75,6 +80,19 @@ unfoldable pub judge-called : List ℕ → List ℕ → List ℕ → ℕ × List
 judge-called s buffer results =
     let j = judge s buffer in
     cond (results-sized results) (0, j .buffer, judge-results (j .answer)) (1, buffer, results)
+
+-- what a conversion leaves, if there is room for its results; else the buffer and the results as they were
+abbrev pub conversion-called : Conversion → List ℕ → List ℕ → ℕ × List ℕ × List ℕ
+conversion-called c buffer results =
+    cond (results-sized results) (0, c .buffer, conversion-results (c .answer)) (1, buffer, results)
+
+-- norwythai_from_dimacs: the text, and the buffer and the results as they were
+unfoldable pub from-dimacs-called : List ℕ → List ℕ → List ℕ → ℕ × List ℕ × List ℕ
+from-dimacs-called t buffer results = conversion-called (to-encoded t buffer) buffer results
+
+-- norwythai_to_dimacs: the input, and the buffer and the results as they were
+unfoldable pub to-dimacs-called : List ℕ → List ℕ → List ℕ → ℕ × List ℕ × List ℕ
+to-dimacs-called s buffer results = conversion-called (to-text s buffer) buffer results
 
 -- norwythai_start: the checkpoint as it was
 unfoldable pub start-called : List ℕ → ℕ × List ℕ

@@ -5,11 +5,13 @@ ghost use mathlib.Core.Path.{_≡_};
 ghost use lib.ListN.{length, drop};
 ghost use Rattle.formula.specs.Check as check;
 ghost use Rattle.formula.specs.Refusals.{table-row};
+ghost use Rattle.dimacs.specs.Convert.{converted-values};
 ghost use Rattle.matched.specs.Judge as judging;
 ghost use Rattle.walk.specs.Checkpoints as walk;
 ghost use Rattle.enumeration.specs.Values.{checkpoint-values, answer-values, walked-values, listed-values};
 ghost use Rattle.capi.specs.InnerResults.{numbers};
-ghost use Rattle.capi.specs.Interface.{results-size, check-results, judge-results, walk-results, list-results, checkpoint-size, checkpoint-bytes, checkpoint-in, check-called, judge-called, start-called, walk-called, list-called};
+ghost use Rattle.capi.specs.Interface.{results-size, check-results, judge-results, conversion-results, walk-results, list-results, checkpoint-size, checkpoint-bytes, checkpoint-in, check-called, judge-called, from-dimacs-called, to-dimacs-called, start-called, walk-called, list-called};
+use dimacs::Converted;
 use enumeration::Checkpoint;
 use enumeration::Listed;
 use enumeration::Walked;
@@ -24,7 +26,7 @@ const RESULTS_SIZE: usize = 6;
 const CHECKPOINT_SIZE: usize = 2 + limits::MAX_VARIABLES;
 
 // The results of a call, in the order in which they are written. judge has the numbers of variables and clauses in place of the
-// steps and expansions, list the number of models in place of the steps.
+// steps and expansions, a conversion the number of bytes and list that of models in place of the steps.
 struct Results {
     answer: u64,
     model: u64,
@@ -77,6 +79,15 @@ fn judge_results(j: Judgement) -> Results
     match j {
         Judgement::Accepted(n, m) => plain_results(0, 0, n as u64, m as u64),
         Judgement::Refused(refusal) => refusal_results(refusal, 0, 0),
+    }
+}
+
+fn converted_results(c: Converted) -> Results
+    ensures { λ r. ⌜ numbers r ≡ conversion-results (converted-values c) ⌝ }
+{
+    match c {
+        Converted::Written(count) => plain_results(0, 0, count as u64, 0),
+        Converted::Refused(refusal) => refusal_results(refusal, 0, 0),
     }
 }
 
@@ -174,6 +185,38 @@ pub extern "C" fn norwythai_judge(input: &[u8], buffer: &mut [u8], results: &mut
         judge_results(matched::find_matching(input, buffer)),
         results,
     );
+    0
+}
+
+// S15: a DIMACS text into an encoded formula.
+#[no_mangle]
+pub extern "C" fn norwythai_from_dimacs(
+    text: &[u8],
+    buffer: &mut [u8],
+    results: &mut [u64],
+) -> u32
+    ensures { λ r. ⌜ from-dimacs-called (now (text .entry)) (now (buffer .entry)) (now (results .entry)) ≡ (r, now (buffer .exit), now (results .exit)) ⌝ }
+{
+    if results.len() != RESULTS_SIZE {
+        return 1;
+    }
+    put_results(converted_results(dimacs::read(text, buffer)), results);
+    0
+}
+
+// S16: an encoded formula into a DIMACS text.
+#[no_mangle]
+pub extern "C" fn norwythai_to_dimacs(
+    input: &[u8],
+    buffer: &mut [u8],
+    results: &mut [u64],
+) -> u32
+    ensures { λ r. ⌜ to-dimacs-called (now (input .entry)) (now (buffer .entry)) (now (results .entry)) ≡ (r, now (buffer .exit), now (results .exit)) ⌝ }
+{
+    if results.len() != RESULTS_SIZE {
+        return 1;
+    }
+    put_results(converted_results(dimacs::write(input, buffer)), results);
     0
 }
 
