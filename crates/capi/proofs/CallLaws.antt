@@ -6,7 +6,7 @@ use lib.ListN.{length}
 use borrow.Author.Tests.{eq-eqb, ne-eqb}
 use Rattle.formula.specs.Check as check
 use Rattle.formula.specs.Check.{checked}
-use Rattle.dimacs.specs.Convert.{ConvertedValues, to-encoded, to-text}
+use Rattle.dimacs.specs.Convert.{ConvertedValues, Conversion}
 use Rattle.matched.specs.Judge as judging
 use Rattle.matched.specs.Judge.{judge}
 use Rattle.walk.specs.Checkpoints.{Checkpoint, start}
@@ -16,7 +16,7 @@ use Rattle.enumeration.specs.declared.listing.Listed.{Listed}
 use Rattle.enumeration.specs.declared.calls.Walked.{Walked}
 use Rattle.enumeration.specs.Values.{checkpoint-values, walked-values, listed-values}
 use Rattle.enumeration.specs.Lists.{Delivered, next-models}
-use Rattle.capi.specs.Interface.{results-size, checkpoint-size, check-results, judge-results, conversion-results, walk-results, list-results, checkpoint-bytes, checkpoint-in, check-called, judge-called, from-dimacs-called, to-dimacs-called, start-called, walk-told, walk-called, list-told, list-called}
+use Rattle.capi.specs.Interface.{results-size, checkpoint-size, check-results, judge-results, conversion-results, walk-results, list-results, checkpoint-bytes, checkpoint-in, check-called, judge-called, conversion-called, start-called, walk-told, walk-called, list-told, list-called}
 use Rattle.capi.proofs.ResultsLaws.{beside}
 
 module _ (s results : List ℕ) (a : ℕ) where
@@ -46,32 +46,19 @@ module _ (s buffer results : List ℕ) where
   unfolding judge-called
   judge-written r left after h e l f = rw (eq-eqb _ _ h, f, e, l)
 
-module _ (s buffer results : List ℕ) where
-  pub from-dimacs-unwritten :
-      (length results ≡ results-size → ⊥) → from-dimacs-called s buffer results ≡ (1, buffer, results)
-  unfolding from-dimacs-called
-  from-dimacs-unwritten h = rw (ne-eqb _ _ h)
+module _ (c : Conversion) (buffer results : List ℕ) where
+  pub conversion-unwritten :
+      (length results ≡ results-size → ⊥) → conversion-called c buffer results ≡ (1, buffer, results)
+  unfolding conversion-called
+  conversion-unwritten h = rw (ne-eqb _ _ h)
 
-  pub from-dimacs-written :
+  pub conversion-written :
       (r : ConvertedValues) (left after : List ℕ) →
       length results ≡ results-size →
-      to-encoded s buffer ≡ record { answer = r; buffer = left } →
-      after ≡ conversion-results r → from-dimacs-called s buffer results ≡ (0, left, after)
-  unfolding from-dimacs-called
-  from-dimacs-written r left after h e f = rw (eq-eqb _ _ h, f, e)
-
-  pub to-dimacs-unwritten :
-      (length results ≡ results-size → ⊥) → to-dimacs-called s buffer results ≡ (1, buffer, results)
-  unfolding to-dimacs-called
-  to-dimacs-unwritten h = rw (ne-eqb _ _ h)
-
-  pub to-dimacs-written :
-      (r : ConvertedValues) (left after : List ℕ) →
-      length results ≡ results-size →
-      to-text s buffer ≡ record { answer = r; buffer = left } →
-      after ≡ conversion-results r → to-dimacs-called s buffer results ≡ (0, left, after)
-  unfolding to-dimacs-called
-  to-dimacs-written r left after h e f = rw (eq-eqb _ _ h, f, e)
+      c ≡ record { answer = r; buffer = left } →
+      after ≡ conversion-results r → conversion-called c buffer results ≡ (0, left, after)
+  unfolding conversion-called
+  conversion-written r left after h e f = rw (eq-eqb _ _ h, f, e)
 
 module _ (checkpoint : List ℕ) where
   pub start-unwritten : (length checkpoint ≡ checkpoint-size → ⊥) → start-called checkpoint ≡ (1, checkpoint)

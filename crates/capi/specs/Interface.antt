@@ -81,17 +81,17 @@ judge-called s buffer results =
     let j = judge s buffer in
     cond (results-sized results) (0, j .buffer, judge-results (j .answer)) (1, buffer, results)
 
--- what a conversion leaves, if there is room for its results; else the buffer and the results as they were
-abbrev pub conversion-called : Conversion → List ℕ → List ℕ → ℕ × List ℕ × List ℕ
+-- a conversion of either kind: what it leaves, and the buffer and the results as they were
+unfoldable pub conversion-called : Conversion → List ℕ → List ℕ → ℕ × List ℕ × List ℕ
 conversion-called c buffer results =
     cond (results-sized results) (0, c .buffer, conversion-results (c .answer)) (1, buffer, results)
 
 -- norwythai_from_dimacs: the text, and the buffer and the results as they were
-unfoldable pub from-dimacs-called : List ℕ → List ℕ → List ℕ → ℕ × List ℕ × List ℕ
+abbrev pub from-dimacs-called : List ℕ → List ℕ → List ℕ → ℕ × List ℕ × List ℕ
 from-dimacs-called t buffer results = conversion-called (to-encoded t buffer) buffer results
 
 -- norwythai_to_dimacs: the input, and the buffer and the results as they were
-unfoldable pub to-dimacs-called : List ℕ → List ℕ → List ℕ → ℕ × List ℕ × List ℕ
+abbrev pub to-dimacs-called : List ℕ → List ℕ → List ℕ → ℕ × List ℕ × List ℕ
 to-dimacs-called s buffer results = conversion-called (to-text s buffer) buffer results
 
 -- norwythai_start: the checkpoint as it was

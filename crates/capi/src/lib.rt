@@ -190,11 +190,7 @@ pub extern "C" fn norwythai_judge(input: &[u8], buffer: &mut [u8], results: &mut
 
 // S15: a DIMACS text into an encoded formula.
 #[no_mangle]
-pub extern "C" fn norwythai_from_dimacs(
-    text: &[u8],
-    buffer: &mut [u8],
-    results: &mut [u64],
-) -> u32
+pub extern "C" fn norwythai_from_dimacs(text: &[u8], buffer: &mut [u8], results: &mut [u64]) -> u32
     ensures { λ r. ⌜ from-dimacs-called (now (text .entry)) (now (buffer .entry)) (now (results .entry)) ≡ (r, now (buffer .exit), now (results .exit)) ⌝ }
 {
     if results.len() != RESULTS_SIZE {
@@ -206,11 +202,7 @@ pub extern "C" fn norwythai_from_dimacs(
 
 // S16: an encoded formula into a DIMACS text.
 #[no_mangle]
-pub extern "C" fn norwythai_to_dimacs(
-    input: &[u8],
-    buffer: &mut [u8],
-    results: &mut [u64],
-) -> u32
+pub extern "C" fn norwythai_to_dimacs(input: &[u8], buffer: &mut [u8], results: &mut [u64]) -> u32
     ensures { λ r. ⌜ to-dimacs-called (now (input .entry)) (now (buffer .entry)) (now (results .entry)) ≡ (r, now (buffer .exit), now (results .exit)) ⌝ }
 {
     if results.len() != RESULTS_SIZE {

@@ -1,14 +1,14 @@
 -- `norwythai_from_dimacs`: nothing is written, or the results of the answer beside the buffer.
 use mathlib.Core.Path.{_∙_}
 use borrow.Author.Needs.{needs}
-use Rattle.capi.proofs.CallLaws.{from-dimacs-unwritten, from-dimacs-written}
+use Rattle.capi.proofs.CallLaws.{conversion-unwritten, conversion-written}
 use Rattle.capi.proofs.norwythai_from_dimacs.Statement.{statement}
 use Rattle.capi.proofs.norwythai_from_dimacs.Tie as tie
 
 returns : tie.Need-returns
 returns c =
     let a = c .before .before .before .before .args in
-    from-dimacs-unwritten (a .text .now) (a .buffer .now) (a .results .now) (c .if1 .taken)
+    conversion-unwritten _ (a .buffer .now) (a .results .now) (c .if1 .taken)
 
 read-requires : tie.Need-read-requires
 read-requires c κs = search needs
@@ -30,7 +30,7 @@ returns-2 c =
     let m = c .before .before .before .before .before .before .before in
     let e = m .before .before in
     let a = e .before .before .before .before .args in
-    from-dimacs-written (a .text .now) (a .buffer .now) (a .results .now) _ _ _ (e .if1 .left) (m .read .ensures)
+    conversion-written _ (a .buffer .now) (a .results .now) _ _ _ (e .if1 .left) (m .read .ensures)
     (c .before .before .put-results .ensures ∙ c .before .before .before .before .converted-results .ensures)
 
 pub norwythai-from-dimacs-spec : {M : Type 1} → statement M
