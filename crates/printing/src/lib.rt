@@ -9,7 +9,7 @@ ghost use Rattle.walk.specs.InnerMachine.{down};
 ghost use Rattle.enumeration.specs.InnerState.{Follows};
 ghost use Rattle.printing.specs.InnerLines.{lines-from, Fitting, Printable};
 ghost use Rattle.printing.specs.Printing.{printing};
-ghost use Rattle.printing.specs.Printed.{header, model-line, end-line, more-line, refusal-line, max-models, printed};
+ghost use Rattle.printing.specs.Printed.{header, model-line, end-line, more-line, refused-line, refusal-line, max-models, printed};
 use enumeration::Ending;
 use formula::Formula;
 use formula::Outcome;
@@ -70,15 +70,23 @@ fn put_more_line(buffer: &mut [u8], at: usize) -> usize
     writing::put_word(b"more\n", buffer, at)
 }
 
+// The line of a refusal's number and place.
+pub fn put_refused_line(number: u64, place: u64, buffer: &mut [u8], at: usize) -> usize
+    requires { ⌜ Room at (refused-line number place) (now buffer) ⌝ }
+    ensures { λ r. ⌜ Wrote (refused-line number place) at (now (buffer .entry)) (now (buffer .exit)) r ⌝ }
+{
+    let numbers = writing::put_word(b"refused ", buffer, at);
+    writing::put_numbers(number, place, buffer, numbers)
+}
+
 // The line of a refusal.
 fn put_refusal_line(refusal: Refusal, buffer: &mut [u8], at: usize) -> usize
     requires { ⌜ Room at (refusal-line refusal) (now buffer) ⌝ }
     ensures { λ r. ⌜ Wrote (refusal-line refusal) at (now (buffer .entry)) (now (buffer .exit)) r ⌝ }
 {
     let number = formula::number_of(refusal);
-    let place = formula::place_of(refusal);
-    let numbers = writing::put_word(b"refused ", buffer, at);
-    writing::put_numbers(number, place as u64, buffer, numbers)
+    let place = formula::place_of(refusal) as u64;
+    put_refused_line(number, place, buffer, at)
 }
 
 // The lines of a walk from its start: its first models, each by a run that goes on to the next one or to the end.
