@@ -12,26 +12,26 @@ use Rattle.vectors.specs.declared.answers.Answer.{Answer}
 use Rattle.vectors.specs.declared.corpus.Vector.{Vector}
 use Rattle.cases.specs.declared.judging.Judged.{Judged}
 use Rattle.vectors.specs.Answers.{expected}
-use Rattle.vectors.specs.Comparing.{first-wrong}
-use Rattle.cases.specs.Judging.{number-code, judge-written, filled, judge-filled, judge-alike, judge-agrees}
+use Rattle.vectors.specs.Comparing.{first-wrong, alike}
+use Rattle.cases.specs.Judging.{number-code, judge-written, filled, judge-filled, judge-agrees}
 
 -- every refusal has a number
-pub refusal-code : (r : Refusal) → number-code (table-row r .number) ≡ 2
-refusal-code (ShortBuffer p) = refl
-refusal-code (Truncated p) = refl
-refusal-code (UnknownKind p) = refl
-refusal-code (Misplaced p) = refl
-refusal-code (BadVariableCount p) = refl
-refusal-code (NoSuchVariable p) = refl
-refusal-code (ComplementaryLiteral p) = refl
-refusal-code (TooManyClauses p) = refl
-refusal-code (TrailingByte p) = refl
-refusal-code (Unmatched p) = refl
-refusal-code (ForeignCheckpoint p) = refl
-refusal-code (StrayVariable p) = refl
-refusal-code (BadOpening p) = refl
-refusal-code (BadWord p) = refl
-refusal-code (ClauseCountDiffers p) = refl
+pub refusal-code : (says : ℕ) (r : Refusal) → number-code says (table-row r .number) ≡ 2
+refusal-code says (ShortBuffer p) = refl
+refusal-code says (Truncated p) = refl
+refusal-code says (UnknownKind p) = refl
+refusal-code says (Misplaced p) = refl
+refusal-code says (BadVariableCount p) = refl
+refusal-code says (NoSuchVariable p) = refl
+refusal-code says (ComplementaryLiteral p) = refl
+refusal-code says (TooManyClauses p) = refl
+refusal-code says (TrailingByte p) = refl
+refusal-code says (Unmatched p) = refl
+refusal-code says (ForeignCheckpoint p) = refl
+refusal-code says (StrayVariable p) = refl
+refusal-code says (BadOpening p) = refl
+refusal-code says (BadWord p) = refl
+refusal-code says (ClauseCountDiffers p) = refl
 
 -- what the call gives, from what its parts give
 pub judge-filled-of :
@@ -51,6 +51,6 @@ pub compared :
     size ≡ getD s (v .end + 6) 0 →
     got ≡ judge-filled (take (v .end - v .start) (drop (v .start) s)) size (getD s (v .end + 7) 0) →
     wrong ≡ first-wrong s (v .end + 8) max-clauses (getD s (v .end + 7) 0) (got .array) →
-    judge-alike wanted (got .answer) wrong ≡ judge-agrees s v
+    alike wanted (got .answer) wrong 256 ≡ judge-agrees s v
 unfolding judge-agrees
 compared s v wanted size got wrong w z g f = rw (w, f, g, z)

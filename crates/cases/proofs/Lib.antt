@@ -1,3 +1,4 @@
+pub mod ConvertingLaws
 pub mod JudgingLaws
 pub mod PrintsLaws
 pub mod RunLaws

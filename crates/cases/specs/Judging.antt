@@ -1,25 +1,24 @@
 -- The vectors of judge: the answer and the buffer of its definition (S5.7), compared with those that the corpus has.
 use Prim.Native.Nat.{ℕ, zero, suc, _+_, _-_}
-use mathlib.Core.Bool.{Bool, _&&_}
+use mathlib.Core.Bool.{Bool}
 use mathlib.Core.List.{List, _++_}
-use lib.Dec.{eqb}
 use lib.ListN.{getD, take, drop, replicate}
 use Rattle.limits.specs.Limits.{max-clauses}
 use Rattle.matched.specs.Judge.{JudgementValues, judge}
 use Rattle.vectors.specs.declared.answers.Answer.{Answer}
 use Rattle.vectors.specs.declared.corpus.Vector.{Vector}
 use Rattle.cases.specs.declared.judging.Judged.{Judged}
-use Rattle.vectors.specs.Answers.{expected, same-answer}
-use Rattle.vectors.specs.Comparing.{first-wrong}
+use Rattle.vectors.specs.Answers.{expected}
+use Rattle.vectors.specs.Comparing.{first-wrong, alike}
 
--- how the corpus writes what an answer says, by the refusal's number: matched if there is none
-abbrev pub number-code : ℕ → ℕ
-number-code zero = 3
-number-code (suc n) = 2
+-- how the corpus writes what an answer says that is a refusal or not, by the refusal's number: as given if there is none
+abbrev pub number-code : ℕ → ℕ → ℕ
+number-code says zero = says
+number-code says (suc n) = 2
 
 abbrev pub judge-written : JudgementValues → Answer
 judge-written a = record {
-  says = number-code (a .number);
+  says = number-code 3 (a .number);
   number = a .number;
   place = a .place;
   variables = a .variables;
@@ -36,13 +35,9 @@ judge-filled s size fill =
     let j = judge s (take size (filled fill)) in
     record { answer = judge-written (j .answer); array = j .buffer ++ drop size (filled fill) }
 
--- the answers are the same, and no byte of the array is wrong
-abbrev pub judge-alike : Answer → Answer → ℕ → Bool
-judge-alike wanted got wrong = same-answer wanted got && eqb wrong 256
-
 -- judge of the vector's input has the expected answer and leaves the expected array
 unfoldable pub judge-agrees : List ℕ → Vector → Bool
 judge-agrees s v =
     let fill = getD s (v .end + 7) 0 in
     let j = judge-filled (take (v .end - v .start) (drop (v .start) s)) (getD s (v .end + 6) 0) fill in
-    judge-alike (expected s (v .end)) (j .answer) (first-wrong s (v .end + 8) max-clauses fill (j .array))
+    alike (expected s (v .end)) (j .answer) (first-wrong s (v .end + 8) max-clauses fill (j .array)) 256

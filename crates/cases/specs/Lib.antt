@@ -1,3 +1,4 @@
+pub mod Converting
 pub mod Judging
 pub mod Prints
 pub mod Runs

@@ -1,6 +1,6 @@
 -- The vectors of a file, each by its act.
 use Prim.Native.Nat.{ℕ, zero, suc, _+_, _≤_}
-use mathlib.Core.Bool.{Bool, cond}
+use mathlib.Core.Bool.{Bool, true, false, cond}
 use mathlib.Core.List.{List}
 use mathlib.Core.Path.{_≡_}
 use lib.Dec.{ltb}
@@ -9,11 +9,12 @@ use Rattle.walk.specs.Checkpoints.{Checkpoint, start}
 use Rattle.vectors.specs.declared.corpus.Vector.{Vector}
 use Rattle.vectors.specs.declared.corpus.Framed.the-variants.{Whole, Broken}
 use Rattle.cases.specs.declared.runs.Act.{Act}
-use Rattle.cases.specs.declared.runs.Act.the-variants.{Check, Judge, Start, Walk, Compare, Print}
+use Rattle.cases.specs.declared.runs.Act.the-variants.{Check, Judge, ReadText, WriteText, Start, Walk, Compare, Print}
 use Rattle.cases.specs.declared.runs.Run.{Run}
 use Rattle.vectors.specs.declared.totals.Totals.{Totals}
 use Rattle.vectors.specs.Checking.{check-agrees}
 use Rattle.vectors.specs.Corpus.{framed}
+use Rattle.cases.specs.Converting.{convert-agrees}
 use Rattle.cases.specs.Judging.{judge-agrees}
 use Rattle.cases.specs.Prints.{print-agrees}
 use Rattle.vectors.specs.Totals.{counted, Grown}
@@ -24,6 +25,8 @@ use Rattle.cases.specs.Walking.{stored-checkpoint-size, start-agrees, wa
 abbrev pub size-of : Act → ℕ
 size-of Check = 14
 size-of Judge = 104
+size-of ReadText = 11
+size-of WriteText = 11
 size-of Start = stored-checkpoint-size
 size-of Walk = 127
 size-of Compare = 6
@@ -38,6 +41,8 @@ pub record FieldsOf (act : Act) (r : ℕ) : Type 0 where
 abbrev pub act-agrees : Act → List ℕ → Vector → Checkpoint → Bool
 act-agrees Check s v last = check-agrees s v
 act-agrees Judge s v last = judge-agrees s v
+act-agrees ReadText s v last = convert-agrees true s v
+act-agrees WriteText s v last = convert-agrees false s v
 act-agrees Start s v last = start-agrees s v
 act-agrees Walk s v last = walk-agrees s v last
 act-agrees Compare s v last = compare-agrees s v
@@ -47,6 +52,8 @@ act-agrees Print s v last = print-agrees s v
 abbrev pub leaves : Act → List ℕ → Vector → Checkpoint → Checkpoint
 leaves Check s v last = last
 leaves Judge s v last = last
+leaves ReadText s v last = last
+leaves WriteText s v last = last
 leaves Start s v last = last
 leaves Walk s v last = walk-leaves s v last
 leaves Compare s v last = last

@@ -3,12 +3,12 @@ ghost use Prim.Native.Nat.{_+_, _≤_};
 ghost use mathlib.Core.Path.{_≡_};
 ghost use lib.ListN.{length, replicate};
 ghost use Rattle.matched.specs.Judge.{judgement-values};
-ghost use Rattle.cases.specs.Judging.{judge-written, judge-filled, judge-alike, judge-agrees};
+ghost use Rattle.cases.specs.Judging.{judge-written, judge-filled, judge-agrees};
 use matched::Judgement;
 use vectors::answers::Answer;
-use vectors::answers::equal;
 use vectors::answers::expected_at;
 use vectors::answers::refusal_answer;
+use vectors::comparing::agree;
 use vectors::comparing::first_wrong;
 use vectors::comparing::wanted_byte;
 use vectors::corpus::Vector;
@@ -52,16 +52,6 @@ fn judge_filled(input: &[u8], size: usize, fill: u8) -> Judged
     Judged { answer, array }
 }
 
-// The answers are the same, and the array is wrong nowhere.
-fn agree(wanted: Answer, got: Answer, wrong: usize) -> bool
-    ensures { λ r. ⌜ r ≡ judge-alike wanted got wrong ⌝ }
-{
-    if equal(wanted, got) {
-        return wrong == 256;
-    }
-    false
-}
-
 // Whether judge gives the expected answer and leaves the expected bytes; a difference is printed.
 pub fn judge_vector(bytes: &[u8], v: Vector) -> bool
     requires { ⌜ (v .start ≤ v .end) × (v .end + 104 ≤ length (now bytes)) ⌝ }
@@ -76,7 +66,7 @@ pub fn judge_vector(bytes: &[u8], v: Vector) -> bool
     let answer = got.answer;
     let array = got.array;
     let wrong = first_wrong(bytes, end + 8, limits::MAX_CLAUSES, fill, &array);
-    if agree(wanted, answer, wrong) {
+    if agree(wanted, answer, wrong, 256) {
         return true;
     }
     report::difference(v.number, wanted, answer);

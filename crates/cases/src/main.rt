@@ -5,11 +5,14 @@
 //
 // A file holds vectors of one act, at most 65,536 bytes of them. Numbers are little-endian. A vector is its number
 // (2 bytes), the length of its input (2 bytes), its input, the expected answer and the act's own fields. An answer is what it
-// says (1 byte: 0 no, 1 yes, 2 refused, 3 matched, 4 model, 5 spent, 6 ended), the refusal's number (1 byte) and its place
-// (2 bytes), and the numbers of variables and of clauses of a matched formula (1 byte each). The own fields:
+// says (1 byte: 0 no, 1 yes, 2 refused, 3 matched, 4 model, 5 spent, 6 ended, 10 written), the refusal's number (1 byte) and its
+// place (2 bytes), and the numbers of variables and of clauses of a matched formula (1 byte each). The own fields:
 // - check: the assignment (8 bytes).
 // - judge: the length of the lent buffer (1 byte), the fill (1 byte) and the first 96 bytes after the call. The buffer is the first
 //   bytes of an array of 256, which has the fill everywhere before the call and from byte 96 on after it.
+// - read_text, write_text: the length of what is converted, that of the lent buffer (2 bytes each) and the fill (1 byte). The input holds
+//   what is converted and behind it the expected bytes. The buffer has the fill everywhere before the call, and behind these bytes after
+//   it. An answer that says written has their number as the place.
 // - start: the start checkpoint (50 bytes: mode, length, 48 bytes), and no expected answer.
 // - walk: the expected model (8 bytes), steps, expansions (4 bytes each) and checkpoint; which checkpoint the call gets (1 byte: 0
 //   the one that follows, 1 the start checkpoint, 2 the one that the call of the vector before it returned), a checkpoint, and the
@@ -19,6 +22,7 @@
 // - formulas: none. The answer says that the walk was not compared with a trial of all assignments (7), or that both have the same
 //   models (8), with their number as the place.
 // tools/corpus.py writes the files.
+mod converting;
 mod judging;
 mod prints;
 mod runs;
@@ -80,6 +84,10 @@ fn main() {
     run_alone(b"check_edges", Act::Check);
     run_files(b"judge", Act::Judge, b"vectors");
     run_alone(b"judge_edges", Act::Judge);
+    run_files(b"read_text", Act::ReadText, b"vectors");
+    run_alone(b"read_text_edges", Act::ReadText);
+    run_files(b"write_text", Act::WriteText, b"vectors");
+    run_alone(b"write_text_edges", Act::WriteText);
     run_alone(b"start", Act::Start);
     run_files(b"walk", Act::Walk, b"vectors");
     run_alone(b"walk_edges", Act::Walk);

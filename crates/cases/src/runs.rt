@@ -5,6 +5,7 @@ ghost use Rattle.enumeration.specs.Values.{checkpoint-values};
 ghost use Rattle.cases.specs.Runs.{size-of, FieldsOf, act-agrees, leaves, Ran};
 ghost use Rattle.vectors.specs.Totals.{RoomFor};
 ghost use Rattle.cases.specs.Walking.{Gives};
+use crate::converting::convert_vector;
 use crate::judging::judge_vector;
 use crate::prints::print_vector;
 use crate::trying::compare_vector;
@@ -23,6 +24,8 @@ use vectors::totals::Totals;
 pub enum Act {
     Check,
     Judge,
+    ReadText,
+    WriteText,
     Start,
     Walk,
     Compare,
@@ -42,6 +45,8 @@ fn fields_of(act: Act) -> usize
     match act {
         Act::Check => 14,
         Act::Judge => 104,
+        Act::ReadText => 11,
+        Act::WriteText => 11,
         Act::Start => CHECKPOINT_SIZE,
         Act::Walk => 127,
         Act::Compare => 6,
@@ -61,6 +66,14 @@ fn run_vector(bytes: &[u8], v: Vector, act: Act, last: Checkpoint) -> Compared
         },
         Act::Judge => Compared {
             agrees: judge_vector(bytes, v),
+            last,
+        },
+        Act::ReadText => Compared {
+            agrees: convert_vector(bytes, v, true),
+            last,
+        },
+        Act::WriteText => Compared {
+            agrees: convert_vector(bytes, v, false),
             last,
         },
         Act::Start => Compared {

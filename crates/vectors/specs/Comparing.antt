@@ -1,10 +1,12 @@
 -- Bytes that a call gives, compared with those that the corpus has.
 use Prim.Native.Nat.{ℕ, zero, suc, _+_, _≤_}
-use mathlib.Core.Bool.{cond}
+use mathlib.Core.Bool.{Bool, cond, _&&_}
 use mathlib.Core.List.{List}
 use mathlib.Core.Path.{_≡_}
 use lib.Dec.{eqb, ltb}
 use lib.ListN.{length, getD}
+use Rattle.vectors.specs.declared.answers.Answer.{Answer}
+use Rattle.vectors.specs.Answers.{same-answer}
 
 -- the byte that must stand at i: those before `kept` stand in s from an offset on, and the others are the fill
 abbrev pub wanted-byte : List ℕ → ℕ → ℕ → ℕ → ℕ → ℕ
@@ -24,3 +26,7 @@ first-wrong s at kept fill got = wrong-from s at kept fill got (length got) 0
 pub record WrongAt (s : List ℕ) (at kept fill : ℕ) (got : List ℕ) (r : ℕ) : Type 0 where
   pub place : r ≡ first-wrong s at kept fill got
   pub within : r ≤ length got
+
+-- the answers are the same, and the first wrong byte would stand behind all
+abbrev pub alike : Answer → Answer → ℕ → ℕ → Bool
+alike wanted got wrong size = same-answer wanted got && eqb wrong size

@@ -24,6 +24,7 @@ fn says(n: u64) {
         7 => text(b"not compared"),
         8 => text(b"models"),
         9 => text(b"other models"),
+        10 => text(b"written"),
         _ => text(b"unknown"),
     }
 }

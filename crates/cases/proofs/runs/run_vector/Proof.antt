@@ -20,27 +20,39 @@ judge-vector-requires c κs = rw (c .enum-told2 .given .1) at (c .before .before
 enum-told-3 : tie.Need-enum-told-3
 enum-told-3 c = search needs
 
-start-vector-requires : tie.Need-start-vector-requires
-start-vector-requires c κs = rw (c .enum-told3 .given .1) at (c .before .before .before .pre .1)
+convert-vector-requires : tie.Need-convert-vector-requires
+convert-vector-requires c κs = rw (c .enum-told3 .given .1) at (c .before .before .before .pre)
 
 enum-told-4 : tie.Need-enum-told-4
 enum-told-4 c = search needs
 
-walk-vector-requires : tie.Need-walk-vector-requires
-walk-vector-requires c κs = rw (c .enum-told4 .given .1) at (c .before .before .before .pre)
+convert-vector-requires-2 : tie.Need-convert-vector-requires-2
+convert-vector-requires-2 c κs = rw (c .enum-told4 .given .1) at (c .before .before .before .pre)
 
 enum-told-5 : tie.Need-enum-told-5
 enum-told-5 c = search needs
 
-compare-vector-requires : tie.Need-compare-vector-requires
-compare-vector-requires c κs = rw (c .enum-told5 .given .1) at (c .before .before .before .pre)
+start-vector-requires : tie.Need-start-vector-requires
+start-vector-requires c κs = rw (c .enum-told5 .given .1) at (c .before .before .before .pre .1)
 
 enum-told-6 : tie.Need-enum-told-6
 enum-told-6 c = search needs
 
+walk-vector-requires : tie.Need-walk-vector-requires
+walk-vector-requires c κs = rw (c .enum-told6 .given .1) at (c .before .before .before .pre)
+
+enum-told-7 : tie.Need-enum-told-7
+enum-told-7 c = search needs
+
+compare-vector-requires : tie.Need-compare-vector-requires
+compare-vector-requires c κs = rw (c .enum-told7 .given .1) at (c .before .before .before .pre)
+
+enum-told-8 : tie.Need-enum-told-8
+enum-told-8 c = search needs
+
 print-vector-requires : tie.Need-print-vector-requires
 print-vector-requires c κs =
-    let p = rw (c .enum-told6 .given .1) at (c .before .before .before .pre) in (p .0, omega arith)
+    let p = rw (c .enum-told8 .given .1) at (c .before .before .before .pre) in (p .0, omega arith)
 
 returns : tie.Need-returns
 returns c = rw (c .before .enum-told .given .1) (record { agrees = c .check-vector .ensures; leaves = refl })
@@ -49,16 +61,22 @@ returns-2 : tie.Need-returns-2
 returns-2 c = rw (c .before .enum-told2 .given .1) (record { agrees = c .judge-vector .ensures; leaves = refl })
 
 returns-3 : tie.Need-returns-3
-returns-3 c = rw (c .before .enum-told3 .given .1) (record { agrees = c .start-vector .ensures; leaves = refl })
+returns-3 c = rw (c .before .enum-told3 .given .1) (record { agrees = c .convert-vector .ensures; leaves = refl })
 
 returns-4 : tie.Need-returns-4
-returns-4 c = rw (c .before .enum-told4 .given .1) (c .walk-vector .ensures)
+returns-4 c = rw (c .before .enum-told4 .given .1) (record { agrees = c .convert-vector2 .ensures; leaves = refl })
 
 returns-5 : tie.Need-returns-5
-returns-5 c = rw (c .before .enum-told5 .given .1) (record { agrees = c .compare-vector .ensures; leaves = refl })
+returns-5 c = rw (c .before .enum-told5 .given .1) (record { agrees = c .start-vector .ensures; leaves = refl })
 
 returns-6 : tie.Need-returns-6
-returns-6 c = rw (c .before .enum-told6 .given .1) (record { agrees = c .print-vector .ensures; leaves = refl })
+returns-6 c = rw (c .before .enum-told6 .given .1) (c .walk-vector .ensures)
+
+returns-7 : tie.Need-returns-7
+returns-7 c = rw (c .before .enum-told7 .given .1) (record { agrees = c .compare-vector .ensures; leaves = refl })
+
+returns-8 : tie.Need-returns-8
+returns-8 c = rw (c .before .enum-told8 .given .1) (record { agrees = c .print-vector .ensures; leaves = refl })
 
 pub run-vector-spec : {M : Type 1} → statement M
 run-vector-spec =
@@ -69,16 +87,22 @@ run-vector-spec =
     enum-told-2
     judge-vector-requires
     enum-told-3
-    start-vector-requires
+    convert-vector-requires
     enum-told-4
-    walk-vector-requires
+    convert-vector-requires-2
     enum-told-5
-    compare-vector-requires
+    start-vector-requires
     enum-told-6
+    walk-vector-requires
+    enum-told-7
+    compare-vector-requires
+    enum-told-8
     print-vector-requires
     returns
     returns-2
     returns-3
     returns-4
     returns-5
-    returns-6)
+    returns-6
+    returns-7
+    returns-8)

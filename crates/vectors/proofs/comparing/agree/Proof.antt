@@ -1,8 +1,8 @@
 -- `agree`: by whether the answers are the same.
 use mathlib.Core.Path.{sym, _∙_}
 use borrow.Author.Needs.{needs}
-use Rattle.cases.proofs.judging.agree.Statement.{statement}
-use Rattle.cases.proofs.judging.agree.Tie as tie
+use Rattle.vectors.proofs.comparing.agree.Statement.{statement}
+use Rattle.vectors.proofs.comparing.agree.Tie as tie
 
 equal-requires : tie.Need-equal-requires
 equal-requires c κs = search needs

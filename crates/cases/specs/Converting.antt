@@ -1,0 +1,42 @@
+-- The vectors of the conversions: the answer and the buffer of their definitions (S15, S16), compared with those that the corpus has.
+use Prim.Native.Nat.{ℕ, _+_, _-_}
+use mathlib.Core.Bool.{Bool, true, false, cond}
+use mathlib.Core.List.{List}
+use mathlib.Core.Path.{_≡_}
+use lib.Dec.{ltb}
+use lib.ListN.{length, getD, take, drop, replicate}
+use Rattle.dimacs.specs.Convert.{ConvertedValues, Conversion, to-encoded, to-text}
+use Rattle.vectors.specs.declared.answers.Answer.{Answer}
+use Rattle.vectors.specs.declared.corpus.Vector.{Vector}
+use Rattle.vectors.specs.Answers.{plain, expected}
+use Rattle.vectors.specs.Comparing.{first-wrong, alike}
+use Rattle.vectors.specs.Corpus.{two-bytes}
+use Rattle.cases.specs.Judging.{number-code}
+
+-- how the corpus writes an answer: the place is the refusal's or the number of bytes that were written, since the other one is 0
+abbrev pub convert-written : ConvertedValues → Answer
+convert-written a = plain (number-code 10 (a .number)) (a .number) (a .place + a .count)
+
+-- a text is read, or an encoded formula written
+abbrev pub conversion : Bool → List ℕ → List ℕ → Conversion
+conversion true given buffer = to-encoded given buffer
+conversion false given buffer = to-text given buffer
+
+-- the answer of a conversion, and the buffer as it is left
+pub record Converts (reads : Bool) (given before : List ℕ) (r : Answer) (after : List ℕ) : Type 0 where
+  pub answer : r ≡ convert-written (conversion reads given before .answer)
+  pub buffer : after ≡ conversion reads given before .buffer
+
+-- The conversion of a vector's bytes up to `middle`, into a buffer, has the expected answer, and leaves the bytes from there on and behind
+-- them the fill.
+unfoldable pub converts : Bool → List ℕ → Vector → ℕ → ℕ → List ℕ → Bool
+converts reads s v middle fill buffer =
+    let c = conversion reads (take (middle - v .start) (drop (v .start) s)) buffer in
+    alike (expected s (v .end)) (convert-written (c .answer)) (first-wrong s middle (v .end - middle) fill (c .buffer)) (length buffer)
+
+-- the fields behind the answer: the length of what is converted, that of the buffer, and the fill
+unfoldable pub convert-agrees : Bool → List ℕ → Vector → Bool
+convert-agrees reads s v =
+    let middle = v .start + two-bytes s (v .end + 6) in
+    let fill = getD s (v .end + 10) 0 in
+    cond (ltb (v .end) middle) false (converts reads s v middle fill (take (two-bytes s (v .end + 8)) (replicate 65536 fill)))
