@@ -17,9 +17,9 @@ little-endian. A vector is
 An answer:
 
     1 byte    what it says: 0 no, 1 yes (check), 2 refused, 3 matched (judge), 4 model, 5 spent, 6 ended (walk),
-              7 not compared, 8 models (formulas)
+              7 not compared, 8 models (formulas), 10 written (read_text, write_text)
     1 byte    the refusal's number, else 0
-    2 bytes   the refusal's place, or the number of models (formulas), else 0
+    2 bytes   the refusal's place, the number of models (formulas) or that of the bytes written (read_text, write_text), else 0
     1 byte    n, the number of variables, if matched, else 0
     1 byte    m, the number of clauses, if matched, else 0
 
@@ -30,6 +30,12 @@ Own fields of judge, 98 bytes. The lent buffer is the first bytes of an array of
     1 byte    the length of the buffer
     1 byte    the fill: what every byte of the array is before the call
     96 bytes  the first 96 bytes of the array after the call; each later byte must be the fill
+
+Own fields of read_text and write_text, 5 bytes. Their input holds what is converted, and behind it the bytes that are to be written:
+
+    2 bytes   the length of what is converted
+    2 bytes   the length of the lent buffer
+    1 byte    the fill: what every byte of the buffer is before the call; each byte behind those written must be the fill after it
 
 A checkpoint, 50 bytes: its mode, its length and 48 bytes of its trail.
 
@@ -72,6 +78,7 @@ LETTERS = string.ascii_lowercase  # the ends of the names of an act's files
 CASES = pathlib.Path(__file__).resolve().parent.parent / 'crates' / 'cases'
 
 NO, YES, REFUSED, MATCHED, MODEL, SPENT, ENDED, NOT_COMPARED, LISTED = range(9)
+CONVERTED = 10
 SAYS = {'no': NO, 'yes': YES, 'refused': REFUSED, 'set-up': MODEL, 'spent': SPENT, 'ended': ENDED}
 READ = 16384  # bytes of standard input that the printing program reads
 WRITTEN = 96  # bytes of the array that judge may write
@@ -126,6 +133,26 @@ def judge_vector(number, v):
     return [[coded(number, bytes.fromhex(v['sheet']), answer, judge_fields(length, fill, after[:WRITTEN]))]]
 
 
+def converted(number, given, length, fill, refusal, output):
+    """The vector of a conversion: of what is given, with a lent buffer, either refused or into the bytes of `output`."""
+    answer = answer_of(REFUSED, *refusal) if refusal else answer_of(CONVERTED, place=len(output))
+    return coded(number, given + output, answer, little(len(given), 2) + little(length, 2) + little(fill, 1))
+
+
+def convert_vector(number, given, v):
+    output = bytes.fromhex(v['output'])
+    assert len(output) == v['written'] and not (v['refusal'] and output)
+    return [[converted(number, given, v['buffer_len'], v['buffer_fill'], v['refusal'], output)]]
+
+
+def read_vector(number, v):
+    return convert_vector(number, bytes.fromhex(v['text']), v)
+
+
+def write_vector(number, v):
+    return convert_vector(number, bytes.fromhex(v['sheet']), v)
+
+
 def start_vector(number, v):
     return [[coded(number, b'', b'', bytes.fromhex(v['marker']))]]
 
@@ -160,8 +187,8 @@ def printed_vector(number, v):
     return [[printed_text(number, bytes.fromhex(v['stdin']), v['stdout'])]]
 
 
-ACTS = {'check': check_vector, 'judge': judge_vector, 'start': start_vector, 'walk': walk_vector, 'chain': chain_vector,
-        'printed': printed_vector}
+ACTS = {'check': check_vector, 'judge': judge_vector, 'read_text': read_vector, 'write_text': write_vector,
+        'start': start_vector, 'walk': walk_vector, 'chain': chain_vector, 'printed': printed_vector}
 
 
 def read(given):
@@ -595,6 +622,180 @@ PRINTED_EDGES = [
 ]
 
 
+# read_text: the text; the encoded formula, or the refusal's number and place; and, where they matter, the length of the buffer and
+# the fill
+SMALL = b'p cnf 2 2\n1 2 0\n-1 -2 0\n'  # the specification's example
+NUMBER = b'18446744073709551617'  # 2 to the 64, and 1
+LONGEST = b'p cnf 48 96\n' + 96 * (b''.join(b'-%d ' % v for v in range(1, 49)) + b'0\n')  # 17,772 bytes, the most that are written
+LONGEST_INPUT = '01 30' + 96 * (''.join(' 03 %02x' % v for v in range(1, 49)) + ' 04') + ' 05'
+READ_TEXT_EDGES = [
+    (SMALL, EXAMPLE),
+    # the lengths of the buffer: a short one is refused before anything is read
+    (SMALL, (1, 0), 0, 0xa5),
+    (SMALL, (1, 0), 1, 0xa5),
+    (SMALL, (1, 0), 9314, 0xa5),
+    (SMALL, EXAMPLE, 9315, 0),
+    (SMALL, EXAMPLE, 9316, 0xff),
+    (SMALL, EXAMPLE, 65535, 0xa5),
+    (b'', (1, 0), 9314, 0),
+    (b'', (13, 0), 9315, 0),
+    (b'p cnf 1 1\nx\n', (1, 0), 9314, 0xa5),
+    # the longest text and the most bytes, and a long number
+    (LONGEST, LONGEST_INPUT),
+    (b'p cnf 1 1\n' + 5000 * b'0' + b'1 0\n', '01 01 02 01 04 05'),
+    # what parts words: a carriage return before the line feed, tabs, more than one, none at the end; clauses in one line, and one in many
+    (b'p cnf 2 2\r\n1 2 0\r\n-1 -2 0\r\n', EXAMPLE),
+    (b'p cnf 2 2\n1 2 0\n-1 -2 0', EXAMPLE),
+    (b'p\tcnf\r2 \t2 \n\n1\t2\r0  -1\n\n \n-2\n0\n\n', EXAMPLE),
+    # what does not: form feed, vertical tab, zero, and bytes that are not ASCII
+    (b'p cnf 1 1\n1\x0c0\n', (14, 10)),
+    (b'p cnf 1 1\n1 \x0c0\n', (14, 12)),
+    (b'p cnf 1 1\n1\x0b0\n', (14, 10)),
+    (b'p cnf 1 1\n1\x000\n', (14, 10)),
+    (b'p cnf 1 1\n1\xa00\n', (14, 10)),
+    (b'p cnf 1 0\x0c\n', (13, 0)),
+    (b'\xef\xbb\xbfp cnf 1 0\n', (13, 0)),
+    # comments: before the p line, within a clause, behind the last, without a blank, and with what would else be words
+    (b'c\ncnf\nc p cnf 3 3\np cnf 2 2\n1\nc 0\n2 0\nc\tp\n-1 -2 0\nc 1', EXAMPLE),
+    (b'p cnf 1 1\n1\nc 0\n', (2, 16)),
+    # blanks before p, and before c, where there is no comment
+    (b' \t\rp cnf 1 0\n', '01 01 05'),
+    (b' c\np cnf 1 0\n', (13, 0)),
+    (b'p cnf 1 0\n c\n', (14, 11)),
+    (b'p cnf 1 1\n1 c\n0\n', (14, 12)),
+    # no p line
+    (b'\n', (13, 0)),
+    (b'\np cnf 1 0\n', (13, 0)),
+    (b'c', (13, 1)),
+    (b'c\n', (13, 2)),
+    (b'c\n\np cnf 1 0\n', (13, 2)),
+    (b'1 0\n', (13, 0)),
+    # other words in it, fewer and more
+    (b'p cnf 1\n0\n', (13, 0)),
+    (b'p cnf 1 0 0\n', (13, 0)),
+    (b'p\ncnf 1 0\n', (13, 0)),
+    (b'pcnf 1 0 0\n', (13, 0)),
+    (b'P cnf 1 0\n', (13, 0)),
+    (b'p CNF 1 0\n', (13, 0)),
+    (b'p cn 1 0\n', (13, 0)),
+    (b'p cnff 1 0\n', (13, 0)),
+    (b'c\nc\np cnf one 0\n', (13, 4)),
+    (b'p cnf -1 0\n', (13, 0)),
+    (b'p cnf 1 -0\n', (13, 0)),
+    (b'p cnf +1 0\n', (13, 0)),
+    (b'p cnf 1x 0\n', (13, 0)),
+    # a second one is words
+    (b'p cnf 1 0\np cnf 1 0\n', (14, 10)),
+    # the number of variables
+    (b'p cnf 48 0\n', '01 30 05'),
+    (b'p cnf 0 0\n', (5, 6)),
+    (b'p cnf 49 0\n', (5, 6)),
+    (b'c\n p  cnf  00 1\n', (5, 11)),
+    (b'p cnf 49 1\nx\n', (5, 6)),
+    # a number above 2 to the 64 as each number, and that number as a word
+    (b'p cnf ' + NUMBER + b' 0\n', (5, 6)),
+    (b'p cnf 1 ' + NUMBER + b'\n1 0\n', (15, 8)),
+    (b'p cnf 1 1\n' + NUMBER + b' 0\n', (6, 10)),
+    (b'p cnf 1 1\n-' + NUMBER + b' 0\n', (6, 10)),
+    (b'p cnf 1 1\n1 18446744073709551616\n', (6, 12)),
+    (b'p cnf 1 18446744073709551616\n', (15, 8)),
+    # zeros before a number, and as one
+    (b'p cnf 0007 0001\n-007 0001 0000\n', '01 07 03 07 02 01 04 05'),
+    (b'p cnf 1 1\n00\n', '01 01 04 05'),
+    (b'p cnf 1 000\n', '01 01 05'),
+    (b'p cnf 1 1\n-0\n', (14, 10)),
+    (b'p cnf 1 1\n1 -00\n', (14, 12)),
+    # words that are no numbers
+    (b'p cnf 1 1\n-\n', (14, 10)),
+    (b'p cnf 1 1\n--1 0\n', (14, 10)),
+    (b'p cnf 1 1\n+1 0\n', (14, 10)),
+    (b'p cnf 1 1\n1-1 0\n', (14, 10)),
+    (b'p cnf 1 1\n1 0x\n', (14, 12)),
+    (b'p cnf 1 1\n1 %\n0\n', (14, 12)),
+    # variables that are not there
+    (b'p cnf 2 1\n3 0\n', (6, 10)),
+    (b'p cnf 2 1\n2 -3 0\n', (6, 12)),
+    # literals that come again, and variables named both ways in one clause and in two
+    (b'p cnf 2 1\n2 1 2 2 1 0\n', '01 02 02 02 02 01 04 05'),
+    (b'p cnf 2 1\n-1 -1 0\n', '01 02 03 01 04 05'),
+    (b'p cnf 2 1\n1 -1 0\n', (7, 12)),
+    (b'p cnf 2 1\n-1 2 -1 1 0\n', (7, 18)),
+    (b'p cnf 1 2\n1 0 -1 0\n', '01 01 02 01 04 03 01 04 05'),
+    # cut within a clause, which comes before the number of clauses
+    (b'p cnf 1 1\n1', (2, 11)),
+    (b'p cnf 1 1\n1\n', (2, 12)),
+    (b'p cnf 1 0\n1 0 1\n', (2, 16)),
+    # another number of clauses
+    (b'p cnf 1 1\n', (15, 8)),
+    (b'p cnf 1 0\n0\n', (15, 8)),
+    (b'p cnf 1 2\n1 0\n', (15, 8)),
+    (b'c\np cnf 12 2 \n0\n', (15, 11)),
+    # 96 clauses, 97, and what comes before the 97th end
+    (b'p cnf 1 96\n' + 96 * b'0\n', '01 01' + 96 * EMPTY + ' 05'),
+    (b'p cnf 1 96\n' + 96 * b'1 0\n', '01 01' + 96 * TRUE + ' 05'),
+    (b'p cnf 1 97\n' + 97 * b'0\n', (8, 203)),
+    (b'p cnf 1 96\n' + 97 * b'1 0\n', (8, 397)),
+    (b'p cnf 1 96\n' + 96 * b'0\n' + b'2 0\n', (6, 203)),
+    (b'p cnf 1 96\n' + 96 * b'0\n' + b'1 -1 0\n', (7, 205)),
+    (b'p cnf 1 96\n' + 96 * b'0\n' + b'1 x\n', (14, 205)),
+    (b'p cnf 1 96\n' + 96 * b'0\n' + b'1', (2, 204)),
+    (b'p cnf 1 97\n' + 96 * b'0\n', (15, 8)),
+]
+
+# write_text: the input; the text, or the refusal's number and place; and, where they matter, the length of the buffer and the fill
+WRITE_TEXT_EDGES = [
+    # the lengths of the buffer: one below 18,636 is refused before anything is read, also if the text would fit
+    (EXAMPLE, (1, 0), 0, 0xa5),
+    (EXAMPLE, (1, 0), 17772, 0xa5),
+    (EXAMPLE, (1, 0), 18635, 0xa5),
+    (EXAMPLE, SMALL, 18636, 0),
+    (EXAMPLE, SMALL, 18637, 0xff),
+    (EXAMPLE, SMALL, 65535, 0xa5),
+    ('', (1, 0), 18635, 0),
+    ('', (2, 0), 18636, 0),
+    (LONGEST_INPUT, LONGEST),
+    # numbers of one digit and of two
+    ('01 30 03 09 02 0a 03 30 04 05', b'p cnf 48 1\n-9 10 -48 0\n'),
+    ('01 09 04 05', b'p cnf 9 1\n0\n'),
+    # literals that come again stand at their first place
+    (AGAIN, SMALL),
+    ('01 03 02 03 03 01 02 03 02 02 03 01 04 05', b'p cnf 3 1\n3 -1 2 0\n'),
+    # each refusal of reading
+    ('01 02 02', (2, 3)),
+    ('01 01 06', (3, 2)),
+    ('02', (4, 0)),
+    ('01 01 02 01 05', (4, 4)),
+    ('01 00 05', (5, 0)),
+    ('01 31 05', (5, 0)),
+    ('01 01 02 02', (6, 2)),
+    ('01 02 02 01 03 01 04 05', (7, 4)),
+    ('01 01' + 97 * EMPTY + ' 05', (8, 98)),
+    ('01 01 05 00', (9, 3)),
+]
+
+
+def text_of(n, clauses):
+    lines = [''.join('%d ' % (v if x else -v) for v, x in c) + '0\n' for c in clauses]
+    return ('p cnf %d %d\n' % (n, len(clauses)) + ''.join(lines)).encode()
+
+
+def encoded(n, clauses):
+    return bytes([1, n, *(b for c in clauses for b in [*(b for v, x in c for b in (2 if x else 3, v)), 4]), 5]).hex()
+
+
+# each readable input of check written, and its text read again
+for given in dict.fromkeys(given for given, *_ in CHECK_EDGES):
+    formula = read(bytes.fromhex(given))
+    if formula:
+        WRITE_TEXT_EDGES.append((given, text_of(*formula)))
+        READ_TEXT_EDGES.append((text_of(*formula), encoded(*formula)))
+
+
+def bytes_of(given):
+    """Bytes, which stand here as they are or in hexadecimal."""
+    return given if isinstance(given, bytes) else bytes.fromhex(given)
+
+
 # The coder of an edge case gives its vector, from its number, its input and what follows that.
 def check_edge(number, given, assignment, *answer):
     return coded(number, given, answer_of(*answer), little(assignment, 8))
@@ -609,14 +810,28 @@ def walk_edge(number, given, origin, budget, says, refusal, place, model, return
     return coded(number, given, answer_of(says, refusal, place), walk_fields(model, *counts, returned, origin, budget))
 
 
+def convert_edge(number, given, expected, length, fill):
+    refusal, output = (expected, b'') if isinstance(expected, tuple) else (None, bytes_of(expected))
+    return converted(number, given, length, fill, refusal, output)
+
+
+def read_edge(number, given, expected, length=9315, fill=0xa5):
+    return convert_edge(number, given, expected, length, fill)
+
+
+def write_edge(number, given, expected, length=18636, fill=0xa5):
+    return convert_edge(number, given, expected, length, fill)
+
+
 # the number of the first case of an act, its cases and their coder
 EDGES = {'check': (60000, CHECK_EDGES, check_edge), 'judge': (61000, JUDGE_EDGES, judge_edge),
-         'walk': (62000, WALK_EDGES, walk_edge), 'printed': (63000, PRINTED_EDGES, printed_text)}
+         'walk': (62000, WALK_EDGES, walk_edge), 'printed': (63000, PRINTED_EDGES, printed_text),
+         'read_text': (64000, READ_TEXT_EDGES, read_edge), 'write_text': (65000, WRITE_TEXT_EDGES, write_edge)}
 
 
 def edge_vectors(act):
     first, cases, coder = EDGES[act]
-    return [coder(number, bytes.fromhex(given), *case) for number, (given, *case) in enumerate(cases, first)]
+    return [coder(number, bytes_of(given), *case) for number, (given, *case) in enumerate(cases, first)]
 
 
 def files_of(name, names, groups):
