@@ -199,7 +199,7 @@ uint32_t norwythai_from_dimacs(const uint8_t *text, size_t text_length, uint8_t 
 
 /*
  * Writes an encoded formula, which need not be matched, as DIMACS CNF text: the p line, then a line for each clause in order, each
- * literal once, at its first place in the clause; one blank between words, each line ending in a line feed. norwythai_from_dimacs reads
+ * literal once, at its first place in the clause, with one blank between two words. norwythai_from_dimacs reads
  * the same formula from it.
  * Reads the input; writes the results and into the buffer, of which it needs NORWYTHAI_TEXT_BUFFER bytes or more (fewer: refusal 1,
  * whatever the input is). The text is the first results[4] bytes of the buffer, with no zero byte behind them. What stands there does

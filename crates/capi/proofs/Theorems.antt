@@ -1,31 +1,26 @@
 -- What holds of the interface: no byte of a checkpoint is lost, a refused call leaves it as it was and brings no model, a refused
 -- conversion leaves its buffer, and calls from the start checkpoint make the walk of demand 3 (S10).
-use Prim.Native.Nat.{ℕ}
-use mathlib.Core.Bool.{Bool, true, false, cond}
+use Prim.Native.Nat.{ℕ, zero, suc, _≤_}
+use mathlib.Core.Bool.{cond}
 use mathlib.Core.List.{List, [], _∷_, map}
 use mathlib.Core.Logic.{⊎-elim}
 use mathlib.Core.Path.{_≡_, refl, ap, _∙_}
 use native.Mathlib.Omega.{arith}
 use borrow.Author.Tests.{eq-eqb}
-use lib.Dec.{ltb}
+use lib.Dec.{eqb}
 use lib.ListN.{length, getD, replicate}
 use Rattle.limits.specs.Limits.{max-variables}
 use Rattle.lists.specs.Over.{over}
 use Rattle.lists.proofs.PaddedLaws.{padded-none}
-use Rattle.formula.specs.declared.Refusal.the-variants.{ShortBuffer}
-use Rattle.formula.specs.Format.{max-bytes}
-use Rattle.formula.specs.Decoding.{Decoding, readable, refused}
-use Rattle.formula.specs.InnerDecode.{decode}
-use Rattle.dimacs.specs.Text.{read-text}
-use Rattle.dimacs.specs.Written.{text-room}
-use Rattle.dimacs.specs.Convert.{Conversion, declined, encoding-of, to-encoded, writing-of, to-text}
+use Rattle.dimacs.specs.Convert.{Conversion, to-encoded, to-text}
+use Rattle.dimacs.proofs.Demands.{read-untouched, write-untouched}
 use Rattle.walk.specs.Checkpoints.{Checkpoint, checkpoint-of, start}
 use Rattle.walk.specs.WalkCall.{walk-call, walk-calls}
 use Rattle.walk.specs.Results.{AnswerKind, says-model, says-spent, says-ended, says-refused, Result}
 use Rattle.walk.proofs.ResumedLaws.{call-bytes}
 use Rattle.enumeration.proofs.RefusedLaws.{refuses-or-goes}
 use Rattle.enumeration.proofs.ListTheorems.{next-refused}
-use Rattle.capi.specs.Interface.{results-size, checkpoint-size, kind-code, conversion-results, walk-results, checkpoint-bytes, checkpoint-in, conversion-called, from-dimacs-called, to-dimacs-called, start-called, walk-told, walk-called, walks-called, list-called}
+use Rattle.capi.specs.Interface.{results-size, checkpoint-size, kind-code, walk-results, checkpoint-bytes, checkpoint-in, conversion-called, from-dimacs-called, to-dimacs-called, start-called, walk-told, walk-called, walks-called, list-called}
 use Rattle.capi.proofs.CallLaws.{start-written, walk-called-is, list-called-is}
 
 -- ---- the bytes of a checkpoint
@@ -74,42 +69,28 @@ module _ (s checkpoint results : List ℕ) (h : length checkpoint ≡ checkpoint
       let w = next-refused s (checkpoint-in checkpoint) (length models) (kind-refused _ (rw q at e)) in
       rw q (ap length (w .0), ap (λ (m : List ℕ). over m models) (w .0), ap checkpoint-bytes (w .1) ∙ written-back checkpoint h)
 
--- a refused conversion has written no byte
+-- a refused conversion leaves the buffer and has written no byte
 abbrev Kept : List ℕ → Conversion → Type 0
-Kept b c = getD (conversion-results (c .answer)) 0 0 ≡ kind-code says-refused → (c .answer .count ≡ 0) × (c .buffer ≡ b)
-
-encoded-kept : (t b : List ℕ) → Kept b (to-encoded t b)
-unfolding to-encoded
-encoded-kept t b = go (ltb (length b) max-bytes) (read-text t)
-  where
-    go : (x : Bool) (d : Decoding) → Kept b (cond x (declined (ShortBuffer 0) b) (encoding-of b d))
-    go true d e = (refl, refl)
-    go false (readable n cs) e = absurd (omega arith)
-    go false (refused r) e = (refl, refl)
-
-text-kept : (s b : List ℕ) → Kept b (to-text s b)
-unfolding to-text
-text-kept s b = go (ltb (length b) text-room) (decode s)
-  where
-    go : (x : Bool) (d : Decoding) → Kept b (cond x (declined (ShortBuffer 0) b) (writing-of b d))
-    go true d e = (refl, refl)
-    go false (readable n cs) e = absurd (omega arith)
-    go false (refused r) e = (refl, refl)
+Kept b c = 1 ≤ c .answer .number → (c .buffer ≡ b) × (c .answer .count ≡ 0)
 
 module _ (s buffer results : List ℕ) (k : length results ≡ results-size) where
   called-kept : (c : Conversion) → Kept buffer c → (let after = conversion-called c buffer results in
-      getD (after .2) 0 0 ≡ kind-code says-refused → (getD (after .2) 4 0 ≡ 0) × (after .1 ≡ buffer))
+      getD (after .2) 0 0 ≡ kind-code says-refused → (after .1 ≡ buffer) × (getD (after .2) 4 0 ≡ 0))
   unfolding conversion-called
-  called-kept c w = rw (eq-eqb _ _ k) w
+  called-kept c w = rw (eq-eqb _ _ k) (go (c .answer .number) w)
+    where
+      go : (x : ℕ) → (1 ≤ x → (c .buffer ≡ buffer) × (c .answer .count ≡ 0)) → cond (eqb x 0) 0 3 ≡ kind-code says-refused → (c .buffer ≡ buffer) × (c .answer .count ≡ 0)
+      go zero w e = absurd (omega arith)
+      go (suc x) w e = w (omega arith)
 
   -- A refused norwythai_from_dimacs or norwythai_to_dimacs has written no byte: results[4] is 0, and the buffer, place 1, is as it was.
   pub from-dimacs-refused : (let after = from-dimacs-called s buffer results in
-      getD (after .2) 0 0 ≡ kind-code says-refused → (getD (after .2) 4 0 ≡ 0) × (after .1 ≡ buffer))
-  from-dimacs-refused = called-kept (to-encoded s buffer) (encoded-kept s buffer)
+      getD (after .2) 0 0 ≡ kind-code says-refused → (after .1 ≡ buffer) × (getD (after .2) 4 0 ≡ 0))
+  from-dimacs-refused = called-kept (to-encoded s buffer) (read-untouched s buffer)
 
   pub to-dimacs-refused : (let after = to-dimacs-called s buffer results in
-      getD (after .2) 0 0 ≡ kind-code says-refused → (getD (after .2) 4 0 ≡ 0) × (after .1 ≡ buffer))
-  to-dimacs-refused = called-kept (to-text s buffer) (text-kept s buffer)
+      getD (after .2) 0 0 ≡ kind-code says-refused → (after .1 ≡ buffer) × (getD (after .2) 4 0 ≡ 0))
+  to-dimacs-refused = called-kept (to-text s buffer) (write-untouched s buffer)
 
 -- ---- lists of calls
 

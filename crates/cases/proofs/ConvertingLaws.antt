@@ -15,7 +15,7 @@ use Rattle.vectors.specs.declared.corpus.Vector.{Vector}
 use Rattle.vectors.specs.Answers.{plain, refused-answer, expected}
 use Rattle.vectors.specs.Comparing.{first-wrong, alike}
 use Rattle.vectors.specs.Corpus.{two-bytes}
-use Rattle.cases.specs.Converting.{convert-written, conversion, Converts, converts, convert-agrees}
+use Rattle.cases.specs.Converting.{convert-written, converting, Converts, converts, convert-agrees}
 use Rattle.cases.proofs.JudgingLaws.{refusal-code}
 
 -- the answers of the two cases
@@ -30,7 +30,7 @@ refused-as r =
 -- what an act ensures, with its answer as the corpus writes it
 pub converted-as :
     (reads : Bool) (given before after : List ℕ) (x : ConvertedValues) (r : Answer) →
-    conversion reads given before ≡ record { answer = x; buffer = after } →
+    converting reads given before ≡ record { answer = x; buffer = after } →
     r ≡ convert-written x → Converts reads given before r after
 converted-as reads given before after x r e f = record { answer = rw e f; buffer = rw e }
 

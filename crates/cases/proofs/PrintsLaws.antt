@@ -15,11 +15,11 @@ use Rattle.printing.proofs.PrintLaws.{count-within}
 use Rattle.vectors.specs.declared.corpus.Vector.{Vector}
 use Rattle.vectors.specs.Comparing.{first-wrong}
 use Rattle.vectors.specs.Corpus.{two-bytes}
-use Rattle.cases.specs.Prints.{text-of, all-stand, prints, print-agrees}
+use Rattle.cases.specs.Prints.{print-of, all-stand, prints, print-agrees}
 
 -- what print counts of the buffer is the text
 text-written :
-    (s b c : List ℕ) (r : ℕ) → max-print ≤ length b → printing s b ≡ record { count = r; buffer = c } → take r c ≡ text-of s
+    (s b c : List ℕ) (r : ℕ) → max-print ≤ length b → printing s b ≡ record { count = r; buffer = c } → take r c ≡ print-of s
 unfolding printing
 text-written s b c r long e =
     rw (← ap (λ (p : Printing). p .count) e, ← ap (λ (p : Printing). p .buffer) e, le-ltb (length b) max-print long)
@@ -42,7 +42,7 @@ pub text-compared :
 unfolding prints
 text-compared s start middle end b c r wanted wrong long e w f =
     let t = text-written _ b c r (omega arith) e in
-    let n : length (text-of (take (middle - start) (drop start s))) ≡ r =
+    let n : length (print-of (take (middle - start) (drop start s))) ≡ r =
     ap length (sym t) ∙ length-take-le r c (count-within _ b c r e) in
     rw (n, ← t, f, w)
 

@@ -18,20 +18,20 @@ abbrev pub convert-written : ConvertedValues → Answer
 convert-written a = plain (number-code 10 (a .number)) (a .number) (a .place + a .count)
 
 -- a text is read, or an encoded formula written
-abbrev pub conversion : Bool → List ℕ → List ℕ → Conversion
-conversion true given buffer = to-encoded given buffer
-conversion false given buffer = to-text given buffer
+abbrev pub converting : Bool → List ℕ → List ℕ → Conversion
+converting true given buffer = to-encoded given buffer
+converting false given buffer = to-text given buffer
 
 -- the answer of a conversion, and the buffer as it is left
 pub record Converts (reads : Bool) (given before : List ℕ) (r : Answer) (after : List ℕ) : Type 0 where
-  pub answer : r ≡ convert-written (conversion reads given before .answer)
-  pub buffer : after ≡ conversion reads given before .buffer
+  pub answer : r ≡ convert-written (converting reads given before .answer)
+  pub buffer : after ≡ converting reads given before .buffer
 
 -- The conversion of a vector's bytes up to `middle`, into a buffer, has the expected answer, and leaves the bytes from there on and behind
 -- them the fill.
 unfoldable pub converts : Bool → List ℕ → Vector → ℕ → ℕ → List ℕ → Bool
 converts reads s v middle fill buffer =
-    let c = conversion reads (take (middle - v .start) (drop (v .start) s)) buffer in
+    let c = converting reads (take (middle - v .start) (drop (v .start) s)) buffer in
     alike (expected s (v .end)) (convert-written (c .answer)) (first-wrong s middle (v .end - middle) fill (c .buffer)) (length buffer)
 
 -- the fields behind the answer: the length of what is converted, that of the buffer, and the fill

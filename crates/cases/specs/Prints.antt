@@ -11,8 +11,8 @@ use Rattle.vectors.specs.Comparing.{first-wrong}
 use Rattle.vectors.specs.Corpus.{two-bytes}
 
 -- what print writes: nothing for an input that it does not read
-abbrev pub text-of : List ℕ → List ℕ
-text-of s = cond (ltb max-input (length s)) [] (printed s)
+abbrev pub print-of : List ℕ → List ℕ
+print-of s = cond (ltb max-input (length s)) [] (printed s)
 
 -- there are as many bytes as must be, and the first wrong one would stand behind them
 abbrev pub all-stand : ℕ → ℕ → ℕ → Bool
@@ -21,7 +21,7 @@ all-stand wanted count wrong = eqb count wanted && eqb wrong count
 -- the text of the input from `start` to `middle` is the one from there to `end`
 unfoldable pub prints : List ℕ → ℕ → ℕ → ℕ → Bool
 prints s start middle end =
-    let t = text-of (take (middle - start) (drop start s)) in
+    let t = print-of (take (middle - start) (drop start s)) in
     all-stand (end - middle) (length t) (first-wrong s middle (end - middle) 0 t)
 
 -- a vector's bytes are the length of the input (2 bytes), the input, and the expected text

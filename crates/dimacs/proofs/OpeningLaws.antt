@@ -93,13 +93,13 @@ next-word at s i start end e f = go (ltb start (length s)) refl
         none (from-start ∙ words-over at s start l) (rw (drop-of-length-le s l) (take-nil (end - start)))
 
 -- where a word starts and ends is within the line
-pub record Reach (s : List ℕ) (start end : ℕ) : Type 0 where
+pub record InLine (s : List ℕ) (start end : ℕ) : Type 0 where
   pub starts : start ≤ length s
   pub ends : end ≤ length s
   pub forward : start ≤ end
 
-pub reach : (at : ℕ) (s : List ℕ) (i start end : ℕ) → i ≤ length s → start ≡ start-in at s i → end ≡ end-in at s start → Reach s start end
-reach at s i start end h e f =
+pub in-line : (at : ℕ) (s : List ℕ) (i start end : ℕ) → i ≤ length s → start ≡ start-in at s i → end ≡ end-in at s start → InLine s start end
+in-line at s i start end h e f =
     let l : start ≤ length s = omega (arith, start-le at s i h) in
     record { starts = l; ends = omega (arith, end-in-le at s start l); forward = omega arith }
 

@@ -11,7 +11,7 @@ use Rattle.lists.proofs.EveryLaws.{every-append, every-element}
 use Rattle.formula.specs.declared.Refusal.{Refusal}
 use Rattle.formula.specs.Refusals.{table-row}
 use Rattle.dimacs.specs.Text.{Piece, pieces, ends-line, lines, parts-words, non-empty, words, comment, others, all-words, run, same, p-word, cnf-word, Progress, Opening, p-line, other-line, opening}
-use Rattle.dimacs.specs.TextTable.{Reaches, TextRefused, no-line, no-p-line, count-bad, word-bad, variable-unknown, literal-complementary, clause-extra, clause-open, count-differs}
+use Rattle.dimacs.specs.TextTable.{ComesTo, TextRefused, no-line, no-p-line, count-bad, word-bad, variable-unknown, literal-complementary, clause-extra, clause-open, count-differs}
 
 -- ---- pieces
 
@@ -99,7 +99,7 @@ module _ (t : List ℕ) where
   numbers-inside l c d ls e q = rw q at (opening-every (Inside (length t)) (words l) (words-inside (length t) l (lines-inside (l ∷ ls) e .0)))
 
   -- a word behind the p line starts at most there
-  word-inside : {n : ℕ} {w : Piece} {s : Progress} → Reaches t n w s → w .at ≤ length t
+  word-inside : {n : ℕ} {w : Piece} {s : Progress} → ComesTo t n w s → w .at ≤ length t
   word-inside {w = w} a =
       let o = a .opens in
       let h : Every (Inside (length t)) (a .before ++ (w ∷ a .after)) =

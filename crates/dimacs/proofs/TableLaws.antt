@@ -17,7 +17,7 @@ use Rattle.formula.specs.Decoding.{Decoding, readable, refused}
 use Rattle.formula.specs.Refusals.{table-row}
 use Rattle.formula.proofs.FormatLaws.{clause-more}
 use Rattle.dimacs.specs.Text.{Piece, lines, words, others, all-words, value, Token, ends, names-variable, bad, token, Progress, progress-start, Step, next, stop, take-literal, take-end, take-token, take-word, take-words, Opening, p-line, other-line, opening, closing, by-opening, by-lines, read-text}
-use Rattle.dimacs.specs.TextTable.{Opens, Reaches, Passes, TextRead, TextRefused, no-line, no-p-line, count-bad, word-bad, variable-unknown, literal-complementary, clause-extra, clause-open, count-differs}
+use Rattle.dimacs.specs.TextTable.{Opens, ComesTo, TakesAll, TextRead, TextRefused, no-line, no-p-line, count-bad, word-bad, variable-unknown, literal-complementary, clause-extra, clause-open, count-differs}
 use Rattle.dimacs.proofs.GoesLaws.{token-some}
 use Rattle.dimacs.proofs.KeepLaws.{over-none, sized-more}
 use Rattle.dimacs.proofs.TakeLaws.{take-words-append, take-words-first}
@@ -46,7 +46,7 @@ StepMeans t n (next s) = Within n s
 StepMeans t n (stop r) = TextRefused t r
 
 -- of a word that is reached
-module _ {t : List ℕ} {n : ℕ} {w : Piece} {s : Progress} (at : Reaches t n w s) (k : Within n s) where
+module _ {t : List ℕ} {n : ℕ} {w : Piece} {s : Progress} (at : ComesTo t n w s) (k : Within n s) where
   -- the step of a clause's end says so
   end-means : token (w .bytes) ≡ ends → StepMeans t n (take-end (w .at) s)
   end-means q = go (ltb (length (s .ended)) max-clauses) refl
@@ -120,7 +120,7 @@ closing-means : {t : List ℕ} {n : ℕ} {d : Piece} {ws : List Piece} → Opens
 closing-means o (stop r) e h = h
 closing-means {t} {n} {d} {ws} o (next s) e h = go (s .current) refl (eqb (length (s .ended)) (value (d .bytes))) refl
   where
-    passes : (c : List Literal) → s .current ≡ c → Passes t n d (record { ended = s .ended; current = c })
+    passes : (c : List Literal) → s .current ≡ c → TakesAll t n d (record { ended = s .ended; current = c })
     passes c q = record { all = ws; opens = o; taken = rw q at e }
 
     go : (c : List Literal) → s .current ≡ c → (b : Bool) → eqb (length (s .ended)) (value (d .bytes)) ≡ b
@@ -190,17 +190,17 @@ unfolding read-text
 opens-read o = rw (o .first, o .is-p-line, ← o .count, lt-ltb 0 _ (o .some), le-leb _ max-variables (o .most), o .follow)
 
 -- a word that is reached and refused refuses the text
-reaches-read : {t : List ℕ} {n : ℕ} {w : Piece} {s : Progress} {r : Refusal} → Reaches t n w s → take-word n w s ≡ stop r → read-text t ≡ refused r
+comes-to-read : {t : List ℕ} {n : ℕ} {w : Piece} {s : Progress} {r : Refusal} → ComesTo t n w s → take-word n w s ≡ stop r → read-text t ≡ refused r
 unfolding take-words
-reaches-read {n = n} {w = w} a e = opens-read (a .opens) ∙ rw (take-words-append n (a .before) (w ∷ a .after) progress-start, a .taken, e, take-words)
+comes-to-read {n = n} {w = w} a e = opens-read (a .opens) ∙ rw (take-words-append n (a .before) (w ∷ a .after) progress-start, a .taken, e, take-words)
 
 -- a text whose words are all taken is read by what they give
-passes-read : {t : List ℕ} {n : ℕ} {d : Piece} {s : Progress} → Passes t n d s → read-text t ≡ closing (length t) n d (next s)
-passes-read p = opens-read (p .opens) ∙ rw (p .taken)
+takes-all-read : {t : List ℕ} {n : ℕ} {d : Piece} {s : Progress} → TakesAll t n d s → read-text t ≡ closing (length t) n d (next s)
+takes-all-read p = opens-read (p .opens) ∙ rw (p .taken)
 
 -- S15.4: every such text is read, as these clauses
 pub text-read-all : (t : List ℕ) (n : ℕ) (cs : List (List Literal)) → TextRead t n cs → read-text t ≡ readable n cs
-text-read-all t n cs h = passes-read (h .passes) ∙ rw (eq-eqb (length cs) (value (h .fourth .bytes)) (h .count))
+text-read-all t n cs h = takes-all-read (h .passes) ∙ rw (eq-eqb (length cs) (value (h .fourth .bytes)) (h .count))
 
 -- S15.4: a refusal is given wherever its row of the table applies
 pub text-refused-all : (t : List ℕ) (r : Refusal) → TextRefused t r → read-text t ≡ refused r
@@ -209,16 +209,16 @@ text-refused-all t r (no-line e) = rw e
 text-refused-all t r (no-p-line l ls e q) = rw (e, q)
 text-refused-all t r (count-bad l c d ls e q (inl h)) = rw (e, q, le-ltb 0 (value (c .bytes)) (omega arith))
 text-refused-all t r (count-bad l c d ls e q (inr h)) = rw (e, q, lt-leb (value (c .bytes)) max-variables h, and-false (ltb 0 (value (c .bytes))))
-text-refused-all t r (word-bad n w s a q) = reaches-read a (rw q)
-text-refused-all t r (variable-unknown n w s sign k a q h) = reaches-read a (rw (q, lt-leb k n h))
-text-refused-all t r (literal-complementary n w s sign k a q h f) = reaches-read a (rw (q, le-leb k n h, f))
-text-refused-all t r (clause-extra n w s a q h) = reaches-read a (rw (q, le-ltb (length (s .ended)) max-clauses (omega arith)))
-text-refused-all t r (clause-open n d s p h) = passes-read p ∙ go (s .current) h
+text-refused-all t r (word-bad n w s a q) = comes-to-read a (rw q)
+text-refused-all t r (variable-unknown n w s sign k a q h) = comes-to-read a (rw (q, lt-leb k n h))
+text-refused-all t r (literal-complementary n w s sign k a q h f) = comes-to-read a (rw (q, le-leb k n h, f))
+text-refused-all t r (clause-extra n w s a q h) = comes-to-read a (rw (q, le-ltb (length (s .ended)) max-clauses (omega arith)))
+text-refused-all t r (clause-open n d s p h) = takes-all-read p ∙ go (s .current) h
   where
     go : (c : List Literal) → (c ≡ [] → ⊥) → closing (length t) n d (next (record { ended = s .ended; current = c })) ≡ refused (Truncated (length t))
     go [] h = absurd (h refl)
     go (l ∷ c) h = rw (ne-eqb (suc (length c)) 0 (λ z. absurd (omega arith)))
-text-refused-all t r (count-differs n d s p e h) = passes-read p ∙ rw (e, ne-eqb (length (s .ended)) (value (d .bytes)) h)
+text-refused-all t r (count-differs n d s p e h) = takes-all-read p ∙ rw (e, ne-eqb (length (s .ended)) (value (d .bytes)) h)
 
 -- S3.1: a text is refused with 2, 5 to 8 or 13 to 15
 pub text-numbers : {t : List ℕ} {r : Refusal} → TextRefused t r

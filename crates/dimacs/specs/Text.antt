@@ -28,14 +28,14 @@ pieces parts at begun (x ∷ s) =
       | false ↦ pieces parts at (begun ++ (x ∷ [])) s
     ]
 
--- S15.1: a line ends at a line feed or with the text
+-- S15.1: what ends a line, beside the end of the text
 abbrev pub ends-line : ℕ → Bool
 ends-line x = eqb x line-feed
 
 abbrev pub lines : List ℕ → List Piece
 lines t = pieces ends-line 0 [] t
 
--- S15.1: words are parted by blanks, tabs (09), carriage returns (0D) and line feeds (0A)
+-- S15.1: what parts words: a blank, a tab, a carriage return, a line feed
 abbrev pub parts-words : ℕ → Bool
 parts-words x = eqb x blank || (eqb x 9 || (eqb x 13 || eqb x line-feed))
 

@@ -25,7 +25,7 @@ pub record Opens (t : List ℕ) (n : ℕ) (d : Piece) (ws : List Piece) : Type 0
   pub follow : ws ≡ all-words behind
 
 -- w is one of these words, and all before it are taken, up to s
-pub record Reaches (t : List ℕ) (n : ℕ) (w : Piece) (s : Progress) : Type 0 where
+pub record ComesTo (t : List ℕ) (n : ℕ) (w : Piece) (s : Progress) : Type 0 where
   pub fourth : Piece
   pub before : List Piece
   pub after : List Piece
@@ -33,7 +33,7 @@ pub record Reaches (t : List ℕ) (n : ℕ) (w : Piece) (s : Progress) : Type 0 
   pub taken : take-words n before progress-start ≡ next s
 
 -- all of them are taken, up to s
-pub record Passes (t : List ℕ) (n : ℕ) (d : Piece) (s : Progress) : Type 0 where
+pub record TakesAll (t : List ℕ) (n : ℕ) (d : Piece) (s : Progress) : Type 0 where
   pub all : List Piece
   pub opens : Opens t n d all
   pub taken : take-words n all progress-start ≡ next s
@@ -41,7 +41,7 @@ pub record Passes (t : List ℕ) (n : ℕ) (d : Piece) (s : Progress) : Type 0 w
 -- a text is read if no clause is open then, and there are as many as the p line says
 pub record TextRead (t : List ℕ) (n : ℕ) (cs : List (List Literal)) : Type 0 where
   pub fourth : Piece
-  pub passes : Passes t n fourth (record { ended = cs; current = [] })
+  pub passes : TakesAll t n fourth (record { ended = cs; current = [] })
   pub count : length cs ≡ value (fourth .bytes)
 
 pub data TextRefused (t : List ℕ) : Refusal → Type 0 where
@@ -53,18 +53,18 @@ pub data TextRefused (t : List ℕ) : Refusal → Type 0 where
   count-bad : (l c d : Piece) (ls : List Piece) → others (lines t) ≡ l ∷ ls → opening (words l) ≡ p-line c d
       → (value (c .bytes) < 1) ⊎ (max-variables < value (c .bytes)) → TextRefused t (BadVariableCount (c .at))
   -- 14: a word is neither digits nor a minus with digits that are not zero
-  word-bad : (n : ℕ) (w : Piece) (s : Progress) → Reaches t n w s → token (w .bytes) ≡ bad → TextRefused t (BadWord (w .at))
+  word-bad : (n : ℕ) (w : Piece) (s : Progress) → ComesTo t n w s → token (w .bytes) ≡ bad → TextRefused t (BadWord (w .at))
   -- 6: the variable is above n
-  variable-unknown : (n : ℕ) (w : Piece) (s : Progress) (sign : Bool) (k : ℕ) → Reaches t n w s → token (w .bytes) ≡ names-variable sign k → n < k
+  variable-unknown : (n : ℕ) (w : Piece) (s : Progress) (sign : Bool) (k : ℕ) → ComesTo t n w s → token (w .bytes) ≡ names-variable sign k → n < k
       → TextRefused t (NoSuchVariable (w .at))
   -- 7: the clause has named the variable the other way
-  literal-complementary : (n : ℕ) (w : Piece) (s : Progress) (sign : Bool) (k : ℕ) → Reaches t n w s → token (w .bytes) ≡ names-variable sign k → k ≤ n
+  literal-complementary : (n : ℕ) (w : Piece) (s : Progress) (sign : Bool) (k : ℕ) → ComesTo t n w s → token (w .bytes) ≡ names-variable sign k → k ≤ n
       → has-complement (s .current) (record { variable = k - 1; positive = sign }) ≡ true → TextRefused t (ComplementaryLiteral (w .at))
   -- 8: the end of a clause after 96
-  clause-extra : (n : ℕ) (w : Piece) (s : Progress) → Reaches t n w s → token (w .bytes) ≡ ends → length (s .ended) ≡ max-clauses
+  clause-extra : (n : ℕ) (w : Piece) (s : Progress) → ComesTo t n w s → token (w .bytes) ≡ ends → length (s .ended) ≡ max-clauses
       → TextRefused t (TooManyClauses (w .at))
   -- 2: the text ends inside a clause
-  clause-open : (n : ℕ) (d : Piece) (s : Progress) → Passes t n d s → (s .current ≡ [] → ⊥) → TextRefused t (Truncated (length t))
+  clause-open : (n : ℕ) (d : Piece) (s : Progress) → TakesAll t n d s → (s .current ≡ [] → ⊥) → TextRefused t (Truncated (length t))
   -- 15: there are not as many clauses as the p line says
-  count-differs : (n : ℕ) (d : Piece) (s : Progress) → Passes t n d s → s .current ≡ [] → (length (s .ended) ≡ value (d .bytes) → ⊥)
+  count-differs : (n : ℕ) (d : Piece) (s : Progress) → TakesAll t n d s → s .current ≡ [] → (length (s .ended) ≡ value (d .bytes) → ⊥)
       → TextRefused t (ClauseCountDiffers (d .at))

@@ -9,7 +9,7 @@ use borrow.Author.Tests.{not-true, not-false}
 use Rattle.dimacs.specs.Text.{Piece, same, p-word, cnf-word, opening}
 use Rattle.dimacs.specs.InnerScan.{words-from, opening-held, by-numbers}
 use Rattle.dimacs.proofs.TextLaws.{start-le, words-zero}
-use Rattle.dimacs.proofs.OpeningLaws.{span, Next, next-word, Reach, reach, passes, fails, p-some, cnf-some, opening-none, opening-one, opening-first, opening-second, opening-rest}
+use Rattle.dimacs.proofs.OpeningLaws.{span, Next, next-word, InLine, in-line, passes, fails, p-some, cnf-some, opening-none, opening-one, opening-first, opening-second, opening-rest}
 use Rattle.dimacs.proofs.opening.read_opening.Statement.{statement}
 use Rattle.dimacs.proofs.opening.read_opening.Tie as tie
 
@@ -27,8 +27,8 @@ module _ (d : tie.After-word-end) where
   abbrev end : ℕ
   end = d .word-end .result
 
-  within : Reach line start end
-  within = reach at line 0 start end (omega arith) (d .before .word-start .ensures) (d .word-end .ensures)
+  within : InLine line start end
+  within = in-line at line 0 start end (omega arith) (d .before .word-start .ensures) (d .word-end .ensures)
 
   next : Next at line 0 start end
   next = next-word at line 0 start end (d .before .word-start .ensures) (d .word-end .ensures)
@@ -44,8 +44,8 @@ module _ (d : tie.After-word-end2) where
   abbrev end2 : ℕ
   end2 = d .word-end2 .result
 
-  within2 : Reach (line first) start2 end2
-  within2 = reach (at first) (line first) (end first) start2 end2 (within first .ends) (d .before .word-start2 .ensures) (d .word-end2 .ensures)
+  within2 : InLine (line first) start2 end2
+  within2 = in-line (at first) (line first) (end first) start2 end2 (within first .ends) (d .before .word-start2 .ensures) (d .word-end2 .ensures)
 
   next2 : Next (at first) (line first) (end first) start2 end2
   next2 = next-word (at first) (line first) (end first) start2 end2 (d .before .word-start2 .ensures) (d .word-end2 .ensures)
