@@ -17,10 +17,6 @@ fits c =
     let place = c .before .place-of in
     omega (arith, numbers-length 19 19 (number .result) (place .result) (omega arith) (omega arith))
 
--- and what is written of it is the line
-within : (c : tie.After-put-refused-line) → c .put-refused-line .result ≤ length (c .put-refused-line .last .1 .1 .0)
-within c = let f = fits (c .before) in omega arith
-
 enum-known-c : tie.Need-enum-known-c
 enum-known-c c = search needs
 
@@ -46,6 +42,10 @@ slice-aggregate-put-refused-line c = search needs
 
 put-refused-line-requires : tie.Need-put-refused-line-requires
 put-refused-line-requires c κs = let f = fits c in omega arith
+
+-- what is written of the array is the line
+within : (c : tie.After-put-refused-line) → c .put-refused-line .result ≤ length (c .put-refused-line .last .1 .1 .0)
+within c = let f = fits (c .before) in omega arith
 
 array-share-prefix-line : tie.Need-array-share-prefix-line
 array-share-prefix-line c = within (c .before)
