@@ -1,7 +1,7 @@
 -- Words that are taken one after the other: what is left gives what all give.
 use Prim.Native.Nat.{ℕ, _+_, _-_, _≤_, _<_}
 use mathlib.Core.Bool.{Bool, true, false, cond}
-use mathlib.Core.List.{List, [], _∷_, _++_, append-nil}
+use mathlib.Core.List.{List, [], _∷_, _++_}
 use mathlib.Core.Path.{_≡_, refl, sym, ap, subst, _∙_}
 use native.Mathlib.Omega.{arith}
 use borrow.Author.Tests.{lt-leb, ltb-true, ltb-false, eqb-false}
@@ -9,16 +9,15 @@ use lib.Dec.{eqb, leb, ltb}
 use lib.ListN.{length, take, drop}
 use Rattle.limits.specs.Limits.{max-variables}
 use Rattle.formula.specs.declared.Refusal.{Refusal}
-use Rattle.formula.specs.declared.Refusal.the-variants.{NoSuchVariable, BadWord}
 use Rattle.dimacs.specs.declared.reader.Reader.{Reader}
 use Rattle.dimacs.specs.declared.reader.Event.{Event}
 use Rattle.dimacs.specs.declared.reader.Event.the-variants.{Next, Stopped}
 use Rattle.dimacs.specs.declared.scan.Token as held
 use Rattle.dimacs.specs.declared.scan.Token.the-variants.{Ends, Literal, Bad}
-use Rattle.dimacs.specs.Text.{Piece, ends-line, others, all-words, comment, run, value, Token, ends, names-variable, bad, minus-sign, signed, unsigned, token, Progress, Step, next, stop, take-literal, take-end, take-token, take-word, take-words}
+use Rattle.dimacs.specs.Text.{Piece, ends-line, others, all-words, comment, run, value, Token, ends, names-variable, bad, minus-sign, signed, unsigned, token, Progress, Step, next, stop, take-literal, take-token, take-word, take-words}
 use Rattle.dimacs.specs.InnerScan.{until, lines-from, words-at, cap, capped, token-held}
-use Rattle.dimacs.specs.InnerReader.{line-at, other-words, lines-behind, words-behind, Keeps, Ready, Stepped}
-use Rattle.dimacs.proofs.ScanLaws.{capped-le, capped-low, capped-high, capped-back, capped-zero}
+use Rattle.dimacs.specs.InnerReader.{other-words, words-behind, Keeps, Ready, Stepped}
+use Rattle.dimacs.proofs.ScanLaws.{capped-low, capped-high}
 use Rattle.dimacs.proofs.KeepLaws.{has-variables}
 use Rattle.dimacs.proofs.TakeLaws.{take-words-append}
 use Rattle.dimacs.proofs.TextLaws.{end-of, behind-end, behind-more, others-comment, others-first}

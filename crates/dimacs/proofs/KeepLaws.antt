@@ -1,38 +1,36 @@
 -- What reading keeps: the bytes of what is read so far, with one literal more and with one clause more.
 use Prim.Native.Nat.{ℕ, suc, _+_, _*_, _-_, _≤_, _<_}
-use mathlib.Core.Bool.{Bool, true, false, not, cond}
+use mathlib.Core.Bool.{Bool, true, false, not}
 use mathlib.Core.List.{List, [], _∷_, _++_, append-nil, append-assoc}
 use mathlib.Core.Path.{_≡_, refl, sym, ap, subst, _∙_}
 use native.Mathlib.Omega.{arith}
 use borrow.Author.Tests.{le-leb, lt-leb, lt-ltb, le-ltb, eq-eqb, ne-eqb}
-use lib.Dec.{eqb, leb, ltb}
+use lib.Dec.{eqb}
 use lib.ListN.{length, take, drop, length-append}
-use lib.Seq.{length-take-le, take-append-seam, append-snoc}
+use lib.Seq.{take-append-seam}
 use Rattle.limits.specs.Limits.{max-variables, max-clauses}
-use Rattle.lists.specs.Every.{Every}
 use Rattle.lists.proofs.EveryLaws.{every-append}
 use Rattle.lists.proofs.TestLaws.{bool-clash}
 use Rattle.masks.specs.Mask.{bit}
-use Rattle.writing.specs.Placed.{placed, Wrote}
+use Rattle.writing.specs.Placed.{Wrote}
 use Rattle.writing.proofs.PlacedLaws.{wrote-length, wrote-more}
 use Rattle.formula.specs.declared.Refusal.{Refusal}
 use Rattle.formula.specs.declared.Refusal.the-variants.{Truncated, NoSuchVariable, ComplementaryLiteral, TooManyClauses, ClauseCountDiffers}
-use Rattle.formula.specs.Format.{Literal, literal-bytes, literals-bytes, clause-bytes, clauses-bytes, formula-bytes, names, names-as, distinct, has-complement, add, ClauseOver, Sized, max-clause-bytes}
-use Rattle.formula.specs.Table.{inside, written}
+use Rattle.formula.specs.Format.{Literal, literal-bytes, literals-bytes, clause-bytes, clauses-bytes, formula-bytes, names, names-as, distinct, has-complement, add, ClauseOver, Sized}
+use Rattle.formula.specs.Table.{written}
 use Rattle.formula.specs.InnerDecode.{none-yet}
 use Rattle.formula.specs.declared.Clause.{Clause}
 use Rattle.formula.specs.InnerFits.{side, clause-variables}
 use Rattle.formula.specs.InnerMasked.{no-clause, with-literal, with-literals, clause-of}
 use Rattle.formula.proofs.ClauseLaws.{with-literals-last, clause-side, clause-names, clause-empty}
 use Rattle.formula.proofs.FormatLaws.{literals-append, clauses-append, clause-more}
-use Rattle.formula.proofs.LengthLaws.{clause-le, clauses-le, literals-length, clause-length}
-use Rattle.formula.proofs.RepeatLaws.{add-masks}
+use Rattle.formula.proofs.LengthLaws.{clause-le, clauses-le, literals-length}
 use Rattle.dimacs.proofs.ScanLaws.{capped-low, capped-back}
 use Rattle.dimacs.specs.declared.reader.Reader.{Reader}
 use Rattle.dimacs.specs.Text.{Piece, value, Progress, progress-start, next, take-literal, take-end, closing}
 use Rattle.dimacs.specs.InnerScan.{capped, numbers-of}
 use Rattle.dimacs.specs.declared.opening.Numbers.{Numbers}
-use Rattle.dimacs.specs.InnerReader.{kept-room, kept-bytes, reader-of, Starts, Keeps, Stepped, Reads}
+use Rattle.dimacs.specs.InnerReader.{kept-room, kept-bytes, Starts, Keeps, Stepped, Reads}
 use Rattle.dimacs.specs.declared.answers.Converted.the-variants.{Written, Refused}
 use Rattle.dimacs.specs.declared.reader.Event.{Event}
 use Rattle.dimacs.specs.declared.reader.Event.the-variants.{Next, Stopped}

@@ -10,7 +10,7 @@ use lib.ListN.{length, take, drop}
 use Rattle.limits.specs.Limits.{max-variables}
 use Rattle.writing.specs.Placed.{Wrote}
 use Rattle.formula.specs.declared.Refusal.{Refusal}
-use Rattle.formula.specs.declared.Refusal.the-variants.{ShortBuffer, BadVariableCount, BadOpening}
+use Rattle.formula.specs.declared.Refusal.the-variants.{ShortBuffer, BadVariableCount}
 use Rattle.formula.specs.Format.{Literal, formula-bytes, max-bytes}
 use Rattle.formula.specs.Decoding.{Decoding, readable, refused}
 use Rattle.formula.proofs.LengthLaws.{formula-le}

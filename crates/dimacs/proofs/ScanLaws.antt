@@ -10,7 +10,7 @@ use lib.Dec.{eqb, ltb}
 use lib.ListN.{length, take, drop, getD, length-drop, drop-of-length-le}
 use lib.Seq.{take-all, drop-cons}
 use Rattle.writing.specs.Text.{digit-zero}
-use Rattle.dimacs.specs.Text.{comment, is-digit, all-digits, run, value-from, Token, bad, minus-sign, signed, unsigned, token, same}
+use Rattle.dimacs.specs.Text.{comment, is-digit, all-digits, run, value-from, bad, minus-sign, signed, unsigned, token, same}
 use Rattle.dimacs.specs.InnerScan.{until, cap, capped}
 
 -- ---- up to the first byte for which a test holds

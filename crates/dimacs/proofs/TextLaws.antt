@@ -1,20 +1,17 @@
 -- Laws of the lines of a text, and of the words of a line.
 use Prim.Native.Nat.{ℕ, suc, _+_, _-_, _≤_, _<_}
-use mathlib.Core.Bool.{Bool, true, false, not, cond, _||_}
-use mathlib.Core.List.{List, [], _∷_, _++_}
+use mathlib.Core.Bool.{Bool, true, false, not, cond}
+use mathlib.Core.List.{List, [], _∷_}
 use mathlib.Core.Path.{_≡_, refl, sym, ap, ap₂, _∙_}
-use native.Mathlib.Numerals.{add-one}
 use native.Mathlib.Omega.{arith}
 use borrow.Author.Tests.{ltb-true, ltb-false, lt-ltb, le-ltb, eqb-true, not-true}
 use lib.Dec.{eqb, ltb}
 use lib.ListN.{length, take, drop, getD, length-drop, drop-of-length-le}
 use lib.Seq.{length-take-le, drop-drop, drop-cons, getD-drop}
 use Rattle.lists.proofs.TestLaws.{bool-clash}
-use Rattle.formula.specs.Decoding.{refused}
-use Rattle.formula.specs.declared.Refusal.the-variants.{BadOpening}
-use Rattle.dimacs.specs.Text.{Piece, pieces, ends-line, lines, parts-words, non-empty, comment, others, all-words, opening, by-lines, read-text}
+use Rattle.dimacs.specs.Text.{Piece, pieces, ends-line, lines, parts-words, non-empty, comment, others, opening, by-lines, read-text}
 use Rattle.dimacs.specs.InnerScan.{until, in-word, lines-from, words-at, words-from, OpensAt}
-use Rattle.dimacs.specs.InnerReader.{line-at, other-words, lines-behind, words-behind}
+use Rattle.dimacs.specs.InnerReader.{line-at, lines-behind}
 use Rattle.dimacs.proofs.PieceLaws.{until-le, rest-pieces, pieces-until}
 
 -- ---- lines

@@ -1,12 +1,12 @@
 -- What reading keeps, word by word; proofs/KeepLaws.antt ties it to Text.
-use Prim.Native.Nat.{ℕ, _+_, _*_, _≤_}
+use Prim.Native.Nat.{ℕ, _+_, _*_}
 use mathlib.Core.Bool.{cond}
-use mathlib.Core.List.{List, [], _∷_}
+use mathlib.Core.List.{List, []}
 use mathlib.Core.Path.{_≡_}
 use lib.Dec.{ltb}
 use lib.ListN.{length, take, drop}
-use Rattle.limits.specs.Limits.{max-variables, max-clauses}
-use Rattle.formula.specs.Format.{Literal, formula-bytes, ClauseOver, Sized, max-clause-bytes}
+use Rattle.limits.specs.Limits.{max-clauses}
+use Rattle.formula.specs.Format.{formula-bytes, ClauseOver, Sized, max-clause-bytes}
 use Rattle.formula.specs.Table.{inside, written}
 use Rattle.formula.specs.Decoding.{Decoding, readable, refused}
 use Rattle.formula.specs.InnerMasked.{clause-of}

@@ -1,12 +1,12 @@
 -- `read_numbers`: a word more, and a run of digits, or not.
 use borrow.Author.Needs.{needs}
-use Prim.Native.Nat.{ℕ, _≤_}
-use mathlib.Core.Bool.{Bool, true, false}
-use mathlib.Core.List.{List, [], _∷_}
+use Prim.Native.Nat.{ℕ}
+use mathlib.Core.Bool.{true}
+use mathlib.Core.List.{List, _∷_}
 use mathlib.Core.Path.{_≡_, refl, sym, ap, _∙_}
 use native.Mathlib.Omega.{arith}
 use borrow.Author.Tests.{not-true, not-false}
-use Rattle.dimacs.specs.Text.{Piece, run, Opening}
+use Rattle.dimacs.specs.Text.{Piece, run}
 use Rattle.dimacs.specs.InnerScan.{words-from, opening-held, by-numbers}
 use Rattle.dimacs.proofs.TextLaws.{start-le}
 use Rattle.dimacs.proofs.OpeningLaws.{span, Next, next-word, InLine, in-line, more-words, no-words, passes, fails, numbers-first, numbers-second, numbers-both}

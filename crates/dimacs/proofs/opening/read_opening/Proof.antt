@@ -1,13 +1,13 @@
 -- `read_opening`: a word more, and p or cnf, or not.
 use borrow.Author.Needs.{needs}
 use Prim.Native.Nat.{ℕ}
-use mathlib.Core.Bool.{Bool, true}
-use mathlib.Core.List.{List, [], _∷_}
-use mathlib.Core.Path.{_≡_, refl, sym, ap, _∙_}
+use mathlib.Core.Bool.{true}
+use mathlib.Core.List.{List, _∷_}
+use mathlib.Core.Path.{_≡_, sym, ap, _∙_}
 use native.Mathlib.Omega.{arith}
 use borrow.Author.Tests.{not-true, not-false}
 use Rattle.dimacs.specs.Text.{Piece, same, p-word, cnf-word, opening}
-use Rattle.dimacs.specs.InnerScan.{words-from, opening-held, by-numbers}
+use Rattle.dimacs.specs.InnerScan.{words-from, opening-held}
 use Rattle.dimacs.proofs.TextLaws.{start-le, words-zero}
 use Rattle.dimacs.proofs.OpeningLaws.{span, Next, next-word, InLine, in-line, passes, fails, p-some, cnf-some, opening-none, opening-one, opening-first, opening-second, opening-rest}
 use Rattle.dimacs.proofs.opening.read_opening.Statement.{statement}

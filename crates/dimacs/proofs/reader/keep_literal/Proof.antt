@@ -4,7 +4,6 @@ use Prim.Native.Nat.{_+_, _-_}
 use mathlib.Core.Path.{_≡_}
 use native.Mathlib.Omega.{arith}
 use Rattle.formula.specs.Format.{literal-bytes}
-use Rattle.writing.specs.Placed.{Wrote}
 use Rattle.writing.proofs.PlacedLaws.{wrote-more}
 use Rattle.dimacs.proofs.reader.keep_literal.Statement.{statement}
 use Rattle.dimacs.proofs.reader.keep_literal.Tie as tie

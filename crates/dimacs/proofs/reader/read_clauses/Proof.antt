@@ -1,12 +1,11 @@
 -- `read_clauses`: the number of variables, then the words, then what is behind them.
 use borrow.Author.Needs.{needs}
 use Prim.Native.Nat.{_≤_}
-use mathlib.Core.Path.{_≡_}
 use native.Mathlib.Omega.{arith}
 use Rattle.limits.specs.Limits.{max-variables}
 use Rattle.dimacs.specs.Text.{progress-start, take-words}
 use Rattle.dimacs.specs.InnerReader.{words-behind}
-use Rattle.dimacs.proofs.GoesLaws.{Stands, stepped-next, stepped-stop, keeps-ready, keeps-step}
+use Rattle.dimacs.proofs.GoesLaws.{stepped-next, stepped-stop, keeps-ready, keeps-step}
 use Rattle.dimacs.proofs.ReadLaws.{count-none, count-many, words-refused, words-read}
 use Rattle.dimacs.proofs.reader.read_clauses.Statement.{statement}
 use Rattle.dimacs.proofs.reader.read_clauses.Tie as tie

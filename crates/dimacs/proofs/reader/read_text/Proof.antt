@@ -1,13 +1,13 @@
 -- `read_text`: by the first line that is no comment.
 use borrow.Author.Needs.{needs}
 use Prim.Native.Nat.{_-_, _≤_}
-use mathlib.Core.Path.{_≡_, refl, sym, _∙_}
+use mathlib.Core.Path.{refl, sym, _∙_}
 use native.Mathlib.Omega.{arith}
 use lib.ListN.{length, take, drop, length-drop}
 use lib.Seq.{length-take-le}
 use Rattle.dimacs.specs.Text.{opening}
 use Rattle.dimacs.specs.InnerScan.{words-at}
-use Rattle.dimacs.proofs.TextLaws.{end-of, end-le}
+use Rattle.dimacs.proofs.TextLaws.{end-le}
 use Rattle.dimacs.proofs.ReadLaws.{held-p-line, held-other, text-opens}
 use Rattle.dimacs.proofs.reader.read_text.Statement.{statement}
 use Rattle.dimacs.proofs.reader.read_text.Tie as tie

@@ -3,13 +3,13 @@ use borrow.Author.Needs.{needs}
 use Prim.Native.Nat.{ℕ, _+_, _-_, _≤_, _<_}
 use mathlib.Core.Bool.{true}
 use mathlib.Core.List.{List, [], _∷_, _++_}
-use mathlib.Core.Path.{_≡_, refl, sym, ap, _∙_}
+use mathlib.Core.Path.{_≡_, refl, _∙_}
 use native.Mathlib.Omega.{arith}
 use lib.ListN.{length, take, drop, getD}
 use Rattle.dimacs.specs.Text.{Piece, Progress, take-word}
 use Rattle.dimacs.specs.InnerScan.{in-word, words-at, words-from}
 use Rattle.dimacs.specs.InnerReader.{Keeps}
-use Rattle.dimacs.proofs.TextLaws.{start-in, end-in, start-le, end-in-le, start-stops, words-start, word-some, words-next, words-whole, words-over}
+use Rattle.dimacs.proofs.TextLaws.{end-in, start-le, end-in-le, start-stops, words-start, word-some, words-next, words-whole, words-over}
 use Rattle.dimacs.proofs.GoesLaws.{keeps-ready, Goes, goes-start, goes-rest, keeps-step, goes-next, goes-stop, goes-end, one-step}
 use Rattle.dimacs.proofs.reader.take_line.Statement.{statement}
 use Rattle.dimacs.proofs.reader.take_line.Tie as tie

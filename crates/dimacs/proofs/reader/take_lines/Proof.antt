@@ -2,12 +2,12 @@
 use borrow.Author.Needs.{needs}
 use Prim.Native.Nat.{ℕ, _+_, _-_, _≤_, _<_}
 use mathlib.Core.List.{List, _++_}
-use mathlib.Core.Path.{_≡_, refl, ap, _∙_}
+use mathlib.Core.Path.{_≡_, refl, _∙_}
 use native.Mathlib.Omega.{arith}
 use lib.ListN.{length}
-use Rattle.dimacs.specs.Text.{Progress, take-words, all-words, others}
+use Rattle.dimacs.specs.Text.{Progress, take-words}
 use Rattle.dimacs.specs.InnerReader.{other-words, words-behind, Keeps}
-use Rattle.dimacs.proofs.TextLaws.{end-of, end-le, behind-end}
+use Rattle.dimacs.proofs.TextLaws.{end-of, end-le}
 use Rattle.dimacs.proofs.GoesLaws.{keeps-ready, Goes, goes-start, keeps-step, goes-next, goes-stop, goes-end, behind-next, no-lines}
 use Rattle.dimacs.proofs.reader.take_lines.Statement.{statement}
 use Rattle.dimacs.proofs.reader.take_lines.Tie as tie
