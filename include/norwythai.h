@@ -32,9 +32,9 @@
  * has a literal that is true, and no variable above n is.
  *
  * A TEXT is DIMACS CNF: lines that start with c are comments, anywhere; the first other line is `p cnf` with the numbers of variables
- * and clauses; then come the literals as numbers, a minus before those that are negative, and 0 at the end of each clause. A line ends at
- * a line feed (0A) or with the text. Words are parted by blanks (20), tabs (09), carriage returns (0D) and line feeds. Lines without
- * words may stand behind the p line only. A text may be of any length, and no zero byte ends it.
+ * and clauses; then come the literals as numbers, a minus before those that are negative, and 0 at the end of each clause. Line feeds (0A)
+ * end lines; they and blanks (20), tabs (09) and carriage returns (0D) stand between words. Lines without words may stand behind the p
+ * line only. A text may be of any length, and no zero byte ends it.
  *
  * THE RESULTS are NORWYTHAI_RESULTS numbers:
  *
@@ -74,9 +74,8 @@
  *   12      stray switch     a checked assignment has a variable above n true    0
  *   13      bad opening      the first line that is no comment is no p line of   its first byte, or the text's
  *                            four words: p, cnf and two runs of digits           length if there is none
- *   14      bad word         a word behind the p line is not digits with or      its first byte
- *                            without one minus before them, or is a minus
- *                            with zero
+ *   14      bad word         a word behind the p line is neither digits nor a    its first byte
+ *                            minus and digits that are not zero
  *   15      rule count       there are not as many clauses as the p line says    first byte of that number
  *           differs
  *
