@@ -2,7 +2,8 @@
 """corpus.py VECTORS: write the corpus of the program cases, crates/cases/data/, and its expected output, crates/cases/stdout.
 
 VECTORS has one JSON object a line: "act", its input and the expected answer. Vectors of an act that has no coder below are
-left out. So is one that does not fit the format, and that is said. If all of them together don't fit, nothing is written.
+left out. So is one that does not fit the format, and that is said. If all of them together don't fit, nothing is written. Every
+readable input among them is also written as a text, and that text read again.
 
 Format. A file holds vectors of one act, one after the other, and nothing else; it has at most 65,536 bytes, so an act has
 files NAMEa, NAMEb, .., at most 26; start has one, start, and the edge cases of an act have one, NAME_edges. Numbers are
@@ -663,6 +664,8 @@ READ_TEXT_EDGES = [
     (b' c\np cnf 1 0\n', (13, 0)),
     (b'p cnf 1 0\n c\n', (14, 11)),
     (b'p cnf 1 1\n1 c\n0\n', (14, 12)),
+    # carriage returns end no line: all of it is a comment
+    (b'c\rp cnf 1 0\r', (13, 12)),
     # no p line
     (b'\n', (13, 0)),
     (b'\np cnf 1 0\n', (13, 0)),
@@ -699,6 +702,17 @@ READ_TEXT_EDGES = [
     (b'p cnf 1 1\n-' + NUMBER + b' 0\n', (6, 10)),
     (b'p cnf 1 1\n1 18446744073709551616\n', (6, 12)),
     (b'p cnf 1 18446744073709551616\n', (15, 8)),
+    # numbers around 1,000 as each number, whose last digits would do
+    (b'p cnf 999 0\n', (5, 6)),
+    (b'p cnf 1000 0\n', (5, 6)),
+    (b'p cnf 1001 0\n', (5, 6)),
+    (b'p cnf 1048 0\n', (5, 6)),
+    (b'p cnf 48 1\n999 0\n', (6, 11)),
+    (b'p cnf 48 1\n1000 0\n', (6, 11)),
+    (b'p cnf 48 1\n-1001 0\n', (6, 11)),
+    (b'p cnf 48 1\n1048 0\n', (6, 11)),
+    (b'p cnf 1 1000\n', (15, 8)),
+    (b'p cnf 1 1001\n1 0\n', (15, 8)),
     # zeros before a number, and as one
     (b'p cnf 0007 0001\n-007 0001 0000\n', '01 07 03 07 02 01 04 05'),
     (b'p cnf 1 1\n00\n', '01 01 04 05'),
@@ -846,6 +860,18 @@ def files_of(name, names, groups):
     return dict(zip(names, files))
 
 
+def written_again(number, given):
+    """A readable input is written."""
+    formula = read(given)
+    return [[converted(number, given, 18636, 0xa5, None, text_of(*formula))]] if formula else []
+
+
+def read_again(number, given):
+    """And its text is read."""
+    formula = read(given)
+    return [[converted(number, text_of(*formula), 9315, 0xa5, None, bytes.fromhex(encoded(*formula)))]] if formula else []
+
+
 def groups_of(lines):
     """By act, and for formulas, the groups of vectors that stand together."""
     groups = {act: [] for act in [*ACTS, 'formulas']}
@@ -868,6 +894,8 @@ def groups_of(lines):
             if given not in inputs:
                 inputs.add(given)
                 add('formulas', formula_vector, number, given)
+                add('write_text', written_again, number, given)
+                add('read_text', read_again, number, given)
     return groups
 
 

@@ -18,13 +18,13 @@ use Rattle.formula.proofs.Demands.{accepted-fits, numbers}
 use Rattle.formula.proofs.LengthLaws.{formula-le}
 use Rattle.dimacs.specs.Text.{read-text}
 use Rattle.dimacs.specs.Written.{text-of, text-room}
-use Rattle.dimacs.specs.Convert.{Conversion, wrote, declined, encoding-of, writing-of, to-encoded, to-text}
+use Rattle.dimacs.specs.Convert.{Conversion, converted, declined, encoding-of, writing-of, to-encoded, to-text}
 use Rattle.dimacs.proofs.RoomLaws.{text-le}
 use Rattle.dimacs.proofs.TableLaws.{text-sized}
 
 -- an act writes some bytes, for which there is room, or refuses
 pub data Acts (b : List ℕ) : Conversion → Type 0 where
-  writes : (xs : List ℕ) → length xs ≤ length b → Acts b (wrote xs b)
+  writes : (xs : List ℕ) → length xs ≤ length b → Acts b (converted xs b)
   refuses : (r : Refusal) → Acts b (declined r b)
 
 -- the bytes past what was written remain
@@ -37,14 +37,19 @@ pub acts-length : {b : List ℕ} {c : Conversion} → Acts b c → length (c .bu
 acts-length {b} (writes xs h) = over-length xs b h
 acts-length (refuses r) = refl
 
+-- what was written lies within it
+pub acts-within : {b : List ℕ} {c : Conversion} → Acts b c → c .answer .count ≤ length (c .buffer)
+acts-within {b} (writes xs h) = omega (arith, over-length xs b h)
+acts-within (refuses r) = omega arith
+
 -- a refusal changes nothing, and no byte counts as written
 pub acts-refused : {b : List ℕ} {c : Conversion} → Acts b c → 1 ≤ c .answer .number → (c .buffer ≡ b) × (c .answer .count ≡ 0)
 acts-refused (writes xs h) k = absurd (omega arith)
 acts-refused (refuses r) k = (refl, refl)
 
 -- what was written
-pub wrote-front : (xs b : List ℕ) → take (wrote xs b .answer .count) (wrote xs b .buffer) ≡ xs
-wrote-front xs b = take-append-seam xs (drop (length xs) b)
+pub converted-front : (xs b : List ℕ) → take (converted xs b .answer .count) (converted xs b .buffer) ≡ xs
+converted-front xs b = take-append-seam xs (drop (length xs) b)
 
 -- the act read
 pub reading-acts : (t b : List ℕ) → Acts b (to-encoded t b)

@@ -19,8 +19,8 @@ use Rattle.formula.proofs.RepeatLaws.{sized-encoded}
 use Rattle.dimacs.specs.Text.{read-text}
 use Rattle.dimacs.specs.TextTable.{TextRead, TextRefused}
 use Rattle.dimacs.specs.Written.{text-of, text-room}
-use Rattle.dimacs.specs.Convert.{wrote, declined, to-encoded, to-text}
-use Rattle.dimacs.proofs.ActLaws.{acts-tail, acts-length, acts-refused, wrote-front, reading-acts, writing-acts, writing-numbers}
+use Rattle.dimacs.specs.Convert.{converted, declined, to-encoded, to-text}
+use Rattle.dimacs.proofs.ActLaws.{acts-tail, acts-length, acts-refused, converted-front, reading-acts, writing-acts, writing-numbers}
 use Rattle.dimacs.proofs.LineLaws.{text-short, text-refused}
 use Rattle.dimacs.proofs.PlaceLaws.{text-place}
 use Rattle.dimacs.proofs.ReadLaws.{encoded-short}
@@ -30,7 +30,8 @@ use Rattle.dimacs.proofs.TableLaws.{text-sized, text-read-only, text-re
 
 -- ---- which texts are read
 
--- S15.4: a text is read as n variables and the clauses cs exactly if all its words are taken up to them
+-- S15.4: a text is read as n variables and the clauses cs exactly if its p line and all its words are taken, no clause is open then, and
+-- there are as many as the p line says
 pub read-only : (t : List ℕ) (n : ℕ) (cs : List (List Literal)) → read-text t ≡ readable n cs → TextRead t n cs
 read-only = text-read-only
 
@@ -53,6 +54,12 @@ read-numbers t r e = text-numbers (text-refused-only t r e)
 pub read-fits : (t : List ℕ) (n : ℕ) (cs : List (List Literal)) → read-text t ≡ readable n cs → Sized n cs × (decode (formula-bytes n cs) ≡ readable n cs)
 read-fits t n cs e = let z = text-sized t n cs e in (z, accepted-all (formula-bytes n cs) n cs (sized-encoded z))
 
+-- and so are the bytes that the act read leaves
+pub read-readable : (t b : List ℕ) (n : ℕ) (cs : List (List Literal)) → read-text t ≡ readable n cs → max-bytes ≤ length b
+    → (let r = to-encoded t b in (r ≡ converted (formula-bytes n cs) b) × (decode (take (r .answer .count) (r .buffer)) ≡ readable n cs))
+unfolding to-encoded
+read-readable t b n cs e h = rw (le-ltb (length b) max-bytes h, e, converted-front (formula-bytes n cs) b) (refl, read-fits t n cs e .1)
+
 -- ---- written and read again
 
 -- S16.1: the text of a readable input is read as the formula that the input is read as
@@ -65,12 +72,12 @@ pub round-trip : (s b b′ : List ℕ) (n : ℕ) (cs : List (List Literal)) → 
     → (let w = to-text s b in
     let t = take (w .answer .count) (w .buffer) in
     let r = to-encoded t b′ in
-    (w ≡ wrote (text-of n cs) b) × (r ≡ wrote (formula-bytes n cs) b′) × (decode (take (r .answer .count) (r .buffer)) ≡ readable n cs))
+    (w ≡ converted (text-of n cs) b) × (r ≡ converted (formula-bytes n cs) b′) × (decode (take (r .answer .count) (r .buffer)) ≡ readable n cs))
 unfolding to-text to-encoded
 round-trip s b b′ n cs e h k =
     let z = accepted-fits s n cs e in
     let d = accepted-all (formula-bytes n cs) n cs (sized-encoded z) in
-    rw (le-ltb (length b) text-room h, e, wrote-front (text-of n cs) b, le-ltb (length b′) max-bytes k, text-read z, wrote-front (formula-bytes n cs) b′) (refl, refl, d)
+    rw (le-ltb (length b) text-room h, e, converted-front (text-of n cs) b, le-ltb (length b′) max-bytes k, text-read z, converted-front (formula-bytes n cs) b′) (refl, refl, d)
 
 -- ---- how long what is written can be
 
@@ -78,8 +85,8 @@ round-trip s b b′ n cs e h k =
 pub text-most : (s : List ℕ) (n : ℕ) (cs : List (List Literal)) → decode s ≡ readable n cs → length (text-of n cs) ≤ 17772
 text-most s n cs e = text-le (accepted-fits s n cs e)
 
-pub text-longest : (cs : List (List Literal)) × Sized max-variables cs × (length (text-of max-variables cs) ≡ 17772)
-text-longest = (longest, longest-sized, longest-length)
+pub text-longest : (s : List ℕ) × (cs : List (List Literal)) × (decode s ≡ readable max-variables cs) × (length (text-of max-variables cs) ≡ 17772)
+text-longest = (formula-bytes max-variables longest, longest, accepted-all (formula-bytes max-variables longest) max-variables longest (sized-encoded longest-sized), longest-length)
 
 -- and what is written of a text never more than 9,315
 pub encoded-most : (t : List ℕ) (n : ℕ) (cs : List (List Literal)) → read-text t ≡ readable n cs → length (formula-bytes n cs) ≤ max-bytes
@@ -97,6 +104,11 @@ read-short = encoded-short
 
 pub write-short : (s b : List ℕ) → length b < text-room → to-text s b ≡ declined (ShortBuffer 0) b
 write-short = text-short
+
+-- S15.5: in another, reading refuses as the text is refused
+pub read-refused : (t b : List ℕ) (r : Refusal) → max-bytes ≤ length b → read-text t ≡ refused r → to-encoded t b ≡ declined r b
+unfolding to-encoded
+read-refused t b r h e = rw (le-ltb (length b) max-bytes h, e)
 
 -- S16.3: writing refuses an input as the reader does, by 2 to 9
 pub write-refused : (s b : List ℕ) (r : Refusal) → text-room ≤ length b → decode s ≡ refused r → to-text s b ≡ declined r b

@@ -14,32 +14,32 @@ use Rattle.dimacs.specs.declared.reader.Event.{Event}
 use Rattle.dimacs.specs.declared.reader.Event.the-variants.{Next, Stopped}
 use Rattle.dimacs.specs.declared.scan.Token as held
 use Rattle.dimacs.specs.declared.scan.Token.the-variants.{Ends, Literal, Bad}
-use Rattle.dimacs.specs.Text.{Piece, ends-line, others, all-words, comment, run, value, Token, ends, names-variable, bad, minus-sign, signed, unsigned, token, Progress, Step, next, stop, take-literal, take-token, take-word, take-words}
+use Rattle.dimacs.specs.Text.{Piece, ends-line, others, all-words, comment, run, value, Token, ends, names-variable, bad, minus-sign, signed, unsigned, token, Progress, Taking, next, stop, take-literal, take-token, take-word, take-words}
 use Rattle.dimacs.specs.InnerScan.{until, lines-from, words-at, cap, capped, token-held}
 use Rattle.dimacs.specs.InnerReader.{other-words, words-behind, Keeps, Ready, Stepped}
 use Rattle.dimacs.proofs.ScanLaws.{capped-low, capped-high}
 use Rattle.dimacs.proofs.KeepLaws.{has-variables}
-use Rattle.dimacs.proofs.TakeLaws.{take-words-append}
+use Rattle.dimacs.proofs.TakeLaws.{behind, take-words-append}
 use Rattle.dimacs.proofs.TextLaws.{end-of, behind-end, behind-more, others-comment, others-first}
 
 -- ---- what an event says of a step
 
-pub record Stands (n : ℕ) (t : Step) (r : Reader) (b : List ℕ) : Type 0 where
+pub record Stands (n : ℕ) (t : Taking) (r : Reader) (b : List ℕ) : Type 0 where
   pub progress : Progress
   pub taken : t ≡ next progress
   pub keeps : Keeps n progress r b
 
-pub stepped-next : (n : ℕ) (b : List ℕ) (t : Step) (e : Event) (r : Reader) → e ≡ Next r → Stepped n b t e → Stands n t r b
+pub stepped-next : (n : ℕ) (b : List ℕ) (t : Taking) (e : Event) (r : Reader) → e ≡ Next r → Stepped n b t e → Stands n t r b
 stepped-next n b t e r q h = go t (subst (Stepped n b t) q h)
   where
-    go : (t : Step) → Stepped n b t (Next r) → Stands n t r b
+    go : (t : Taking) → Stepped n b t (Next r) → Stands n t r b
     go (next s) k = record { progress = s; taken = refl; keeps = k }
     go (stop x) k = absurd k
 
-pub stepped-stop : (n : ℕ) (b : List ℕ) (t : Step) (e : Event) (x : Refusal) → e ≡ Stopped x → Stepped n b t e → t ≡ stop x
+pub stepped-stop : (n : ℕ) (b : List ℕ) (t : Taking) (e : Event) (x : Refusal) → e ≡ Stopped x → Stepped n b t e → t ≡ stop x
 stepped-stop n b t e x q h = go t (subst (Stepped n b t) q h)
   where
-    go : (t : Step) → Stepped n b t (Stopped x) → t ≡ stop x
+    go : (t : Taking) → Stepped n b t (Stopped x) → t ≡ stop x
     go (next s) k = absurd k
     go (stop y) k = ap stop (sym k)
 
@@ -51,7 +51,7 @@ pub keeps-ready : {n : ℕ} {s : Progress} {r : Reader} {b : List ℕ} → Keeps
 keeps-ready {s = s} k = record { progress = s; keeps = own k }
 
 -- from where it stands
-pub keeps-step : {n : ℕ} {s : Progress} {r : Reader} {b : List ℕ} → Keeps n s r b → (c : List ℕ) (e : Event) (F : ℕ → Progress → Step)
+pub keeps-step : {n : ℕ} {s : Progress} {r : Reader} {b : List ℕ} → Keeps n s r b → (c : List ℕ) (e : Event) (F : ℕ → Progress → Taking)
     → ((p : Progress) → Keeps (r .variables) p r b → Stepped (r .variables) c (F (r .variables) p) e) → Stepped n c (F n s) e
 keeps-step {s = s} k c e F h = subst (λ (m : ℕ). Stepped m c (F m s) e) (has-variables k) (h s (own k))
 
@@ -73,12 +73,12 @@ module _ {n : ℕ} {ws : List Piece} {s : Progress} where
 
   module _ {rest : List Piece} {r : Reader} {b : List ℕ} (g : Goes n ws s rest r b) where
     module _ (us vs : List Piece) (parts : rest ≡ us ++ vs) (c : List ℕ) (e : Event) (h : Stepped n c (take-words n us (g .progress)) e) where
-      both : (t : Step) → take-words n us (g .progress) ≡ t → take-words n ws s ≡ (elim t [ next s′ ↦ take-words n vs s′ | stop y ↦ stop y ])
+      both : (t : Taking) → take-words n us (g .progress) ≡ t → take-words n ws s ≡ behind n vs t
       both t q =
           g .same
           ∙ ap (λ (ps : List Piece). take-words n ps (g .progress)) parts
           ∙ take-words-append n us vs (g .progress)
-          ∙ ap (λ (x : Step). elim x [ next s′ ↦ take-words n vs s′ | stop y ↦ stop y ]) q
+          ∙ ap (behind n vs) q
 
       -- the words us are taken, and vs are left
       pub goes-next : (x : Reader) → e ≡ Next x → Goes n ws s vs x c
@@ -102,12 +102,12 @@ take-one : (n : ℕ) (w : Piece) (s : Progress) → take-words n (w ∷ []) s �
 unfolding take-words
 take-one n w s = go (take-word n w s)
   where
-    go : (t : Step) → (elim t [ next s′ ↦ take-words n [] s′ | stop r ↦ stop r ]) ≡ t
+    go : (t : Taking) → (elim t [ next s′ ↦ take-words n [] s′ | stop r ↦ stop r ]) ≡ t
     go (next s′) = refl
     go (stop r) = refl
 
 pub one-step : (n : ℕ) (b : List ℕ) (e : Event) (s : Progress) (w : Piece) → Stepped n b (take-word n w s) e → Stepped n b (take-words n (w ∷ []) s) e
-one-step n b e s w = subst (λ (t : Step). Stepped n b t e) (sym (take-one n w s))
+one-step n b e s w = subst (λ (t : Taking). Stepped n b t e) (sym (take-one n w s))
 
 -- ---- lines in turn
 
@@ -204,7 +204,7 @@ literal-capped n at s sign k h = go (ltb k cap) refl
 pub word-literal : (n : ℕ) (b : List ℕ) (at : ℕ) (s : Progress) (w : List ℕ) (sign : Bool) (k : ℕ) (e : Event) → n ≤ max-variables → Named (token w) sign k
     → Stepped n b (take-literal n at s sign k) e → Stepped n b (take-word n (record { at = at; bytes = w }) s) e
 word-literal n b at s w sign k e most h =
-    subst (λ (t : Step). Stepped n b t e)
+    subst (λ (t : Taking). Stepped n b t e)
     (ap (take-literal n at s sign) (sym (h .cut)) ∙ literal-capped n at s sign (h .number) most ∙ ap (take-token n at s) (sym (h .is)))
 
 -- and its number is not zero

@@ -9,14 +9,13 @@ use lib.Dec.{eqb}
 use lib.ListN.{length, take, drop, length-append}
 use lib.Seq.{take-append-seam}
 use Rattle.limits.specs.Limits.{max-variables, max-clauses}
-use Rattle.lists.proofs.EveryLaws.{every-append}
 use Rattle.lists.proofs.TestLaws.{bool-clash}
 use Rattle.masks.specs.Mask.{bit}
 use Rattle.writing.specs.Placed.{Wrote}
 use Rattle.writing.proofs.PlacedLaws.{wrote-length, wrote-more}
 use Rattle.formula.specs.declared.Refusal.{Refusal}
 use Rattle.formula.specs.declared.Refusal.the-variants.{Truncated, NoSuchVariable, ComplementaryLiteral, TooManyClauses, ClauseCountDiffers}
-use Rattle.formula.specs.Format.{Literal, literal-bytes, literals-bytes, clause-bytes, clauses-bytes, formula-bytes, names, names-as, distinct, has-complement, add, ClauseOver, Sized}
+use Rattle.formula.specs.Format.{Literal, literal-bytes, literals-bytes, clause-bytes, clauses-bytes, formula-bytes, names, names-as, has-complement, add, ClauseOver, Sized}
 use Rattle.formula.specs.Table.{written}
 use Rattle.formula.specs.InnerDecode.{none-yet}
 use Rattle.formula.specs.declared.Clause.{Clause}
@@ -24,6 +23,7 @@ use Rattle.formula.specs.InnerFits.{side, clause-variables}
 use Rattle.formula.specs.InnerMasked.{no-clause, with-literal, with-literals, clause-of}
 use Rattle.formula.proofs.ClauseLaws.{with-literals-last, clause-side, clause-names, clause-empty}
 use Rattle.formula.proofs.FormatLaws.{literals-append, clauses-append, clause-more}
+use Rattle.formula.proofs.RepeatLaws.{over-none, sized-more}
 use Rattle.formula.proofs.LengthLaws.{clause-le, clauses-le, literals-length}
 use Rattle.dimacs.proofs.ScanLaws.{capped-low, capped-back}
 use Rattle.dimacs.specs.declared.reader.Reader.{Reader}
@@ -73,21 +73,6 @@ kept-end n s = rw (clauses-append (s .ended) (s .current ∷ []), append-nil, ap
 pub kept-all : (n : ℕ) (s : Progress) → s .current ≡ [] → formula-bytes n (s .ended) ≡ kept-bytes n s ++ (5 ∷ [])
 unfolding formula-bytes literals-bytes
 kept-all n s h = rw (h, append-nil (clauses-bytes (s .ended)))
-
--- a clause without literals
-pub over-none : {n : ℕ} → ClauseOver n []
-unfolding distinct
-over-none = record { below = tt; once = refl }
-
--- one clause more, where there are fewer than 96
-pub sized-more : {n : ℕ} {cs : List (List Literal)} {c : List Literal} → Sized n cs → ClauseOver n c → length cs < max-clauses → Sized n (cs ++ (c ∷ []))
-sized-more {n} {cs} {c} z o h =
-    record {
-      some = z .some;
-      most = z .most;
-      few = omega (arith, length-append cs (c ∷ []));
-      clauses = every-append (ClauseOver n) cs (c ∷ []) (z .clauses) (o, tt);
-    }
 
 -- ---- what a reader has
 

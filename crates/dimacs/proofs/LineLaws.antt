@@ -11,7 +11,6 @@ use lib.Seq.{append-snoc, drop-cons}
 use Rattle.limits.specs.Limits.{max-variables}
 use Rattle.lists.specs.Every.{Every}
 use Rattle.lists.proofs.DropLaws.{drop-next}
-use Rattle.lists.proofs.EveryLaws.{every-element, every-of}
 use Rattle.lists.proofs.TestLaws.{eqb-comm}
 use Rattle.masks.specs.Mask.{with}
 use Rattle.masks.proofs.BitLaws.{bit-with}
@@ -26,15 +25,16 @@ use Rattle.formula.specs.InnerDecode.{decode}
 use Rattle.formula.specs.declared.Refusal.{Refusal}
 use Rattle.formula.specs.declared.Refusal.the-variants.{ShortBuffer}
 use Rattle.formula.specs.Masked.{variables}
+use Rattle.formula.proofs.RepeatLaws.{over-most}
 use Rattle.formula.proofs.ClauseLaws.{variables-bit}
 use Rattle.formula.proofs.Demands.{accepted-only}
 use Rattle.formula.proofs.FormatLaws.{names-append}
 use Rattle.dimacs.specs.declared.answers.Converted.the-variants.{Written}
-use Rattle.dimacs.specs.declared.writer.Place.{Place}
+use Rattle.dimacs.specs.declared.writer.Offsets.{Offsets}
 use Rattle.dimacs.specs.Text.{minus-sign}
 use Rattle.dimacs.specs.Written.{literal-word, clause-line, clause-lines, opening-line, text-of, text-room}
 use Rattle.dimacs.specs.Convert.{converted-values, declined, to-text}
-use Rattle.dimacs.specs.InnerWriter.{sign-bytes, literal-text, literal-once, line-rest, ClauseAt, AfterClause, Printable, Lined, Readable}
+use Rattle.dimacs.specs.InnerWriter.{sign-bytes, literal-text, literal-once, line-rest, ClauseAt, AfterClause, ClausesAt, Lined, Readable}
 
 -- ---- the line of a clause
 
@@ -293,7 +293,7 @@ module _ {s rest : List ℕ} {ws : List (List Literal)} {at : ℕ} {before now :
       }
 
   -- a line more
-  pub listing-more : (now′ : List ℕ) (p : Place) → 0 < more → at ≤ length before → AfterClause s from now next now′ p
+  pub listing-more : (now′ : List ℕ) (p : Offsets) → 0 < more → at ≤ length before → AfterClause s from now next now′ p
       → Listing s rest ws at before now′ (p .from) (p .at) (more - 1)
   listing-more now′ p h l f =
       let a = some (g .left) (omega (arith, g .many)) in
@@ -319,15 +319,6 @@ module _ {s rest : List ℕ} {ws : List (List Literal)} {at : ℕ} {before now :
       go (w ∷ left) n e = absurd (omega arith)
 
 -- ---- the whole text
-
--- literals over n variables are over the most
-pub below-most : {n : ℕ} (c : List Literal) → n ≤ max-variables → Every (λ l. l .variable < n) c → Every (λ l. l .variable < max-variables) c
-below-most {n} c h o = every-of (λ l. l .variable < max-variables) c (λ l m. let b = every-element (λ l. l .variable < n) c l o m in omega arith)
-
--- and so are written clauses
-over-most : {n : ℕ} (ws : List (List Literal)) → n ≤ max-variables → Every (WrittenOver n) ws → Every (WrittenOver max-variables) ws
-over-most {n} ws h o =
-    every-of (WrittenOver max-variables) ws (λ w m. let p = every-element (WrittenOver n) ws w o m in record { below = below-most w h (p .below); one-way = p .one-way })
 
 module _ {s : List ℕ} {n : ℕ} {cs : List (List Literal)} (e : Encodes s n cs) where
   -- the written clauses of a readable input stand behind kind 1
@@ -356,8 +347,8 @@ opening-room {s} {b} {n} {m} r =
 
 module _ {s b c : List ℕ} {n m p : ℕ} (r : Readable s n m b) (o : Wrote (opening-line n m) 0 b c p) where
   -- and behind it for the others
-  pub readable-printable : Printable s m c p
-  readable-printable =
+  pub readable-clauses : ClausesAt s m c p
+  readable-clauses =
       let e = accepted-only s n (r .clauses) (r .reads) in
       record {
         clauses = e .written;

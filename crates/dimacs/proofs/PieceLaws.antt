@@ -1,14 +1,14 @@
 -- Laws of a text that is parted: the first piece, and the rest.
-use Prim.Native.Nat.{ℕ, suc, _+_, _≤_, compare·suc-suc}
+use Prim.Native.Nat.{ℕ, suc, _+_, _≤_, _<_, compare·suc-suc}
 use mathlib.Core.Bool.{Bool, true, false, cond}
 use mathlib.Core.List.{List, [], _∷_, _++_, append-nil}
 use mathlib.Core.Path.{_≡_, refl, ap, _∙_}
 use native.Mathlib.Omega.{arith}
-use borrow.Author.Tests.{lt-ltb}
-use lib.Dec.{ltb, isLe}
+use borrow.Author.Tests.{lt-ltb, eqb-true}
+use lib.Dec.{eqb, ltb, isLe}
 use lib.ListN.{length, take, drop, length-append}
 use lib.Seq.{append-snoc}
-use Rattle.dimacs.specs.Text.{Piece, pieces}
+use Rattle.dimacs.specs.Text.{Piece, pieces, non-empty}
 use Rattle.dimacs.specs.InnerScan.{until}
 
 module _ (test : ℕ → Bool) where
@@ -51,3 +51,12 @@ module _ (test : ℕ → Bool) where
 
   pub pieces-until : (at : ℕ) (s : List ℕ) → pieces test at [] s ≡ record { at = at; bytes = take (until test s) s } ∷ rest-pieces at s (until test s)
   pieces-until at s = let e : at + 0 ≡ at = omega arith in rw e at (begun-until at [] s)
+
+-- a piece with a byte is kept
+pub kept-piece : (p : Piece) (ps : List Piece) → 0 < length (p .bytes) → non-empty (p ∷ ps) ≡ p ∷ non-empty ps
+unfolding non-empty
+kept-piece p ps h = go (eqb (length (p .bytes)) 0) refl
+  where
+    go : (b : Bool) → eqb (length (p .bytes)) 0 ≡ b → (elim b [ true ↦ non-empty ps | false ↦ p ∷ non-empty ps ]) ≡ p ∷ non-empty ps
+    go true e = absurd (omega (arith, eqb-true (length (p .bytes)) 0 e))
+    go false e = refl

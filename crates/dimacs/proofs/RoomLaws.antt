@@ -16,11 +16,12 @@ use Rattle.writing.proofs.LineLaws.{numbers-length}
 use Rattle.formula.specs.declared.Formula.{Formula}
 use Rattle.formula.specs.Format.{Literal, names, distinct, ClauseOver, Sized}
 use Rattle.formula.proofs.FormatLaws.{distinct-rest}
+use Rattle.formula.proofs.RepeatLaws.{below-most}
 use Rattle.formula.proofs.LengthLaws.{clause-le}
 use Rattle.formula.proofs.MaskedLaws.{Accepts}
 use Rattle.dimacs.specs.Written.{clause-line, clause-lines, opening-line, text-of, max-opening, text-room}
 use Rattle.dimacs.specs.InnerWriter.{sign-bytes, literal-text, Readable}
-use Rattle.dimacs.proofs.LineLaws.{text-sum, literals-text, line-texts, below-most}
+use Rattle.dimacs.proofs.LineLaws.{text-sum, literals-text, line-texts}
 
 -- variables below this are written with one digit, and the others with two
 abbrev one-digit : ℕ

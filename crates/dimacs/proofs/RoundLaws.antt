@@ -15,10 +15,10 @@ use Rattle.formula.specs.Decoding.{readable}
 use Rattle.formula.proofs.ClauseLaws.{one-way-distinct}
 use Rattle.formula.proofs.FormatLaws.{distinct-fresh}
 use Rattle.formula.proofs.RepeatLaws.{complement-absent}
-use Rattle.dimacs.specs.Text.{Piece, pieces, ends-line, non-empty, others, all-words, token, Progress, Step, next, stop, take-literal, take-token, take-words, p-word, cnf-word, opening, p-line, same, by-opening, by-lines, read-text}
+use Rattle.dimacs.specs.Text.{Piece, pieces, ends-line, non-empty, others, all-words, token, Progress, next, take-literal, take-token, take-words, p-word, cnf-word, opening, p-line, same, by-opening, by-lines, read-text}
 use Rattle.dimacs.specs.InnerScan.{words-at}
 use Rattle.dimacs.specs.Written.{literal-word, clause-line, clause-lines, text-of}
-use Rattle.dimacs.proofs.TakeLaws.{take-words-append, take-words-first}
+use Rattle.dimacs.proofs.TakeLaws.{behind, take-words-append, take-words-first}
 use Rattle.dimacs.proofs.WrittenLaws.{Word, joined, placed, words-joined, decimal-run, decimal-value, decimal-word, token-literal, token-end, clause-words, clause-each-word, clause-no-comment, others-line}
 
 -- ---- a clause
@@ -75,7 +75,7 @@ take-lines n at ds (c ∷ cs) h k =
     let s : Progress = record { ended = ds; current = [] } in
     ap (λ (us : List Piece). take-words n us s) (line-words at c (clause-lines cs))
     ∙ take-words-append n (placed at (clause-words c)) vs s
-    ∙ ap (λ (t : Step). elim t [ next s′ ↦ take-words n vs s′ | stop r ↦ stop r ]) (take-clause n at ds [] c (h .0 .below) (h .0 .once) (omega arith))
+    ∙ ap (behind n vs) (take-clause n at ds [] c (h .0 .below) (h .0 .once) (omega arith))
     ∙ take-lines n (behind-line at c) (ds ++ (c ∷ [])) cs (h .1) (omega (arith, length-append ds (c ∷ [])))
     ∙ rw append-snoc
 

@@ -1,5 +1,5 @@
 -- The table of a text's refusals: it holds of what reading gives, and of nothing else.
-use Prim.Native.Nat.{ℕ, suc, _-_, _<_, _≤_}
+use Prim.Native.Nat.{ℕ, suc, _-_, _≤_}
 use mathlib.Core.Bool.{Bool, true, false, cond, _&&_, and-false}
 use mathlib.Core.List.{List, [], _∷_, _++_}
 use mathlib.Core.Logic.{_⊎_, inl, inr}
@@ -12,15 +12,14 @@ use lib.Seq.{append-snoc}
 use Rattle.limits.specs.Limits.{max-variables, max-clauses}
 use Rattle.formula.specs.declared.Refusal.{Refusal}
 use Rattle.formula.specs.declared.Refusal.the-variants.{Truncated, BadVariableCount, NoSuchVariable, ComplementaryLiteral, TooManyClauses, ClauseCountDiffers}
-use Rattle.formula.specs.Format.{Literal, names, has-complement, add, ClauseOver, Sized}
+use Rattle.formula.specs.Format.{Literal, has-complement, add, ClauseOver, Sized}
 use Rattle.formula.specs.Decoding.{Decoding, readable, refused}
 use Rattle.formula.specs.Refusals.{table-row}
-use Rattle.formula.proofs.FormatLaws.{clause-more}
-use Rattle.dimacs.specs.Text.{Piece, lines, words, others, all-words, value, Token, ends, names-variable, bad, token, Progress, progress-start, Step, next, stop, take-literal, take-end, take-token, take-word, take-words, Opening, p-line, other-line, opening, closing, by-opening, by-lines, read-text}
+use Rattle.formula.proofs.RepeatLaws.{over-none, add-over, sized-more}
+use Rattle.dimacs.specs.Text.{Piece, lines, words, others, all-words, value, Token, ends, names-variable, bad, token, Progress, progress-start, Taking, next, stop, take-literal, take-end, take-token, take-word, take-words, Opening, p-line, other-line, opening, closing, by-opening, by-lines, read-text}
 use Rattle.dimacs.specs.TextTable.{Opens, ComesTo, TakesAll, TextRead, TextRefused, no-line, no-p-line, count-bad, word-bad, variable-unknown, literal-complementary, clause-extra, clause-open, count-differs}
 use Rattle.dimacs.proofs.GoesLaws.{token-some}
-use Rattle.dimacs.proofs.KeepLaws.{over-none, sized-more}
-use Rattle.dimacs.proofs.TakeLaws.{take-words-append, take-words-first}
+use Rattle.dimacs.proofs.TakeLaws.{behind, take-words-append, take-words-first}
 
 -- ---- what is read so far
 
@@ -29,19 +28,10 @@ record Within (n : ℕ) (s : Progress) : Type 0 where
   sized : Sized n (s .ended)
   over : ClauseOver n (s .current)
 
--- a clause over n variables with a literal added is such a clause
-add-over : {n : ℕ} {c : List Literal} (l : Literal) → ClauseOver n c → l .variable < n → ClauseOver n (add c l)
-unfolding add
-add-over {n} {c} l o h = go (names c (l .variable)) refl
-  where
-    go : (b : Bool) → names c (l .variable) ≡ b → ClauseOver n (cond b c (c ++ (l ∷ [])))
-    go true e = o
-    go false e = clause-more l o h e
-
 -- ---- words
 
 -- what the step of a word says: what is read then keeps to the limits, or the text is refused so by the table
-abbrev StepMeans : List ℕ → ℕ → Step → Type 0
+abbrev StepMeans : List ℕ → ℕ → Taking → Type 0
 StepMeans t n (next s) = Within n s
 StepMeans t n (stop r) = TextRefused t r
 
@@ -93,8 +83,8 @@ words-means {t} {n} {d} us (w ∷ ws) s o e k =
     go (λ s′. words-means {d = d} (us ++ (w ∷ [])) ws s′ (rw append-snoc o)) (take-word n w s) refl
     (word-means (record { fourth = d; before = us; after = ws; opens = o; taken = e }) k)
   where
-    go : ((s′ : Progress) → take-words n (us ++ (w ∷ [])) progress-start ≡ next s′ → Within n s′ → StepMeans t n (take-words n ws s′)) → (x : Step)
-        → take-word n w s ≡ x → StepMeans t n x → StepMeans t n (elim x [ next s′ ↦ take-words n ws s′ | stop r ↦ stop r ])
+    go : ((s′ : Progress) → take-words n (us ++ (w ∷ [])) progress-start ≡ next s′ → Within n s′ → StepMeans t n (take-words n ws s′)) → (x : Taking)
+        → take-word n w s ≡ x → StepMeans t n x → StepMeans t n (behind n ws x)
     go again (next s′) q h = again s′ (taken-more n us w s s′ e q) h
     go again (stop r) q h = h
 
@@ -115,7 +105,7 @@ TextMeans t (readable n cs) = TextRead t n cs
 TextMeans t (refused r) = TextRefused t r
 
 -- the result behind the last word says what the text is
-closing-means : {t : List ℕ} {n : ℕ} {d : Piece} {ws : List Piece} → Opens t n d ws → (x : Step) → take-words n ws progress-start ≡ x → StepMeans t n x
+closing-means : {t : List ℕ} {n : ℕ} {d : Piece} {ws : List Piece} → Opens t n d ws → (x : Taking) → take-words n ws progress-start ≡ x → StepMeans t n x
     → TextMeans t (closing (length t) n d x)
 closing-means o (stop r) e h = h
 closing-means {t} {n} {d} {ws} o (next s) e h = go (s .current) refl (eqb (length (s .ended)) (value (d .bytes))) refl
@@ -125,7 +115,7 @@ closing-means {t} {n} {d} {ws} o (next s) e h = go (s .current) refl (eqb (lengt
 
     go : (c : List Literal) → s .current ≡ c → (b : Bool) → eqb (length (s .ended)) (value (d .bytes)) ≡ b
         → TextMeans t (cond (eqb (length c) 0) (cond b (readable n (s .ended)) (refused (ClauseCountDiffers (d .at)))) (refused (Truncated (length t))))
-    go [] q true f = record { fourth = d; passes = passes [] q; count = eqb-true (length (s .ended)) (value (d .bytes)) f }
+    go [] q true f = record { fourth = d; passes = passes [] q; clauses = eqb-true (length (s .ended)) (value (d .bytes)) f }
     go [] q false f = count-differs n d (record { ended = s .ended; current = [] }) (passes [] q) refl (eqb-false (length (s .ended)) (value (d .bytes)) f)
     go (l ∷ c) q b f =
         rw (ne-eqb (suc (length c)) 0 (λ z. absurd (omega arith)))
@@ -145,7 +135,7 @@ opening-means t l ls e = go (opening (words l)) refl
           third = c;
           first = e;
           is-p-line = q;
-          count = refl;
+          variables = refl;
           some = ltb-true 0 (value (c .bytes)) f;
           most = leb-true (value (c .bytes)) max-variables g;
           follow = refl;
@@ -187,7 +177,7 @@ text-sized t n cs e =
 -- a text that opens with a p line of 1 to 48 variables is read by its words
 opens-read : {t : List ℕ} {n : ℕ} {d : Piece} {ws : List Piece} → Opens t n d ws → read-text t ≡ closing (length t) n d (take-words n ws progress-start)
 unfolding read-text
-opens-read o = rw (o .first, o .is-p-line, ← o .count, lt-ltb 0 _ (o .some), le-leb _ max-variables (o .most), o .follow)
+opens-read o = rw (o .first, o .is-p-line, ← o .variables, lt-ltb 0 _ (o .some), le-leb _ max-variables (o .most), o .follow)
 
 -- a word that is reached and refused refuses the text
 comes-to-read : {t : List ℕ} {n : ℕ} {w : Piece} {s : Progress} {r : Refusal} → ComesTo t n w s → take-word n w s ≡ stop r → read-text t ≡ refused r
@@ -200,7 +190,7 @@ takes-all-read p = opens-read (p .opens) ∙ rw (p .taken)
 
 -- S15.4: every such text is read, as these clauses
 pub text-read-all : (t : List ℕ) (n : ℕ) (cs : List (List Literal)) → TextRead t n cs → read-text t ≡ readable n cs
-text-read-all t n cs h = takes-all-read (h .passes) ∙ rw (eq-eqb (length cs) (value (h .fourth .bytes)) (h .count))
+text-read-all t n cs h = takes-all-read (h .passes) ∙ rw (eq-eqb (length cs) (value (h .fourth .bytes)) (h .clauses))
 
 -- S15.4: a refusal is given wherever its row of the table applies
 pub text-refused-all : (t : List ℕ) (r : Refusal) → TextRefused t r → read-text t ≡ refused r

@@ -12,7 +12,7 @@ use Rattle.lists.proofs.TestLaws.{bool-clash}
 use Rattle.dimacs.specs.Text.{Piece, pieces, ends-line, lines, parts-words, non-empty, comment, others, opening, by-lines, read-text}
 use Rattle.dimacs.specs.InnerScan.{until, in-word, lines-from, words-at, words-from, OpensAt}
 use Rattle.dimacs.specs.InnerReader.{line-at, lines-behind}
-use Rattle.dimacs.proofs.PieceLaws.{until-le, rest-pieces, pieces-until}
+use Rattle.dimacs.proofs.PieceLaws.{until-le, rest-pieces, pieces-until, kept-piece}
 
 -- ---- lines
 
@@ -168,15 +168,6 @@ rest-words at s k e = go (ltb k (length s)) refl
         let p : parts-words (getD s k 0) ≡ true = rw e at (until-stops parts-words s (rw e l)) in
         sym (ap (words-at (at + k)) (drop-cons s k 0 l) ∙ words-part (at + k) (getD s k 0) (drop (suc k) s) p)
     go false q = sym (ap (words-at (at + k)) (drop-of-length-le s (ltb-false k (length s) q)) ∙ words-none (at + k))
-
--- a piece with a byte is kept
-kept-piece : (p : Piece) (ps : List Piece) → 0 < length (p .bytes) → non-empty (p ∷ ps) ≡ p ∷ non-empty ps
-unfolding non-empty
-kept-piece p ps h = go (eqb (length (p .bytes)) 0) refl
-  where
-    go : (b : Bool) → eqb (length (p .bytes)) 0 ≡ b → (elim b [ true ↦ non-empty ps | false ↦ p ∷ non-empty ps ]) ≡ p ∷ non-empty ps
-    go true e = absurd (omega (arith, eqb-true (length (p .bytes)) 0 e))
-    go false e = refl
 
 -- a word at the front, and those behind it
 words-word : (at : ℕ) (s : List ℕ) → 0 < until parts-words s

@@ -3,7 +3,6 @@ use Prim.Native.Nat.{ℕ, suc, _+_, _*_, _-_, _≤_, _<_}
 use mathlib.Core.Bool.{Bool, true, false, _||_}
 use mathlib.Core.List.{List, [], _∷_, _++_, map, append-assoc, append-nil}
 use mathlib.Core.Path.{_≡_, refl, ap, _∙_}
-use native.Mathlib.Decide.{decLt}
 use native.Mathlib.Numerals.{add-one}
 use native.Mathlib.Omega.{arith}
 use borrow.Author.Tests.{lt-ltb, le-ltb, le-leb, ne-eqb}
@@ -14,12 +13,12 @@ use Rattle.lists.specs.Every.{Every}
 use Rattle.lists.proofs.EveryLaws.{every-append}
 use Rattle.lists.proofs.TestLaws.{or-none}
 use Rattle.writing.specs.Text.{digit-zero, line-feed, blank, decimal, line-of}
-use Rattle.writing.proofs.DecimalLaws.{told, decimal-told, decimal-one, more-length, IsDigit, decimal-digits}
+use Rattle.writing.proofs.DecimalLaws.{told, decimal-told, IsDigit, decimal-digits, decimal-some}
 use Rattle.formula.specs.Format.{Literal}
 use Rattle.dimacs.specs.Text.{Piece, pieces, ends-line, parts-words, non-empty, comment, others, all-digits, run, value-from, value, ends, names-variable, minus-sign, unsigned, token}
 use Rattle.dimacs.specs.Written.{literal-word}
 use Rattle.dimacs.specs.InnerScan.{until, words-at}
-use Rattle.dimacs.proofs.PieceLaws.{pieces-until}
+use Rattle.dimacs.proofs.PieceLaws.{pieces-until, kept-piece}
 
 -- ---- the first piece of a text
 
@@ -96,30 +95,17 @@ line-first : (at : ℕ) (ws : List (List ℕ)) (s : List ℕ) → Every Word ws
     → pieces ends-line at [] (line-of ws ++ s) ≡ record { at = at; bytes = joined ws } ∷ pieces ends-line (at + length (joined ws) + 1) [] s
 line-first at ws s h = rw (line-joined ws, append-snoc) (pieces-part ends-line at (joined ws) line-feed s (joined-whole ws h) refl)
 
--- a word is not empty
-non-empty-word : (at : ℕ) (w : List ℕ) (ps : List Piece) → Word w → non-empty (record { at = at; bytes = w } ∷ ps) ≡ record { at = at; bytes = w } ∷ non-empty ps
-unfolding non-empty
-non-empty-word at w ps h = let k = h .some in rw (ne-eqb (length w) 0 (omega arith), non-empty)
-
 -- its words are those that are written
 pub words-joined : (at : ℕ) (ws : List (List ℕ)) → Every Word ws → words-at at (joined ws) ≡ placed at ws
 unfolding non-empty pieces
 words-joined at [] h = refl
-words-joined at (w ∷ []) h = ap non-empty (pieces-last parts-words at w (h .0 .whole)) ∙ non-empty-word at w [] (h .0)
+words-joined at (w ∷ []) h = ap non-empty (pieces-last parts-words at w (h .0 .whole)) ∙ kept-piece (record { at = at; bytes = w }) [] (h .0 .some)
 words-joined at (w ∷ v ∷ ws) h =
     ap non-empty (pieces-part parts-words at w blank (joined (v ∷ ws)) (h .0 .whole) refl)
-    ∙ non-empty-word at w (pieces parts-words (at + length w + 1) [] (joined (v ∷ ws))) (h .0)
+    ∙ kept-piece (record { at = at; bytes = w }) (pieces parts-words (at + length w + 1) [] (joined (v ∷ ws))) (h .0 .some)
     ∙ ap (λ (ps : List Piece). record { at = at; bytes = w } ∷ ps) (words-joined (at + length w + 1) (v ∷ ws) (h .1))
 
 -- ---- numbers
-
--- a number has a digit
-decimal-some : (x : ℕ) → 1 ≤ length (decimal x)
-decimal-some x = go (decLt x 10)
-  where
-    go : Dec (x < 10) → 1 ≤ length (decimal x)
-    go (yes h) = rw (decimal-one x h) (omega arith)
-    go (no h) = let m : 10 ≤ x = omega arith in omega (arith, more-length x m)
 
 -- digits are a run
 digits-run : (s : List ℕ) → Every IsDigit s → all-digits s ≡ true

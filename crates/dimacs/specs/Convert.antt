@@ -32,8 +32,8 @@ pub record Conversion : Type 0 where
   pub buffer : List ℕ
 
 -- xs over the first bytes of the buffer, and how many these are
-abbrev pub wrote : List ℕ → List ℕ → Conversion
-wrote xs b = record { answer = converted-values (Written (length xs)); buffer = over xs b }
+abbrev pub converted : List ℕ → List ℕ → Conversion
+converted xs b = record { answer = converted-values (Written (length xs)); buffer = over xs b }
 
 -- a refusal leaves the buffer as it was
 abbrev pub declined : Refusal → List ℕ → Conversion
@@ -41,18 +41,18 @@ declined r b = record { answer = converted-values (Refused r); buffer = b }
 
 -- S15: the formula of a text, without repeats
 abbrev pub encoding-of : List ℕ → Decoding → Conversion
-encoding-of b (readable n cs) = wrote (formula-bytes n cs) b
+encoding-of b (readable n cs) = converted (formula-bytes n cs) b
 encoding-of b (refused r) = declined r b
 
--- the act read: the buffer has 9,315 bytes or more (else 1)
+-- the act read (request: into a sheet): the buffer has 9,315 bytes or more (else 1)
 unfoldable pub to-encoded : List ℕ → List ℕ → Conversion
 to-encoded t b = cond (ltb (length b) max-bytes) (declined (ShortBuffer 0) b) (encoding-of b (read-text t))
 
 -- S16: the text of a formula
 abbrev pub writing-of : List ℕ → Decoding → Conversion
-writing-of b (readable n cs) = wrote (text-of n cs) b
+writing-of b (readable n cs) = converted (text-of n cs) b
 writing-of b (refused r) = declined r b
 
--- the act write: the buffer has 18,636 bytes or more (else 1)
+-- the act write (request: from a sheet): the buffer has 18,636 bytes or more (else 1)
 unfoldable pub to-text : List ℕ → List ℕ → Conversion
 to-text s b = cond (ltb (length b) text-room) (declined (ShortBuffer 0) b) (writing-of b (decode s))

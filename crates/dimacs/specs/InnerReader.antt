@@ -15,7 +15,7 @@ use Rattle.dimacs.specs.declared.answers.Converted.the-variants.{Written
 use Rattle.dimacs.specs.declared.reader.Reader.{Reader}
 use Rattle.dimacs.specs.declared.reader.Event.{Event}
 use Rattle.dimacs.specs.declared.reader.Event.the-variants.{Next, Stopped}
-use Rattle.dimacs.specs.Text.{Piece, ends-line, comment, others, all-words, Progress, Step, next, stop}
+use Rattle.dimacs.specs.Text.{Piece, ends-line, comment, others, all-words, Progress, Taking, next, stop}
 use Rattle.dimacs.specs.InnerScan.{until, lines-from, words-at}
 
 -- room for the most clauses and one that has not ended
@@ -48,7 +48,7 @@ pub record Ready (r : Reader) (b : List ℕ) : Type 0 where
   pub keeps : Keeps (r .variables) progress r b
 
 -- what words give
-abbrev pub Stepped : ℕ → List ℕ → Step → Event → Type 0
+abbrev pub Stepped : ℕ → List ℕ → Taking → Event → Type 0
 Stepped n b (next s) (Next r) = Keeps n s r b
 Stepped n b (next s) (Stopped x) = ⊥
 Stepped n b (stop x) (Next r) = ⊥

@@ -1,4 +1,4 @@
--- What the scanning of a text computes; proofs/ScanLaws.antt, NumberLaws.antt and OpeningLaws.antt tie it to Text.
+-- What the scanning of a text computes; proofs/ScanLaws.antt, TextLaws.antt and OpeningLaws.antt tie it to Text.
 use Prim.Native.Nat.{ℕ, suc, _+_, _≤_}
 use mathlib.Core.Bool.{Bool, false, not, cond, _&&_}
 use mathlib.Core.List.{List, [], _∷_}

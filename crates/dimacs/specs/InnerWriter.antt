@@ -12,7 +12,7 @@ use Rattle.writing.specs.Placed.{Room, Wrote}
 use Rattle.formula.specs.Format.{Literal, clause-bytes, clauses-bytes, without-repeats, WrittenOver}
 use Rattle.formula.specs.Decoding.{readable}
 use Rattle.formula.specs.InnerDecode.{decode}
-use Rattle.dimacs.specs.declared.writer.Place.{Place}
+use Rattle.dimacs.specs.declared.writer.Offsets.{Offsets}
 use Rattle.dimacs.specs.Text.{minus-sign}
 use Rattle.dimacs.specs.Written.{clause-line, clause-lines, text-of}
 
@@ -43,13 +43,13 @@ pub record ClauseAt (s : List ℕ) (from : ℕ) (b : List ℕ) (at : ℕ) : Type
   pub room : Room at (clause-line (without-repeats clause)) b
 
 -- its line is written, and the place is behind both
-abbrev pub AfterClause : List ℕ → ℕ → List ℕ → ℕ → List ℕ → Place → Type 0
+abbrev pub AfterClause : List ℕ → ℕ → List ℕ → ℕ → List ℕ → Offsets → Type 0
 AfterClause s from b at c p =
     (w : List Literal) (rest : List ℕ) → drop from s ≡ clause-bytes w ++ rest → WrittenOver max-variables w
     → Wrote (clause-line (without-repeats w)) at b c (p .at) × (drop (p .from) s ≡ rest)
 
 -- behind kind 1 the input has so many written clauses, and b has room for their lines from `at` on
-pub record Printable (s : List ℕ) (count : ℕ) (b : List ℕ) (at : ℕ) : Type 0 where
+pub record ClausesAt (s : List ℕ) (count : ℕ) (b : List ℕ) (at : ℕ) : Type 0 where
   pub clauses : List (List Literal)
   pub rest : List ℕ
   pub bytes : drop 2 s ≡ clauses-bytes clauses ++ rest

@@ -11,7 +11,7 @@ use Rattle.formula.specs.declared.Refusal.the-variants.{Truncated, BadVariableC
 use Rattle.formula.specs.Format.{Literal, has-complement, add}
 use Rattle.formula.specs.Decoding.{Decoding, readable, refused}
 
--- ---- lines and words
+-- ---- S15.1: lines and words
 
 -- a stretch of the text: the offset of its first byte, and its bytes
 pub record Piece : Type 0 where
@@ -32,6 +32,7 @@ pieces parts at begun (x ∷ s) =
 abbrev pub ends-line : ℕ → Bool
 ends-line x = eqb x line-feed
 
+-- the lines of a text
 abbrev pub lines : List ℕ → List Piece
 lines t = pieces ends-line 0 [] t
 
@@ -39,10 +40,12 @@ lines t = pieces ends-line 0 [] t
 abbrev pub parts-words : ℕ → Bool
 parts-words x = eqb x blank || (eqb x 9 || (eqb x 13 || eqb x line-feed))
 
+-- the pieces that have a byte
 unfoldable pub non-empty : List Piece → List Piece
 non-empty [] = []
 non-empty (p ∷ ps) = elim (eqb (length (p .bytes)) 0) [ true ↦ non-empty ps | false ↦ p ∷ non-empty ps ]
 
+-- the words of a line, each with its offset in the text
 abbrev pub words : Piece → List Piece
 words l = non-empty (pieces parts-words (l .at) [] (l .bytes))
 
@@ -56,6 +59,7 @@ unfoldable pub others : List Piece → List Piece
 others [] = []
 others (l ∷ ls) = elim (comment (l .bytes)) [ true ↦ others ls | false ↦ l ∷ others ls ]
 
+-- the words of some lines, in their order
 unfoldable pub all-words : List Piece → List Piece
 all-words [] = []
 all-words (l ∷ ls) = words l ++ all-words ls
@@ -73,7 +77,7 @@ all-digits (x ∷ s) = is-digit x && all-digits s
 abbrev pub run : List ℕ → Bool
 run s = not (eqb (length s) 0) && all-digits s
 
--- the number that digits write behind those that write a
+-- the number that digits write, behind others that write the number a
 unfoldable pub value-from : ℕ → List ℕ → ℕ
 value-from a [] = a
 value-from a (x ∷ s) = value-from (10 * a + (x - digit-zero)) s
@@ -81,9 +85,41 @@ value-from a (x ∷ s) = value-from (10 * a + (x - digit-zero)) s
 abbrev pub value : List ℕ → ℕ
 value s = value-from 0 s
 
+-- ---- S15.2: the p line
+
+-- the same bytes
+unfoldable pub same : List ℕ → List ℕ → Bool
+same [] [] = true
+same [] (y ∷ ys) = false
+same (x ∷ xs) [] = false
+same (x ∷ xs) (y ∷ ys) = eqb x y && same xs ys
+
+-- the words `p` and `cnf`
+abbrev pub p-word : List ℕ
+p-word = 112 ∷ []
+
+abbrev pub cnf-word : List ℕ
+cnf-word = 99 ∷ 110 ∷ 102 ∷ []
+
+-- a p line with the words of its two numbers, or another line
+pub data Opening : Type 0 where
+  p-line : Piece → Piece → Opening
+  other-line : Opening
+
+-- four words: p, cnf and two runs of digits
+unfoldable pub opening : List Piece → Opening
+opening (a ∷ b ∷ c ∷ d ∷ []) =
+    cond (same (a .bytes) p-word && (same (b .bytes) cnf-word && (run (c .bytes) && run (d .bytes)))) (p-line c d) other-line
+opening [] = other-line
+opening (a ∷ []) = other-line
+opening (a ∷ b ∷ []) = other-line
+opening (a ∷ b ∷ c ∷ []) = other-line
+opening (a ∷ b ∷ c ∷ d ∷ e ∷ ws) = other-line
+
 -- ---- S15.3: the words after the p line
 
--- a word that ends a clause, one that names variable k (from 1) as true or as false, or neither
+-- a word that ends a clause (request: rule), one that names variable k (request: switch), from 1, as true or as false (request: on, off), or
+-- neither (request: bad word)
 pub data Token : Type 0 where
   ends : Token
   names-variable : Bool → ℕ → Token
@@ -113,12 +149,12 @@ abbrev pub progress-start : Progress
 progress-start = record { ended = []; current = [] }
 
 -- a word is taken, or refused
-pub data Step : Type 0 where
-  next : Progress → Step
-  stop : Refusal → Step
+pub data Taking : Type 0 where
+  next : Progress → Taking
+  stop : Refusal → Taking
 
 -- a literal of a variable that the formula has (else 6), whose complement is not in the clause (else 7): it counts once, at its first place
-abbrev pub take-literal : ℕ → ℕ → Progress → Bool → ℕ → Step
+abbrev pub take-literal : ℕ → ℕ → Progress → Bool → ℕ → Taking
 take-literal n at s sign k =
     let l : Literal = record { variable = k - 1; positive = sign } in
     cond (leb k n)
@@ -126,65 +162,36 @@ take-literal n at s sign k =
     (stop (NoSuchVariable at))
 
 -- the end of a clause, of which there are at most 96 (else 8)
-abbrev pub take-end : ℕ → Progress → Step
+abbrev pub take-end : ℕ → Progress → Taking
 take-end at s =
     cond (ltb (length (s .ended)) max-clauses) (next (record { ended = s .ended ++ (s .current ∷ []); current = [] })) (stop (TooManyClauses at))
 
 -- a word at `at`, in a formula of n variables
-abbrev pub take-token : ℕ → ℕ → Progress → Token → Step
+abbrev pub take-token : ℕ → ℕ → Progress → Token → Taking
 take-token n at s ends = take-end at s
 take-token n at s (names-variable sign k) = take-literal n at s sign k
 take-token n at s bad = stop (BadWord at)
 
-abbrev pub take-word : ℕ → Piece → Progress → Step
+abbrev pub take-word : ℕ → Piece → Progress → Taking
 take-word n w s = take-token n (w .at) s (token (w .bytes))
 
 -- words from the front, up to the first that is refused
-unfoldable pub take-words : ℕ → List Piece → Progress → Step
+unfoldable pub take-words : ℕ → List Piece → Progress → Taking
 take-words n [] s = next s
 take-words n (w ∷ ws) s = elim (take-word n w s) [ next s′ ↦ take-words n ws s′ | stop r ↦ stop r ]
 
--- ---- S15.2: the p line
-
-unfoldable pub same : List ℕ → List ℕ → Bool
-same [] [] = true
-same [] (y ∷ ys) = false
-same (x ∷ xs) [] = false
-same (x ∷ xs) (y ∷ ys) = eqb x y && same xs ys
-
--- the words `p` and `cnf`
-abbrev pub p-word : List ℕ
-p-word = 112 ∷ []
-
-abbrev pub cnf-word : List ℕ
-cnf-word = 99 ∷ 110 ∷ 102 ∷ []
-
--- a p line with the words of its two numbers, or another line
-pub data Opening : Type 0 where
-  p-line : Piece → Piece → Opening
-  other-line : Opening
-
--- four words: p, cnf and two runs of digits
-unfoldable pub opening : List Piece → Opening
-opening (a ∷ b ∷ c ∷ d ∷ []) =
-    cond (same (a .bytes) p-word && (same (b .bytes) cnf-word && (run (c .bytes) && run (d .bytes)))) (p-line c d) other-line
-opening [] = other-line
-opening (a ∷ []) = other-line
-opening (a ∷ b ∷ []) = other-line
-opening (a ∷ b ∷ c ∷ []) = other-line
-opening (a ∷ b ∷ c ∷ d ∷ e ∷ ws) = other-line
-
 -- ---- S15.4: the whole text, of `len` bytes
 
--- behind the last word: no clause is open (else 2), and there are as many as the p line says in its word d (else 15)
-abbrev pub closing : ℕ → ℕ → Piece → Step → Decoding
+-- behind the last word: no clause is open (else 2), and there are as many as the p line says in its word d (else 15; request: rule count)
+abbrev pub closing : ℕ → ℕ → Piece → Taking → Decoding
 closing len n d (stop r) = refused r
 closing len n d (next s) =
     cond (eqb (length (s .current)) 0)
     (cond (eqb (length (s .ended)) (value (d .bytes))) (readable n (s .ended)) (refused (ClauseCountDiffers (d .at))))
     (refused (Truncated len))
 
--- the first line l that is no comment is a p line (else 13), of 1 to 48 variables (else 5); ls are the other lines behind it
+-- the first line l that is no comment is a p line (else 13; request: bad opening), of 1 to 48 variables (else 5); ls are the other lines
+-- behind it
 abbrev pub by-opening : ℕ → Piece → List Piece → Opening → Decoding
 by-opening len l ls (p-line c d) =
     let n : ℕ = value (c .bytes) in
@@ -196,5 +203,6 @@ abbrev pub by-lines : ℕ → List Piece → Decoding
 by-lines len [] = refused (BadOpening len)
 by-lines len (l ∷ ls) = by-opening len l ls (opening (words l))
 
+-- what is read of a text: the formula, or the refusal
 unfoldable pub read-text : List ℕ → Decoding
 read-text t = by-lines (length t) (others (lines t))

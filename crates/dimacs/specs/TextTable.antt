@@ -19,7 +19,7 @@ pub record Opens (t : List ℕ) (n : ℕ) (d : Piece) (ws : List Piece) : Type 0
   pub third : Piece
   pub first : others (lines t) ≡ line ∷ behind
   pub is-p-line : opening (words line) ≡ p-line third d
-  pub count : n ≡ value (third .bytes)
+  pub variables : n ≡ value (third .bytes)
   pub some : 1 ≤ n
   pub most : n ≤ max-variables
   pub follow : ws ≡ all-words behind
@@ -42,7 +42,7 @@ pub record TakesAll (t : List ℕ) (n : ℕ) (d : Piece) (s : Progress) : Type 0
 pub record TextRead (t : List ℕ) (n : ℕ) (cs : List (List Literal)) : Type 0 where
   pub fourth : Piece
   pub passes : TakesAll t n fourth (record { ended = cs; current = [] })
-  pub count : length cs ≡ value (fourth .bytes)
+  pub clauses : length cs ≡ value (fourth .bytes)
 
 pub data TextRefused (t : List ℕ) : Refusal → Type 0 where
   -- 13: every line is a comment

@@ -29,7 +29,7 @@ text-of n cs = opening-line n (length cs) ++ clause-lines cs
 
 -- ---- S16.2: room
 
--- the longest p line, `p cnf 48 96`
+-- the longest p line, `p cnf 48 96` with its line feed
 abbrev pub max-opening : ℕ
 max-opening = 12
 

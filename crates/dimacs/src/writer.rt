@@ -10,7 +10,7 @@ ghost use Rattle.formula.specs.InnerDecode.{decode};
 ghost use Rattle.writing.specs.Placed.{Room, Wrote};
 ghost use Rattle.dimacs.specs.Written.{opening-line, text-of};
 ghost use Rattle.dimacs.specs.Convert.{converted-values, to-text};
-ghost use Rattle.dimacs.specs.InnerWriter.{sign-bytes, literal-text, literal-once, ClauseAt, Printable, AfterClause, Lined, Readable};
+ghost use Rattle.dimacs.specs.InnerWriter.{sign-bytes, literal-text, literal-once, ClauseAt, ClausesAt, AfterClause, Lined, Readable};
 use crate::answers::Converted;
 use formula::Outcome;
 use formula::Refusal;
@@ -27,7 +27,7 @@ struct Line {
 }
 
 // Where the next clause starts, and the offset behind the lines that are written.
-struct Place {
+struct Offsets {
     from: usize,
     at: usize,
 }
@@ -70,7 +70,7 @@ fn put_once(sign: bool, k: u8, seen: u64, buffer: &mut [u8], at: usize) -> Line
 }
 
 // The line of the clause that starts at `from`.
-fn put_clause(input: &[u8], from: usize, buffer: &mut [u8], at: usize) -> Place
+fn put_clause(input: &[u8], from: usize, buffer: &mut [u8], at: usize) -> Offsets
     requires { ⌜ ClauseAt (now input) from (now buffer) at ⌝ }
     ensures { λ r. ⌜ AfterClause (now (input .entry)) from (now (buffer .entry)) at (now (buffer .exit)) r ⌝ }
 {
@@ -84,7 +84,7 @@ fn put_clause(input: &[u8], from: usize, buffer: &mut [u8], at: usize) -> Place
         i += 2;
     }
     let behind = writing::put_word(b"0\n", buffer, next);
-    Place {
+    Offsets {
         from: i + 1,
         at: behind,
     }
@@ -92,7 +92,7 @@ fn put_clause(input: &[u8], from: usize, buffer: &mut [u8], at: usize) -> Place
 
 // The lines of so many clauses, behind the record of kind 1.
 fn put_clauses(input: &[u8], count: usize, buffer: &mut [u8], at: usize) -> usize
-    requires { ⌜ Printable (now input) count (now buffer) at ⌝ }
+    requires { ⌜ ClausesAt (now input) count (now buffer) at ⌝ }
     ensures { λ r. ⌜ Lined (now (input .entry)) count at (now (buffer .entry)) (now (buffer .exit)) r ⌝ }
 {
     let mut from: usize = 2;

@@ -25,7 +25,7 @@ pub record TextCases : Type 0 where
   pub comment-alone : refusal-of (read-text (ascii "c x\n")) ≡ number-at 13 4
   -- an empty line first: 13 at 0
   pub empty-line-first : refusal-of (read-text (ascii "\np cnf 1 0\n")) ≡ number-at 13 0
-  -- a fourth word that is no number comes before a number of variables that is none
+  -- 0 variables, and a fourth word that is no number: 13 comes before 5
   pub opening-before-count : refusal-of (read-text (ascii "p cnf 0 x")) ≡ number-at 13 0
   -- 49 variables: 5 at the third word
   pub many-variables : refusal-of (read-text (ascii "p cnf 49 0")) ≡ number-at 5 6

@@ -8,9 +8,9 @@ use borrow.Author.Tests.{eqb-true}
 use lib.Dec.{eqb}
 use lib.ListN.{length, length-append, length-map}
 use lib.Seq.{append-snoc}
-use Rattle.limits.specs.Limits.{max-clauses}
+use Rattle.limits.specs.Limits.{max-variables, max-clauses}
 use Rattle.lists.specs.Every.{Every}
-use Rattle.lists.proofs.EveryLaws.{every-append}
+use Rattle.lists.proofs.EveryLaws.{every-append, every-of, every-element}
 use Rattle.lists.proofs.TestLaws.{and-left, and-right, or-none, signs-equal}
 use Rattle.masks.specs.Mask.{bit}
 use Rattle.masks.proofs.MembersLaws.{with-member}
@@ -243,3 +243,33 @@ written-sized-more {n} {ws} {w} z o h =
       few = simp length-append (omega arith);
       clauses = every-append (WrittenOver n) ws (w ∷ []) (z .clauses) (o, tt);
     }
+
+-- ---- clauses that are read grow
+
+-- a clause without literals
+pub over-none : {n : ℕ} → ClauseOver n []
+unfolding distinct
+over-none = record { below = tt; once = refl }
+
+-- a clause over n variables with a literal of one of them added
+pub add-over : {n : ℕ} {c : List Literal} (l : Literal) → ClauseOver n c → l .variable < n → ClauseOver n (add c l)
+add-over {n} {c} l o h = record { below = add-every (λ m. m .variable < n) c l (o .below) h; once = add-distinct c l (o .once) }
+
+-- one more clause, where there are fewer than 96
+pub sized-more : {n : ℕ} {cs : List (List Literal)} {c : List Literal} → Sized n cs → ClauseOver n c → length cs < max-clauses → Sized n (cs ++ (c ∷ []))
+sized-more {n} {cs} {c} z o h =
+    record {
+      some = z .some;
+      most = z .most;
+      few = simp length-append (omega arith);
+      clauses = every-append (ClauseOver n) cs (c ∷ []) (z .clauses) (o, tt);
+    }
+
+-- ---- over n variables is over the most
+
+pub below-most : {n : ℕ} (c : List Literal) → n ≤ max-variables → Every (λ l. l .variable < n) c → Every (λ l. l .variable < max-variables) c
+below-most {n} c h o = every-of (λ l. l .variable < max-variables) c (λ l m. let b = every-element (λ l. l .variable < n) c l o m in omega arith)
+
+pub over-most : {n : ℕ} (ws : List (List Literal)) → n ≤ max-variables → Every (WrittenOver n) ws → Every (WrittenOver max-variables) ws
+over-most {n} ws h o =
+    every-of (WrittenOver max-variables) ws (λ w m. let p = every-element (WrittenOver n) ws w o m in record { below = below-most w h (p .below); one-way = p .one-way })

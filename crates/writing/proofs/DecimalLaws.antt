@@ -60,6 +60,11 @@ pub decimal-length : (k x : ℕ) → x < 10 ^ suc k → length (decimal x) ≤ s
 unfolding decimal
 decimal-length k x h = rw (← within-same k x x h (omega arith)) (within-length (suc k) x)
 
+-- and at least one
+pub decimal-some : (x : ℕ) → 1 ≤ length (decimal x)
+unfolding decimal
+decimal-some x = within-some x x
+
 -- one digit
 pub decimal-one : (x : ℕ) → x < 10 → decimal x ≡ (digit-zero + x) ∷ []
 unfolding decimal decimal-within

@@ -1,6 +1,6 @@
 -- `put_text`: the lines of the clauses behind the p line.
 use borrow.Author.Needs.{needs}
-use Rattle.dimacs.proofs.LineLaws.{opening-room, readable-printable, readable-written}
+use Rattle.dimacs.proofs.LineLaws.{opening-room, readable-clauses, readable-written}
 use Rattle.dimacs.proofs.writer.put_text.Statement.{statement}
 use Rattle.dimacs.proofs.writer.put_text.Tie as tie
 
@@ -10,7 +10,7 @@ put-opening-requires c κs = opening-room (c .before .before .before .pre)
 put-clauses-requires : tie.Need-put-clauses-requires
 put-clauses-requires c κs =
     let o = c .before .before .before in
-    readable-printable (o .before .before .before .before .pre) (o .put-opening .ensures)
+    readable-clauses (o .before .before .before .before .pre) (o .put-opening .ensures)
 
 same-length : tie.Need-same-length
 same-length c = search needs
