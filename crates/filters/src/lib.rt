@@ -4,7 +4,8 @@ ghost use lib.ListN.{length};
 ghost use Rattle.dimacs.specs.Convert.{converted-values};
 use dimacs::Converted;
 
-// The most bytes of a refusal's line: its word and two numbers of 20 digits, blanks between them, and the line feed.
+// Room for a refusal's line: its word and two numbers of 20 digits, blanks between them, and the line feed. A number and a place are known
+// to be 64 bits and no more here.
 const MAX_LINE: usize = 50;
 
 // The first bytes of the buffer, as many as were written into it, or the refusal's line.
