@@ -12,7 +12,6 @@ use Rattle.formula.specs.declared.Refusal.{Refusal}
 use Rattle.dimacs.specs.declared.reader.Reader.{Reader}
 use Rattle.dimacs.specs.declared.reader.Event.{Event}
 use Rattle.dimacs.specs.declared.reader.Event.the-variants.{Next, Stopped}
-use Rattle.dimacs.specs.declared.scan.Token as held
 use Rattle.dimacs.specs.declared.scan.Token.the-variants.{Ends, Literal, Bad}
 use Rattle.dimacs.specs.Text.{Piece, ends-line, others, all-words, comment, run, value, Token, ends, names-variable, bad, minus-sign, signed, unsigned, token, Progress, Taking, next, stop, take-literal, take-token, take-word, take-words}
 use Rattle.dimacs.specs.InnerScan.{until, lines-from, words-at, cap, capped, token-held}

@@ -13,10 +13,8 @@ use Rattle.lists.proofs.TestLaws.{bool-clash}
 use Rattle.masks.specs.Mask.{bit}
 use Rattle.writing.specs.Placed.{Wrote}
 use Rattle.writing.proofs.PlacedLaws.{wrote-length, wrote-more}
-use Rattle.formula.specs.declared.Refusal.{Refusal}
 use Rattle.formula.specs.declared.Refusal.the-variants.{Truncated, NoSuchVariable, ComplementaryLiteral, TooManyClauses, ClauseCountDiffers}
 use Rattle.formula.specs.Format.{Literal, literal-bytes, literals-bytes, clause-bytes, clauses-bytes, formula-bytes, names, names-as, has-complement, add, ClauseOver, Sized}
-use Rattle.formula.specs.Table.{written}
 use Rattle.formula.specs.InnerDecode.{none-yet}
 use Rattle.formula.specs.declared.Clause.{Clause}
 use Rattle.formula.specs.InnerFits.{side, clause-variables}
@@ -32,7 +30,6 @@ use Rattle.dimacs.specs.InnerScan.{capped, numbers-of}
 use Rattle.dimacs.specs.declared.opening.Numbers.{Numbers}
 use Rattle.dimacs.specs.InnerReader.{kept-room, kept-bytes, Starts, Keeps, Stepped, Reads}
 use Rattle.dimacs.specs.declared.answers.Converted.the-variants.{Written, Refused}
-use Rattle.dimacs.specs.declared.reader.Event.{Event}
 use Rattle.dimacs.specs.declared.reader.Event.the-variants.{Next, Stopped}
 
 -- ---- bytes at the front

@@ -9,7 +9,7 @@ use lib.Dec.{eqb, ltb}
 use lib.ListN.{length, take, drop, getD, length-drop, drop-of-length-le}
 use lib.Seq.{length-take-le, drop-drop, drop-cons, getD-drop}
 use Rattle.lists.proofs.TestLaws.{bool-clash}
-use Rattle.dimacs.specs.Text.{Piece, pieces, ends-line, lines, parts-words, non-empty, comment, others, opening, by-lines, read-text}
+use Rattle.dimacs.specs.Text.{Piece, pieces, ends-line, parts-words, non-empty, comment, others, opening, by-lines, read-text}
 use Rattle.dimacs.specs.InnerScan.{until, in-word, lines-from, words-at, words-from, OpensAt}
 use Rattle.dimacs.specs.InnerReader.{line-at, lines-behind}
 use Rattle.dimacs.proofs.PieceLaws.{until-le, rest-pieces, pieces-until, kept-piece}
