@@ -4,7 +4,7 @@ use mathlib.Core.Bool.{cond}
 use mathlib.Core.Path.{_≡_, refl}
 use lib.Dec.{eqb}
 use Rattle.formula.specs.declared.Refusal.{Refusal}
-use Rattle.formula.specs.declared.Refusal.the-variants.{ShortBuffer, Truncated, UnknownKind, Misplaced, BadVariableCount, NoSuchVariable, ComplementaryLiteral, TooManyClauses, TrailingByte, Unmatched, ForeignCheckpoint, StrayVariable, BadOpening, BadWord, ClauseCountDiffers}
+use Rattle.formula.specs.declared.Refusal.the-variants.{ShortBuffer, Truncated, UnknownKind, Misplaced, BadVariableCount, NoSuchVariable, ComplementaryLiteral, TooManyClauses, TrailingByte, Unmatched, ForeignCheckpoint, StrayVariable, BadOpening, BadWord, ClauseCountDiffers, BadAssumption}
 use Rattle.formula.specs.Refusals.{table-row}
 use Rattle.walk.specs.Checkpoints.{Checkpoint}
 use Rattle.enumeration.specs.declared.calls.Answer.{Answer}
@@ -29,6 +29,7 @@ refused-code (StrayVariable p) = refl
 refused-code (BadOpening p) = refl
 refused-code (BadWord p) = refl
 refused-code (ClauseCountDiffers p) = refl
+refused-code (BadAssumption p) = refl
 
 -- the results of a list are those of a walk, with the number of models in place of the steps
 pub counted : (a : Answer) (n : ℕ) (c : Checkpoint) → walk-results (answer-values a n 0 c) ≡ list-results n (answer-values a 0 0 c)

@@ -5,7 +5,7 @@ use mathlib.Core.Path.{_≡_, refl}
 use lib.ListN.{getD, take, drop}
 use Rattle.limits.specs.Limits.{max-clauses}
 use Rattle.formula.specs.declared.Refusal.{Refusal}
-use Rattle.formula.specs.declared.Refusal.the-variants.{ShortBuffer, Truncated, UnknownKind, Misplaced, BadVariableCount, NoSuchVariable, ComplementaryLiteral, TooManyClauses, TrailingByte, Unmatched, ForeignCheckpoint, StrayVariable, BadOpening, BadWord, ClauseCountDiffers}
+use Rattle.formula.specs.declared.Refusal.the-variants.{ShortBuffer, Truncated, UnknownKind, Misplaced, BadVariableCount, NoSuchVariable, ComplementaryLiteral, TooManyClauses, TrailingByte, Unmatched, ForeignCheckpoint, StrayVariable, BadOpening, BadWord, ClauseCountDiffers, BadAssumption}
 use Rattle.formula.specs.Refusals.{table-row}
 use Rattle.matched.specs.Judge.{JudgementValues, judge}
 use Rattle.vectors.specs.declared.answers.Answer.{Answer}
@@ -32,6 +32,7 @@ refusal-code says (StrayVariable p) = refl
 refusal-code says (BadOpening p) = refl
 refusal-code says (BadWord p) = refl
 refusal-code says (ClauseCountDiffers p) = refl
+refusal-code says (BadAssumption p) = refl
 
 -- what the call gives, from what its parts give
 pub judge-filled-of :

@@ -15,8 +15,7 @@ use Rattle.limits.specs.Limits.{max-clauses}
 use Rattle.lists.specs.Padded.{padded}
 use Rattle.lists.proofs.PaddedLaws.{getD-padded}
 use Rattle.lists.proofs.TestLaws.{and-left, and-right, and-both, or-cases, or-swap}
-use Rattle.masks.specs.Mask.{bit, with}
-use Rattle.masks.specs.InnerMask.{minus}
+use Rattle.masks.specs.Mask.{bit, with, minus}
 use Rattle.masks.proofs.BitLaws.{bit-and, bit-minus, bit-with, bit-with-same}
 use Rattle.masks.proofs.MeetLaws.{both-are, nonempty-or}
 use Rattle.formula.specs.declared.Clause.{Clause}

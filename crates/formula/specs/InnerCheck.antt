@@ -4,7 +4,8 @@ use mathlib.Core.Bool.{Bool, true, not, _&&_, _||_}
 use mathlib.Core.List.{List}
 use lib.Dec.{eqb}
 use lib.ListN.{getD}
-use Rattle.masks.specs.InnerMask.{meets, minus}
+use Rattle.masks.specs.Mask.{minus}
+use Rattle.masks.specs.InnerMask.{meets}
 use Rattle.formula.specs.declared.Clause.{Clause}
 use Rattle.formula.specs.InnerMasked.{no-clause}
 

@@ -46,6 +46,7 @@ pub enum Refusal {
     BadOpening(usize),
     BadWord(usize),
     ClauseCountDiffers(usize),
+    BadAssumption(usize),
 }
 
 // Accepted or refused: by the reader, and above it by acceptance and on entering a walk.
@@ -403,6 +404,7 @@ pub fn number_of(refusal: Refusal) -> u64
         Refusal::BadOpening(_) => 13,
         Refusal::BadWord(_) => 14,
         Refusal::ClauseCountDiffers(_) => 15,
+        Refusal::BadAssumption(_) => 16,
     }
 }
 
@@ -426,6 +428,7 @@ pub fn place_of(refusal: Refusal) -> usize
         Refusal::BadOpening(p) => p,
         Refusal::BadWord(p) => p,
         Refusal::ClauseCountDiffers(p) => p,
+        Refusal::BadAssumption(p) => p,
     }
 }
 

@@ -2,12 +2,9 @@
 use Prim.Native.Nat.{ℕ, _^_}
 use mathlib.Core.Bool.{Bool, not}
 use lib.Dec.{eqb}
-use lib.Bits.{bitAnd, bitXor}
+use lib.Bits.{bitAnd}
 use lib.Count.{trailingZeros}
-
--- the members of a that are not members of b
-abbrev pub minus : ℕ → ℕ → ℕ
-minus a b = bitXor a (bitAnd a b)
+use Rattle.masks.specs.Mask.{minus}
 
 -- m without i
 abbrev pub without : ℕ → ℕ → ℕ

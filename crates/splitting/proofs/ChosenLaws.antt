@@ -4,8 +4,7 @@ use mathlib.Core.Bool.{true, false}
 use mathlib.Core.Path.{_≡_}
 use lib.Bits.{bitOr}
 use borrow.Author.Tests.{ne-eqb}
-use Rattle.masks.specs.Mask.{members}
-use Rattle.masks.specs.InnerMask.{minus}
+use Rattle.masks.specs.Mask.{minus, members}
 use Rattle.formula.specs.declared.Formula.{Formula}
 use Rattle.splitting.specs.declared.Assignment.{Assignment}
 use Rattle.splitting.specs.declared.Reduced.{Reduced}

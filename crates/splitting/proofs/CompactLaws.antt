@@ -18,10 +18,11 @@ use Rattle.lists.proofs.EveryLaws.{every-of, every-getD}
 use Rattle.lists.proofs.SublistLaws.{element-place}
 use Rattle.lists.proofs.TabulatedLaws.{length-tabulated}
 use Rattle.lists.proofs.TestLaws.{and-left, and-right, or-cases, or-none, bool-cases, bool-clash}
-use Rattle.masks.specs.Mask.{bit, with, members}
-use Rattle.masks.specs.InnerMask.{minus, lowest}
+use Rattle.masks.specs.Mask.{bit, with, minus, members}
+use Rattle.masks.specs.InnerMask.{lowest}
 use Rattle.masks.proofs.BitLaws.{bit-or, bit-xor, bit-minus, bit-none}
 use Rattle.masks.proofs.MembersLaws.{members-are}
+use Rattle.matching.specs.Result.{packed}
 use Rattle.matching.specs.Search.{outcome, succeeds, expansions}
 use Rattle.formula.specs.declared.Clause.{Clause}
 use Rattle.formula.specs.declared.Formula.{Formula}
@@ -33,7 +34,7 @@ use Rattle.splitting.specs.declared.Reduced.{Reduced}
 use Rattle.splitting.specs.declared.Survey.{Survey}
 use Rattle.splitting.specs.declared.Trial.{Trial}
 use Rattle.splitting.specs.Choosing.{both-open}
-use Rattle.splitting.specs.InnerChoose.{assigned, set-to, satisfied-under, left-under, open-clauses, node, unnamed, unassigned, formula-at, clauses-in, clause-in, formula-in, Small, surveys, survey-from, survey-of, pure-of, reduce-from, reduced, tried, passing, greatest, listed-last, mask-choice}
+use Rattle.splitting.specs.InnerChoose.{assigned, set-to, satisfied-under, left-under, open-clauses, node, unnamed, unassigned, formula-at, clauses-in, clause-in, formula-in, Small, surveys, survey-from, survey-of, matching-at, pure-of, reduce-from, reduced, tried, passing, greatest, listed-last, mask-choice}
 use Rattle.splitting.proofs.NodeMatchingLaws.{small-at}
 use Rattle.splitting.proofs.ReduceLaws.{pure-lowest, next-of, reduce-done, reduce-turn}
 use Rattle.splitting.proofs.LastMemberLaws.{greatest-member}
@@ -89,6 +90,11 @@ node-at f a = node-none (formula-at f a) refl
 
 pub node-in : (p q : List ℕ) (k : ℕ) → node (formula-in p q k) unassigned ≡ clauses-in p q k
 node-in p q k = node-none (formula-in p q k) (length-tabulated (clause-in p q) k)
+
+-- the matching of the node, from the arrays of its clauses
+pub matching-in : (f : Formula) (a : Assignment) (p q : List ℕ) (k : ℕ) → formula-in p q k ≡ formula-at f a → matching-at (formula-in p q k) unassigned ≡ matching-at f a
+matching-in f a p q k e =
+    ap (λ (l : List Clause). packed (length l) (outcome (map clause-variables l))) (node-in p q k ∙ ap (λ (g : Formula). g .clauses) e)
 
 -- ---- what a node names is not assigned
 

@@ -24,4 +24,5 @@ pub mod MaskNodeLaws
 pub mod CompactLaws
 pub mod MaskSearchLaws
 pub mod MaskClauseLaws
+pub mod SatisfiedLaws
 pub mod MaskChoiceLaws

@@ -8,8 +8,8 @@ use lib.Bits.{bitOr, bitXor}
 use lib.Dec.{eqb}
 use borrow.Author.Tests.{eqb-true, eqb-false}
 use Rattle.lists.proofs.TestLaws.{and-left, eqb-comm, bool-clash}
-use Rattle.masks.specs.Mask.{bit, with, members}
-use Rattle.masks.specs.InnerMask.{minus, lowest}
+use Rattle.masks.specs.Mask.{bit, with, minus, members}
+use Rattle.masks.specs.InnerMask.{lowest}
 use Rattle.masks.proofs.MembersLaws.{some-member, member-some, members-none}
 use Rattle.masks.proofs.BitLaws.{bit-with, bit-minus, bit-none}
 use Rattle.matching.specs.Search.{Outcome, outcome, succeeds, expansions}

@@ -7,8 +7,8 @@ use lib.Dec.{eqb}
 use lib.ListN.{length, getD}
 use Rattle.limits.specs.Limits.{max-clauses}
 use Rattle.lists.specs.Tabulated.{tabulated}
-use Rattle.masks.specs.Mask.{bit, with, members}
-use Rattle.masks.specs.InnerMask.{minus, meets, lowest}
+use Rattle.masks.specs.Mask.{bit, with, minus, members}
+use Rattle.masks.specs.InnerMask.{meets, lowest}
 use Rattle.matching.specs.declared.Matching.{Matching}
 use Rattle.matching.specs.Result.{packed}
 use Rattle.matching.specs.Search.{Outcome, outcome, succeeds, expansions}

@@ -20,6 +20,11 @@ unfoldable pub remaining : List Literal → List (List Literal) → List (List L
 remaining [] cs = cs
 remaining (l ∷ t) cs = remaining t (assign (l .variable) (l .positive) cs)
 
+-- the trail satisfies the clause: some literal of it is in the clause
+unfoldable pub satisfied-by : List Literal → List Literal → Bool
+satisfied-by [] c = false
+satisfied-by (l ∷ t) c = names-as c (l .variable) (l .positive) || satisfied-by t c
+
 -- some clause names v this way
 unfoldable pub occurs : List (List Literal) → ℕ → Bool → Bool
 occurs [] v sign = false

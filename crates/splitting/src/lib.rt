@@ -90,7 +90,7 @@ fn only(v: usize, value: bool) -> Assignment
 }
 
 // An assigned variable satisfies the clause.
-fn is_satisfied(a: Assignment, c: Clause) -> bool
+pub fn is_satisfied(a: Assignment, c: Clause) -> bool
     ensures { λ r. ⌜ r ≡ satisfied-under a c ⌝ }
 {
     ((c.positive & a.trues) | (c.negative & a.falses)) != 0
@@ -323,6 +323,17 @@ fn match_node(
     let mut sets = [0u64; limits::MAX_CLAUSES];
     let written = gather(positives, negatives, count, a, &mut sets);
     matching::match_sets(&sets, written)
+}
+
+// Matches what is left of the formula's open clauses, from nothing.
+pub fn match_open(f: Formula, a: Assignment) -> Matching
+    requires { ⌜ FormulaFits f ⌝ }
+    ensures { λ r. ⌜ r ≡ matching-at f a ⌝ }
+{
+    let mut positives = [0u64; limits::MAX_CLAUSES];
+    let mut negatives = [0u64; limits::MAX_CLAUSES];
+    let count = open_node(f, a, &mut positives, &mut negatives);
+    match_node(&positives, &negatives, count, no_assignment())
 }
 
 // Strips pure literals, the lowest first, until there is none, from a copy of the arrays. No variable is noted twice, so that as
