@@ -1,0 +1,2 @@
+pub mod TakenLaws
+pub mod PairsLaws

@@ -1,0 +1,31 @@
+-- A list of assumptions as bytes, two for each.
+use Prim.Native.Nat.{ℕ, zero, suc, _+_, _*_, _/_, _<_}
+use mathlib.Core.List.{List, [], _∷_}
+use mathlib.Core.Path.{_≡_, refl, sym, _∙_}
+use native.Mathlib.Omega.{arith}
+use lib.ListN.{length, getD, take}
+use Rattle.assumptions.specs.declared.Assumption.{Assumption}
+use Rattle.assumptions.specs.Assumed.{assumed}
+use Rattle.assumptions.specs.InnerAssumed.{masks-of, taken, pair-at, pairs-of}
+use Rattle.assumptions.proofs.TakenLaws.{taken-next}
+
+-- there are half as many assumptions as bytes
+pub pairs-length : (s : List ℕ) → length (pairs-of s) ≡ length s / 2
+unfolding pairs-of
+pairs-length [] = refl
+pairs-length (x ∷ []) = refl
+pairs-length (x ∷ y ∷ s) = omega (arith, pairs-length s)
+
+-- the one with the index i
+pub pairs-at : (s : List ℕ) (i : ℕ) (d : Assumption) → i < length (pairs-of s) → getD (pairs-of s) i d ≡ pair-at s i
+unfolding pairs-of
+pairs-at [] i d h = absurd (omega arith)
+pairs-at (x ∷ []) i d h = absurd (omega arith)
+pairs-at (x ∷ y ∷ s) zero d h = refl
+pairs-at (x ∷ y ∷ s) (suc i) d h =
+    pairs-at s i d (omega arith) ∙ sym (let e : suc i * 2 ≡ suc (suc (i * 2)) = omega arith in let f : suc i * 2 + 1 ≡ suc (suc (i * 2 + 1)) = omega arith in rw (f, e))
+
+-- one more is read
+pub pairs-next : (n : ℕ) (s : List ℕ) (i : ℕ) → i < length (pairs-of s)
+    → masks-of (assumed n (take (i + 1) (pairs-of s))) ≡ taken n i (pair-at s i) (masks-of (assumed n (take i (pairs-of s))))
+pairs-next n s i h = taken-next n (pairs-of s) i (pair-at s i) h ∙ rw (pairs-at s i (pair-at s i) h)

@@ -1,0 +1,3 @@
+pub mod Assumed
+pub mod FirstBad
+pub mod InnerAssumed
