@@ -5,6 +5,7 @@ use mathlib.Core.Path.{_≡_, refl, sym, _∙_}
 use native.Mathlib.Omega.{arith}
 use lib.ListN.{length, getD, take}
 use Rattle.assumptions.specs.declared.Assumption.{Assumption}
+use Rattle.assumptions.specs.declared.Assumptions.{Assumptions}
 use Rattle.assumptions.specs.Assumed.{assumed}
 use Rattle.assumptions.specs.InnerAssumed.{masks-of, taken, pair-at, pairs-of}
 use Rattle.assumptions.proofs.TakenLaws.{taken-next}
@@ -25,7 +26,7 @@ pairs-at (x ∷ y ∷ s) zero d h = refl
 pairs-at (x ∷ y ∷ s) (suc i) d h =
     pairs-at s i d (omega arith) ∙ sym (let e : suc i * 2 ≡ suc (suc (i * 2)) = omega arith in let f : suc i * 2 + 1 ≡ suc (suc (i * 2 + 1)) = omega arith in rw (f, e))
 
--- one more is read
-pub pairs-next : (n : ℕ) (s : List ℕ) (i : ℕ) → i < length (pairs-of s)
-    → masks-of (assumed n (take (i + 1) (pairs-of s))) ≡ taken n i (pair-at s i) (masks-of (assumed n (take i (pairs-of s))))
-pairs-next n s i h = taken-next n (pairs-of s) i (pair-at s i) h ∙ rw (pairs-at s i (pair-at s i) h)
+-- the first i are read, and one more
+pub pairs-next : {r x : Assumptions} (n : ℕ) (s : List ℕ) (i : ℕ) → i < length (pairs-of s) → r ≡ masks-of (assumed n (take i (pairs-of s))) → x ≡ taken n i (pair-at s i) r
+    → x ≡ masks-of (assumed n (take (i + 1) (pairs-of s)))
+pairs-next n s i h e f = rw (f, e, ← pairs-at s i (pair-at s i) h) (sym (taken-next n (pairs-of s) i (pair-at s i) h))

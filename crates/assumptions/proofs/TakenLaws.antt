@@ -12,7 +12,7 @@ use borrow.Author.Tests.{eqb-false, ltb-false}
 use Rattle.lists.proofs.TestLaws.{or-none}
 use Rattle.masks.specs.Mask.{bit}
 use Rattle.formula.specs.declared.Clause.{Clause}
-use Rattle.formula.specs.Format.{Literal, names}
+use Rattle.formula.specs.Format.{Literal}
 use Rattle.formula.specs.InnerMasked.{no-clause, with-literal, with-literals, clause-of}
 use Rattle.formula.proofs.ClauseLaws.{with-literals-last, clause-names}
 use Rattle.assumptions.specs.declared.Assumption.{Assumption}

@@ -1,4 +1,4 @@
-// Lists of assumptions, each read into two masks or refused at its first bad one (S17.1)
+// Lists of assumptions, each read into two masks or refused at its first bad one (S17.1).
 //
 // A list is lent as structs (`read_assumptions`, proved by hand) or as bytes, two for each (`read_pairs`); both are read by `take`.
 use limits::MAX_VARIABLES;

@@ -37,7 +37,7 @@ loop-again c =
     let a = c .before .before .before .before .before .args in
     let i = c .before .before .loop .i in
     let h : i < length (pairs-of (a .bytes .now)) = omega (arith, pairs-length (a .bytes .now)) in
-    (omega arith, c .take-pair .ensures ∙ rw (c .before .before .loop .inv .1) (sym (pairs-next (a .n) (a .bytes .now) i h)))
+    (omega arith, pairs-next (a .n) (a .bytes .now) i h (c .before .before .loop .inv .1) (c .take-pair .ensures))
 
 returns : tie.Need-returns Inv-loop μ-loop
 returns c =
