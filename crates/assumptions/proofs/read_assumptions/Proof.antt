@@ -1,6 +1,5 @@
--- `read_assumptions` meets its contract: a walk of its MIR, by hand, with a loop.
--- The slice is Copy and is looked into anew in each turn. The element is copied into a local, and the covered function `take` is called on it. All that the proof knows of `take` is its contract.
--- Assumes nothing.
+-- `read_assumptions`, by hand: a walk of its MIR, which the borrow checker does not cover for a slice of structs. In each turn the slice is
+-- looked into anew, the element is copied into a local, and `take` is called on it; of `take` only its contract is used.
 use mathlib.Core.Path.{_≡_, refl, sym, _∙_, subst}
 use Prim.Native.Nat.{ℕ, _+_, _-_, _*_, _<_, _≤_, _^_, zero-le}
 use native.Mathlib.Omega.{arith}
