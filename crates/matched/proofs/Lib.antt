@@ -1,6 +1,6 @@
 pub mod AcceptanceLaws
 pub mod AcceptLaws
 pub mod Demands
-pub mod GatherLaws
 pub mod JudgeLaws
 pub mod PairingLaws
+pub mod SpreadLaws

@@ -1,4 +1,4 @@
--- S5.7: the act judge, `find_matching` in the code. Refusal 1 first, then what comes of the input.
+-- S5.7, S17.2: the act judge, `find_matching` in the code. Refusal 1 first, then what comes of the input under the assumptions.
 use Prim.Native.Nat.{ℕ}
 use mathlib.Core.Bool.{cond}
 use mathlib.Core.List.{List}
@@ -9,6 +9,7 @@ use Rattle.lists.specs.Over.{over}
 use Rattle.formula.specs.declared.Refusal.{Refusal}
 use Rattle.formula.specs.declared.Refusal.the-variants.{ShortBuffer}
 use Rattle.formula.specs.Refusals.{table-row}
+use Rattle.assumptions.specs.declared.Assumption.{Assumption}
 use Rattle.matched.specs.declared.Judgement.{Judgement}
 use Rattle.matched.specs.declared.Judgement.the-variants.{Accepted, Refused}
 use Rattle.matched.specs.Acceptance.{Acceptance, accepted, declined, acceptance}
@@ -38,11 +39,11 @@ pub record Judged : Type 0 where
 
 -- The row is written over the first bytes of the buffer, and the bytes behind it stay as they were.
 abbrev pub judgement-of : Acceptance → List ℕ → Judged
-judgement-of (accepted n cs row) buffer = record { answer = accepted-values n (length cs); buffer = over row buffer }
+judgement-of (accepted n t cs row) buffer = record { answer = accepted-values n (length cs); buffer = over row buffer }
 judgement-of (declined r row) buffer = record { answer = refused-values r; buffer = over row buffer }
 
--- a buffer below 96 bytes is short
-unfoldable pub judge : List ℕ → List ℕ → Judged
-judge s buffer =
+-- The input, the assumptions, and the buffer as it is lent. A buffer below 96 bytes is short.
+unfoldable pub judge : List ℕ → List Assumption → List ℕ → Judged
+judge s us buffer =
     cond (ltb (length buffer) max-clauses) (record { answer = refused-values (ShortBuffer 0); buffer = buffer })
-    (judgement-of (acceptance s) buffer)
+    (judgement-of (acceptance s us) buffer)

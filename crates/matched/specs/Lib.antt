@@ -1,5 +1,5 @@
 pub mod Acceptance
 pub mod InnerAccept
-pub mod InnerGather
+pub mod InnerSpread
 pub mod Judge
 pub mod Pairing

@@ -8,7 +8,11 @@ use lib.ListN.{length, getD}
 use Rattle.formula.specs.Format.{Literal, names, Encodes}
 use Rattle.formula.specs.Masked.{variables}
 use Rattle.masks.specs.Mask.{size}
+use Rattle.assumptions.specs.declared.Assumption.{Assumption}
+use Rattle.assumptions.specs.Assumed.{literal-of}
+use Rattle.assumptions.specs.FirstBad.{NoneBad}
 use Rattle.matching.specs.Sets.{union, selected}
+use Rattle.splitting.specs.Nodes.{remaining, satisfied-by}
 
 -- a matching (request: pairing): vs has a variable for each clause in order, one that the clause names, none twice
 pub record Pairs (cs : List (List Literal)) (vs : List ℕ) : Type 0 where
@@ -16,13 +20,14 @@ pub record Pairs (cs : List (List Literal)) (vs : List ℕ) : Type 0 where
   pub named : (i : ℕ) → i < length cs → names (getD cs i []) (getD vs i 0) ≡ true
   pub distinct : (i j : ℕ) → i < length cs → j < length cs → getD vs i 0 ≡ getD vs j 0 → i ≡ j
 
--- the input is readable, and its formula matched (request: pairable)
-pub record Pairable (s : List ℕ) : Type 0 where
+-- the input is readable, none of the assumptions is bad, and what remains of its clauses is matched (request: pairable)
+pub record Pairable (s : List ℕ) (us : List Assumption) : Type 0 where
   pub variables : ℕ
   pub clauses : List (List Literal)
   pub encodes : Encodes s variables clauses
+  pub assumes : NoneBad variables us
   pub vs : List ℕ
-  pub pairs : Pairs clauses vs
+  pub pairs : Pairs (remaining (map literal-of us) clauses) vs
 
 -- the masks of the clauses of cs that are marked
 abbrev pub marked : List ℕ → List (List Literal) → List ℕ

@@ -1,4 +1,4 @@
-// Which inputs are accepted, each with its matching or a violator, and the act judge (S5.6, S5.7).
+// Which inputs are accepted under which assumptions, each with its matching or a violator, and the act judge (S5.6, S5.7, S17.2)
 //
 // `accept` says what comes of an input (`acceptance`) to judge, walk, list and print, which have read it; judge writes it into a lent
 // buffer.
@@ -9,23 +9,25 @@ ghost use lib.ListN.{length, getD, take};
 ghost use Rattle.limits.specs.Limits.{max-clauses};
 ghost use Rattle.lists.specs.Over.{over};
 ghost use Rattle.lists.specs.Padded.{padded};
-ghost use Rattle.formula.specs.Format.{Literal, Sized};
+ghost use Rattle.formula.specs.Format.{Literal, Sized, ClauseOver};
 ghost use Rattle.formula.specs.InnerMasked.{formula-of};
 ghost use Rattle.formula.specs.InnerFits.{FormulaFits};
-ghost use Rattle.matching.specs.Result.{packed};
-ghost use Rattle.matching.specs.Search.{outcome};
+ghost use Rattle.assumptions.specs.declared.Assumption.{Assumption};
+ghost use Rattle.assumptions.specs.InnerAssumed.{Given};
+ghost use Rattle.splitting.specs.InnerChoose.{assignment-of};
 ghost use Rattle.matched.specs.Acceptance.{acceptance, formula-acceptance};
-ghost use Rattle.matched.specs.InnerAccept.{ReaderGives, raised, Represents};
-ghost use Rattle.matched.specs.InnerGather.{sets-of};
+ghost use Rattle.matched.specs.InnerAccept.{ReaderGives, assigned-by, refused-row, Represents};
+ghost use Rattle.matched.specs.InnerSpread.{bytes-at};
 ghost use Rattle.matched.specs.Judge.{judgement-values, judge};
+use assumptions::Assumptions;
 use formula::Formula;
 use formula::Outcome;
 use formula::Refusal;
-use matching::Matching;
+use splitting::Assignment;
 
-// What comes of an input (`acceptance`), beside its formula: whether it is accepted, and the first `length` bytes of the table: the
-// variable of each clause, from 0; or, where it can't be matched, 1 for a marked clause and 0 for another. An input that can't be read
-// has no bytes. Zeros follow.
+// What comes of an input (`acceptance`), beside its formula: whether it is accepted, and the first `length` bytes of the table: for each
+// clause 0 if an assumption satisfies it, else its variable, from 1; or, where what remains can't be matched, 1 for a marked clause and 0
+// for another. Another refused input has no bytes. Zeros follow.
 pub struct Row {
     pub outcome: Outcome,
     pub length: usize,
@@ -38,84 +40,104 @@ pub enum Judgement {
     Refused(Refusal),
 }
 
-// The variables that each clause of the formula names.
-fn gather(f: Formula) -> [u64; limits::MAX_CLAUSES]
-    requires { ⌜ f .count ≤ max-clauses ⌝ }
-    ensures { λ r. ⌜ r ≡ padded max-clauses 0 (sets-of (f .clauses) (f .count)) ⌝ }
+// The assignment of the assumptions.
+pub fn assigned_by(u: Assumptions) -> Assignment
+    ensures { λ r. ⌜ r ≡ assigned-by u ⌝ }
 {
-    let mut sets = [0u64; limits::MAX_CLAUSES];
+    Assignment {
+        trues: u.trues,
+        falses: u.falses,
+    }
+}
+
+// A byte for each clause: 0 if the assignment satisfies it, and for the others, in order, what the answers have, raised by k.
+fn spread(f: Formula, a: Assignment, answers: [u8; limits::MAX_CLAUSES], k: u8) -> [u8; limits::MAX_CLAUSES]
+    requires { ⌜ (f .count ≤ max-clauses) × ((i : ℕ) → i < max-clauses → getD answers i 0 + k < 256) ⌝ }
+    ensures { λ r. ⌜ r ≡ padded max-clauses 0 (bytes-at (f .clauses) a answers k (f .count)) ⌝ }
+{
+    let mut table = [0u8; limits::MAX_CLAUSES];
+    let mut next: usize = 0;
     let mut i: usize = 0;
     while i < f.count {
-        let c = f.clauses[i];
-        sets[i] = c.positive | c.negative;
+        if !splitting::is_satisfied(a, f.clauses[i]) {
+            table[i] = answers[next] + k;
+            next += 1;
+        }
         i += 1;
     }
-    sets
+    table
 }
 
-// The matching of a formula's clauses.
-fn match_formula(f: Formula) -> Matching
+// What comes of a formula that was read, under assumptions of which none is bad.
+fn match_row(f: Formula, a: Assignment) -> Row
     requires { ⌜ FormulaFits f ⌝ }
-    ensures { λ r. ⌜ r ≡ packed (f .count) (outcome (sets-of (f .clauses) (f .count))) ⌝ }
-{
-    let sets = gather(f);
-    matching::match_sets(&sets, f.count)
-}
-
-// What comes of a formula that was read.
-fn match_row(f: Formula) -> Row
-    requires { ⌜ FormulaFits f ⌝ }
-    ensures { λ r. ⌜ ((n : ℕ) (cs : List (List Literal)) → Sized n cs → f ≡ formula-of n cs → Represents (formula-acceptance n cs) f r) ⌝ }
+    ensures { λ r. ⌜ ((n : ℕ) (t : List Literal) (cs : List (List Literal)) → Sized n cs → ClauseOver n t → f ≡ formula-of n cs → a ≡ assignment-of t
+        → Represents (formula-acceptance n t cs) f r) ⌝ }
 {
     let count = f.count;
-    let m = match_formula(f);
-    let table = m.table;
+    let m = splitting::match_open(f, a);
+    let answers = m.table;
     if m.complete {
         return Row {
             outcome: Outcome::Accepted,
             length: count,
-            table,
+            table: spread(f, a, answers, 1),
         };
     }
     Row {
         outcome: Outcome::Refused(Refusal::Unmatched(m.marked)),
         length: count,
-        table,
+        table: spread(f, a, answers, 0),
     }
 }
 
-// S5.6: what comes of an input, by the reader's answer. The formula stays with the caller: to hand it on would be to copy it.
-pub fn accept(outcome: Outcome, f: Formula) -> Row
-    requires { ⌜ ((s : List ℕ) × ReaderGives s outcome f) ⌝ }
-    ensures { λ r. ⌜ ((s : List ℕ) → ReaderGives s outcome f → Represents (acceptance s) f r) ⌝ }
+// A refusal without bytes.
+fn no_row(refusal: Refusal) -> Row
+    ensures { λ r. ⌜ r ≡ refused-row refusal ⌝ }
+{
+    Row {
+        outcome: Outcome::Refused(refusal),
+        length: 0,
+        table: [0u8; limits::MAX_CLAUSES],
+    }
+}
+
+// S5.6: what comes of an input, by the reader's answer and the assumptions. The formula stays with the caller: to hand it on would be to
+// copy it.
+pub fn accept(outcome: Outcome, f: Formula, u: Assumptions) -> Row
+    requires { ⌜ ((s : List ℕ) × (us : List Assumption) × ReaderGives s outcome f × Given s us u) ⌝ }
+    ensures { λ r. ⌜ ((s : List ℕ) (us : List Assumption) → ReaderGives s outcome f → Given s us u → Represents (acceptance s us) f r) ⌝ }
 {
     match outcome {
-        Outcome::Refused(refusal) => Row {
-            outcome: Outcome::Refused(refusal),
-            length: 0,
-            table: [0u8; limits::MAX_CLAUSES],
-        },
-        Outcome::Accepted => match_row(f),
+        Outcome::Refused(refusal) => no_row(refusal),
+        Outcome::Accepted => {
+            if u.bad {
+                return no_row(Refusal::BadAssumption(u.place));
+            }
+            match_row(f, assigned_by(u))
+        }
     }
 }
 
-// Writes the first n bytes of the table, each raised by k, over those of the buffer.
-fn write(table: [u8; limits::MAX_CLAUSES], n: usize, k: u8, buffer: &mut [u8])
-    requires { ⌜ (n ≤ max-clauses) × (max-clauses ≤ length (now buffer)) × ((i : ℕ) → i < n → getD table i 0 + k < 256) ⌝ }
-    ensures { λ _. ⌜ now (buffer .exit) ≡ over (raised k (take n table)) (now (buffer .entry)) ⌝ }
+// Writes the first n bytes of the table over those of the buffer.
+fn write(table: [u8; limits::MAX_CLAUSES], n: usize, buffer: &mut [u8])
+    requires { ⌜ (n ≤ max-clauses) × (max-clauses ≤ length (now buffer)) ⌝ }
+    ensures { λ _. ⌜ now (buffer .exit) ≡ over (take n table) (now (buffer .entry)) ⌝ }
 {
     let mut i: usize = 0;
     while i < n {
-        buffer[i] = table[i] + k;
+        buffer[i] = table[i];
         i += 1;
     }
 }
 
-// S5.7: the act judge: the numbers of variables and clauses and, in the buffer, the matching; or the refusal, with the violator in the
-// buffer if the formula is not matched.
-pub fn find_matching(input: &[u8], buffer: &mut [u8]) -> Judgement
-    ensures answer { λ r. ⌜ judgement-values r ≡ judge (now (input .entry)) (now (buffer .entry)) .answer ⌝ }
-    ensures written { λ _. ⌜ now (buffer .exit) ≡ judge (now (input .entry)) (now (buffer .entry)) .buffer ⌝ }
+// S5.7: the act judge, over the masks of the assumptions: the numbers of variables and clauses and, in the buffer, the matching; or the
+// refusal, with the violator in the buffer if what remains is not matched.
+pub fn find_matching_under(input: &[u8], u: Assumptions, buffer: &mut [u8]) -> Judgement
+    requires { ⌜ ((us : List Assumption) × Given (now input) us u) ⌝ }
+    ensures { λ r. ⌜ ((us : List Assumption) → Given (now (input .entry)) us u
+        → (judgement-values r ≡ judge (now (input .entry)) us (now (buffer .entry)) .answer)
+        × (now (buffer .exit) ≡ judge (now (input .entry)) us (now (buffer .entry)) .buffer)) ⌝ }
 {
     if buffer.len() < limits::MAX_CLAUSES {
         return Judgement::Refused(Refusal::ShortBuffer(0));
@@ -123,17 +145,12 @@ pub fn find_matching(input: &[u8], buffer: &mut [u8]) -> Judgement
     let d = formula::decode(input);
     let read = d.outcome;
     let f = d.formula;
-    let row = accept(read, f);
+    let row = accept(read, f, u);
     let table = row.table;
+    write(table, row.length, buffer);
     let outcome = row.outcome;
     match outcome {
-        Outcome::Refused(refusal) => {
-            write(table, row.length, 0, buffer);
-            Judgement::Refused(refusal)
-        }
-        Outcome::Accepted => {
-            write(table, row.length, 1, buffer);
-            Judgement::Accepted(f.variables, f.count)
-        }
+        Outcome::Refused(refusal) => Judgement::Refused(refusal),
+        Outcome::Accepted => Judgement::Accepted(f.variables, f.count),
     }
 }

@@ -90,7 +90,7 @@ module _ (f : Formula) (fits : Small f) (a : Assignment) where
       by-side c true w = w .0
       by-side c false w = w .1
 
-  node-words : Every Word (map clause-variables (node f a))
+  pub node-words : Every Word (map clause-variables (node f a))
   node-words = words-named (node f a) (open-words (f .count) (omega arith))
 
   node-few : length (map clause-variables (node f a)) ≤ max-clauses

@@ -1,17 +1,32 @@
 -- `matched::match_row` meets its contract: by whether all clauses are matched.
 use borrow.Author.Needs.{needs}
-use Rattle.matched.proofs.AcceptLaws.{complete-represents, failed-represents}
+use native.Mathlib.Omega.{arith}
+use Rattle.matched.proofs.AcceptLaws.{answers-small, complete-represents, failed-represents}
 use Rattle.matched.proofs.match_row.Statement.{statement}
 use Rattle.matched.proofs.match_row.Tie as tie
 
-match-formula-requires : tie.Need-match-formula-requires
-match-formula-requires c κs = search needs
+match-open-requires : tie.Need-match-open-requires
+match-open-requires c κs = search needs
+
+spread-requires : tie.Need-spread-requires
+spread-requires c κs =
+    let m = c .before .before in
+    (m .before .pre .few, λ i l. omega (arith, answers-small _ (m .before .pre) _ (m .match-open .result) (m .match-open .ensures) i l))
 
 returns : tie.Need-returns
-returns c n cs z q = let m = c .before .before .match-formula in complete-represents n cs z _ q (m .result) (m .ensures) (c .if1 .taken)
+returns c n t cs z o q d =
+    let m = c .before .before .before .match-open in
+    complete-represents n t cs z o _ q _ d (m .result) (m .ensures) (c .before .if1 .taken) (c .spread .result) (c .spread .ensures)
+
+spread-requires-2 : tie.Need-spread-requires-2
+spread-requires-2 c κs =
+    let m = c .before .before in
+    (m .before .pre .few, λ i l. omega (arith, answers-small _ (m .before .pre) _ (m .match-open .result) (m .match-open .ensures) i l))
 
 returns-2 : tie.Need-returns-2
-returns-2 c n cs z q = let m = c .before .before .match-formula in failed-represents n cs z _ q (m .result) (m .ensures) (c .if1 .left)
+returns-2 c n t cs z o q d =
+    let m = c .before .before .before .match-open in
+    failed-represents n t cs z o _ q _ d (m .result) (m .ensures) (c .before .if1 .left) (c .spread2 .result) (c .spread2 .ensures)
 
 pub match-row-spec : {M : Type 1} → statement M
-match-row-spec = tie.close (tie.spec match-formula-requires returns returns-2)
+match-row-spec = tie.close (tie.spec match-open-requires spread-requires returns spread-requires-2 returns-2)

@@ -5,25 +5,21 @@ use native.Mathlib.Omega.{arith}
 use mathlib.Core.Path.{_≡_, refl}
 use lib.ListN.{length, take, length-set}
 use Rattle.lists.specs.Over.{over}
-use Rattle.matched.specs.InnerAccept.{raised}
-use Rattle.matched.proofs.GatherLaws.{over-more, raised-length, raised-more}
+use Rattle.matched.proofs.SpreadLaws.{over-more, taken-length, taken-more}
 use Rattle.matched.proofs.write.Statement.{statement}
 use Rattle.matched.proofs.write.Tie as tie
 
 abbrev Inv-loop : tie.InvT-loop
-Inv-loop n k buffer₀ table i₀ buffer i = (i ≤ n) × (length buffer ≡ length buffer₀) × (buffer ≡ over (raised k (take i table)) buffer₀)
+Inv-loop n buffer₀ table i₀ buffer i = (i ≤ n) × (length buffer ≡ length buffer₀) × (buffer ≡ over (take i table) buffer₀)
 
 abbrev μ-loop : tie.MeasureT-loop
-μ-loop n k buffer₀ table i₀ buffer i = n - i
+μ-loop n buffer₀ table i₀ buffer i = n - i
 
 loop-holds : tie.Need-loop-holds Inv-loop μ-loop
 loop-holds c = (search needs, refl, refl)
 
 array-read-buffer : tie.Need-array-read-buffer Inv-loop μ-loop
 array-read-buffer c = search needs
-
-add-buffer : tie.Need-add-buffer Inv-loop μ-loop
-add-buffer c = omega (arith, c .before .before .pre .2 (c .before .loop .i) (c .loop-test .taken))
 
 slice-write-buffer : tie.Need-slice-write-buffer Inv-loop μ-loop
 slice-write-buffer c = omega arith
@@ -42,7 +38,7 @@ loop-again c =
     let h : v .i < length t = omega arith in (
       search needs,
       simp length-set (v .inv .1),
-      over-more (raised (b .args .k) (take (v .i) t)) _ (v .i) _ (raised-length t (v .i) h (b .args .k)) (raised-more t (v .i) h (b .args .k)) (v .buffer) (b .args .buffer .now) (v .inv .2) (omega arith),
+      over-more (take (v .i) t) _ (v .i) _ (taken-length t (v .i) h) (taken-more t (v .i) h) (v .buffer) (b .args .buffer .now) (v .inv .2) (omega arith),
     )
 
 same-length : tie.Need-same-length Inv-loop μ-loop
@@ -59,7 +55,6 @@ write-spec =
     μ-loop
     loop-holds
     array-read-buffer
-    add-buffer
     slice-write-buffer
     add-i
     loop-less
