@@ -1,8 +1,9 @@
 -- What acceptance means: an input is accepted under assumptions exactly if it is readable, none of them is bad and what remains of its
 -- clauses can be paired; and then what stripping leaves there is matched.
 use Prim.Native.Nat.{ℕ, suc, _≤_}
+use mathlib.Core.Bool.{true}
 use mathlib.Core.List.{List, [], map}
-use mathlib.Core.Path.{_≡_, refl, sym, ap, _∙_}
+use mathlib.Core.Path.{_≡_, refl, ap, _∙_}
 use native.Mathlib.Omega.{arith}
 use lib.ListN.{length, length-map}
 use Rattle.limits.specs.Limits.{max-clauses}
@@ -11,7 +12,7 @@ use Rattle.formula.specs.declared.Refusal.{Refusal}
 use Rattle.formula.specs.declared.Refusal.the-variants.{Unmatched, BadAssumption}
 use Rattle.formula.specs.InnerDecode.{decode}
 use Rattle.formula.specs.Decoding.{Decoding, readable, refused}
-use Rattle.formula.specs.Format.{Literal, Sized, ClauseOver}
+use Rattle.formula.specs.Format.{Literal, distinct, Sized, ClauseOver}
 use Rattle.formula.specs.Masked.{variables}
 use Rattle.formula.specs.Refusals.{table-row}
 use Rattle.formula.proofs.Demands.{accepted-only, accepted-all, accepted-fits, numbers}
@@ -157,6 +158,10 @@ module _ (s : List ℕ) (us : List Assumption) where
   -- the literals that a pairable input assumes
   pub pairable-assumes : (w : Pairable s us) → assumed (w .variables) us ≡ literals (map literal-of us)
   pairable-assumes w = assumes-literals (w .variables) us (literals-exactly (w .variables) us .1 (w .assumes))
+
+  -- none of them twice
+  pub pairable-once : (w : Pairable s us) → distinct (map literal-of us) ≡ true
+  pairable-once w = literals-over (w .variables) us (map literal-of us) (pairable-assumes w) .once
 
   pub pairable-accepted : (w : Pairable s us) → (row : List ℕ) × (acceptance s us ≡ accepted (w .variables) (map literal-of us) (w .clauses) row)
   pairable-accepted w =

@@ -4,3 +4,5 @@ pub mod Demands
 pub mod JudgeLaws
 pub mod PairingLaws
 pub mod SpreadLaws
+pub mod UnderLaws
+pub mod UnassumedLaws

@@ -93,7 +93,7 @@ module _ (cs : List Clause) (a : Assignment) (answers : List ℕ) (k i next : �
   spread-open e = (
     rw (add-one i, e, ← counted) (omega arith),
     padded-more (bytes-at cs a answers k i) (bytes-at cs a answers k (i + 1)) i (getD answers next 0 + k) (length-tabulated (byte-at cs a answers k) i)
-    (tabulated-more (byte-at cs a answers k) i ∙ rw (e, ← counted)) table max-clauses 0 written inside,
+        (tabulated-more (byte-at cs a answers k) i ∙ rw (e, ← counted)) table max-clauses 0 written inside,
   )
 
   -- a satisfied one keeps its 0

@@ -3,3 +3,4 @@ pub mod InnerAccept
 pub mod InnerSpread
 pub mod Judge
 pub mod Pairing
+pub mod WithoutAssumptions

@@ -1,7 +1,7 @@
 -- S5.1, S5.5: a matched formula as the source defines it, over clauses as lists of literals; and the violator that is shown where a
 -- formula is not matched.
 use Prim.Native.Nat.{ℕ, suc, _≤_, _<_}
-use mathlib.Core.Bool.{true}
+use mathlib.Core.Bool.{true, false}
 use mathlib.Core.List.{List, [], map}
 use mathlib.Core.Path.{_≡_}
 use lib.ListN.{length, getD}
@@ -19,6 +19,15 @@ pub record Pairs (cs : List (List Literal)) (vs : List ℕ) : Type 0 where
   pub one-each : length vs ≡ length cs
   pub named : (i : ℕ) → i < length cs → names (getD cs i []) (getD vs i 0) ≡ true
   pub distinct : (i j : ℕ) → i < length cs → j < length cs → getD vs i 0 ≡ getD vs j 0 → i ≡ j
+
+-- S17.2: the bytes of an accepted formula under the literals t: a byte for each clause, which is 0 for one that t satisfies and for another
+-- the number, from 1, of a variable that the clause names and t does not; none of those twice
+pub record PairsUnder (t : List Literal) (cs : List (List Literal)) (row : List ℕ) : Type 0 where
+  pub one-each : length row ≡ length cs
+  pub satisfied : (i : ℕ) → i < length cs → satisfied-by t (getD cs i []) ≡ true → getD row i 0 ≡ 0
+  pub others : (i : ℕ) → i < length cs → satisfied-by t (getD cs i []) ≡ false
+      → (v : ℕ) × (getD row i 0 ≡ suc v) × (names (getD cs i []) v ≡ true) × (names t v ≡ false)
+  pub distinct : (i j : ℕ) → i < length cs → j < length cs → satisfied-by t (getD cs i []) ≡ false → getD row i 0 ≡ getD row j 0 → i ≡ j
 
 -- the input is readable, none of the assumptions is bad, and what remains of its clauses is matched (request: pairable)
 pub record Pairable (s : List ℕ) (us : List Assumption) : Type 0 where

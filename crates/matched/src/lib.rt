@@ -51,7 +51,12 @@ pub fn assigned_by(u: Assumptions) -> Assignment
 }
 
 // A byte for each clause: 0 if the assignment satisfies it, and for the others, in order, what the answers have, raised by k.
-fn spread(f: Formula, a: Assignment, answers: [u8; limits::MAX_CLAUSES], k: u8) -> [u8; limits::MAX_CLAUSES]
+fn spread(
+    f: Formula,
+    a: Assignment,
+    answers: [u8; limits::MAX_CLAUSES],
+    k: u8,
+) -> [u8; limits::MAX_CLAUSES]
     requires { ⌜ (f .count ≤ max-clauses) × ((i : ℕ) → i < max-clauses → getD answers i 0 + k < 256) ⌝ }
     ensures { λ r. ⌜ r ≡ padded max-clauses 0 (bytes-at (f .clauses) a answers k (f .count)) ⌝ }
 {
