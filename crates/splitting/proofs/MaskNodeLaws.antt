@@ -148,7 +148,7 @@ module _ (a : Assignment) (v : ℕ) (b : Bool) (new : bit (assigned a) v ≡ fal
 -- ---- the assignment of a trail
 
 -- the variables of a trail are assigned
-assigned-all : (a : Assignment) (t : List Literal) (i : ℕ) → bit (assigned (assign-all a t)) i ≡ bit (assigned a) i || names t i
+pub assigned-all : (a : Assignment) (t : List Literal) (i : ℕ) → bit (assigned (assign-all a t)) i ≡ bit (assigned a) i || names t i
 unfolding assign-all names
 assigned-all a [] i = sym (or-false (bit (assigned a) i))
 assigned-all a (l ∷ t) i =
@@ -160,10 +160,16 @@ pub assigned-trail : (t : List Literal) (i : ℕ) → bit (assigned (assignment-
 assigned-trail t i = assigned-all (record { trues = 0; falses = 0 }) t i ∙ rw (bit-none i)
 
 -- one variable more
-assign-all-more : (a : Assignment) (t : List Literal) (l : Literal) → assign-all a (t ++ (l ∷ [])) ≡ set-to (assign-all a t) (l .variable) (l .positive)
+pub assign-all-more : (a : Assignment) (t : List Literal) (l : Literal) → assign-all a (t ++ (l ∷ [])) ≡ set-to (assign-all a t) (l .variable) (l .positive)
 unfolding assign-all
 assign-all-more a [] l = refl
 assign-all-more a (k ∷ t) l = assign-all-more (set-to a (k .variable) (k .positive)) t l
+
+-- more literals
+pub assign-all-append : (a : Assignment) (t u : List Literal) → assign-all a (t ++ u) ≡ assign-all (assign-all a t) u
+unfolding assign-all
+assign-all-append a [] u = refl
+assign-all-append a (k ∷ t) u = assign-all-append (set-to a (k .variable) (k .positive)) t u
 
 pub assignment-more : (t : List Literal) (l : Literal) → assignment-of (t ++ (l ∷ [])) ≡ set-to (assignment-of t) (l .variable) (l .positive)
 assignment-more t l = assign-all-more (record { trues = 0; falses = 0 }) t l
