@@ -4,15 +4,16 @@ use mathlib.Core.Bool.{Bool, true, false}
 use mathlib.Core.List.{List, [], _∷_}
 use mathlib.Core.Path.{_≡_, sym, ap, _∙_}
 use native.Mathlib.Omega.{arith}
-use Rattle.masks.specs.Mask.{bit, full}
+use Rattle.masks.specs.Mask.{bit}
 use Rattle.masks.proofs.BitLaws.{bit-with-same, bit-with-other, bit-without-same, bit-without-other}
 use Rattle.formula.specs.declared.Formula.{Formula}
 use Rattle.formula.specs.Format.{Literal}
-use Rattle.splitting.specs.InnerChoose.{all-satisfied, free-choice, assignment-of}
+use Rattle.splitting.specs.InnerChoose.{all-satisfied}
 use Rattle.splitting.proofs.FreeLaws.{satisfied-stays, chosen-satisfied}
-use Rattle.splitting.proofs.MaskNodeLaws.{assignment-more}
+use Rattle.splitting.proofs.MaskNodeLaws.{assign-all-more}
 use Rattle.walk.specs.InnerStack.{Stack, empty, push, depth, trail-of, Tree}
-use Rattle.enumeration.specs.InnerState.{Follows, onto, Free, Clears, marked-as}
+use Rattle.enumeration.specs.declared.scope.Scope.{Scope}
+use Rattle.enumeration.specs.InnerState.{assigned-at, Follows, onto, Free, Clears, marked-as}
 
 pub bit-marked : (m d : ℕ) (b : Bool) → bit (marked-as m d b) d ≡ b
 bit-marked m d true = bit-with-same m d
@@ -29,21 +30,17 @@ module _ (K : Tree) (t : Stack) (g : Free K t) where
   unfolding onto
   free-push v b = λ ls. g (record { variable = v; positive = b } ∷ ls)
 
-module _ (f : Formula) (K : Tree) (F : Follows f K) where
+module _ (f : Formula) (z : Scope) (K : Tree) (F : Follows f z K) where
   -- satisfied clauses stay so on every longer trail
-  satisfied-onto : (t : Stack) (ls : List Literal) → all-satisfied f (assignment-of (trail-of t)) ≡ true → all-satisfied f (assignment-of (trail-of (onto t ls))) ≡ true
+  satisfied-onto : (t : Stack) (ls : List Literal) → all-satisfied f (assigned-at K t) ≡ true → all-satisfied f (assigned-at K (onto t ls)) ≡ true
   unfolding onto trail-of
   satisfied-onto t [] e = e
   satisfied-onto t (l ∷ ls) e =
       satisfied-onto (push (l .variable) (l .positive) t) ls
-      (ap (all-satisfied f) (assignment-more (trail-of t) l) ∙ satisfied-stays f (assignment-of (trail-of t)) e (l .variable) (l .positive))
+      (ap (all-satisfied f) (assign-all-more (K .before) (trail-of t) l) ∙ satisfied-stays f (assigned-at K t) e (l .variable) (l .positive))
 
-  pub free-satisfied : (t : Stack) → all-satisfied f (assignment-of (trail-of t)) ≡ true → Free K t
-  free-satisfied t e =
-      λ ls r l.
-      sym (F .chooses (onto t ls) r l)
-      ∙ chosen-satisfied f (assignment-of (trail-of (onto t ls))) (satisfied-onto t ls e) (full (f .variables))
-      ∙ ap (λ (n : ℕ). free-choice (full n) (assignment-of (trail-of (onto t ls)))) (sym (F .size))
+  pub free-satisfied : (t : Stack) → all-satisfied f (assigned-at K t) ≡ true → Free K t
+  free-satisfied t e = λ ls r l. sym (F .chooses (onto t ls) r l) ∙ chosen-satisfied f (assigned-at K (onto t ls)) (satisfied-onto t ls e) (K .mask)
 
 -- ---- the mask
 

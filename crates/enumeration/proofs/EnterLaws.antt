@@ -1,50 +1,86 @@
 -- The state of a checkpoint that the walk of an input has: its calls and lists go on from there.
-use Prim.Native.Nat.{ℕ}
+use Prim.Native.Nat.{ℕ, _≤_}
 use mathlib.Core.Bool.{true, false}
 use mathlib.Core.List.{List}
-use mathlib.Core.Path.{_≡_, sym, _∙_, subst}
+use mathlib.Core.Path.{_≡_, refl, sym, ap, _∙_, subst}
+use native.Mathlib.Omega.{arith}
 use lib.ListN.{length}
-use Rattle.limits.specs.Limits.{max-variables}
+use Rattle.limits.specs.Limits.{max-variables, max-clauses}
 use Rattle.formula.specs.declared.Formula.{Formula}
+use Rattle.formula.specs.declared.Outcome.{Outcome}
 use Rattle.formula.specs.declared.Refusal.the-variants.{ForeignCheckpoint}
-use Rattle.matched.proofs.AcceptanceLaws.{accepted-is}
-use Rattle.matched.specs.InnerAccept.{Takes}
-use Rattle.walk.specs.Task.{whole}
+use Rattle.formula.specs.InnerMasked.{formula-of}
+use Rattle.matched.specs.InnerAccept.{Takes, Decides}
+use Rattle.walk.specs.Task.{Task, whole}
 use Rattle.walk.specs.Checkpoints.{Checkpoint}
 use Rattle.walk.specs.InnerStack.{Tree, tree}
 use Rattle.walk.specs.InnerTest.{accepts, read, position-of}
 use Rattle.walk.specs.WalkCall.{walk-call}
 use Rattle.walk.specs.Results.{refusing}
-use Rattle.walk.proofs.ResumedLaws.{call-resumed}
+use Rattle.walk.proofs.TaskLaws.{call-tested}
+use Rattle.walk.proofs.RefusalLaws.{call-declined, call-accepted, accepted-posed}
 use Rattle.enumeration.specs.declared.entering.Entered.{Entered}
+use Rattle.enumeration.specs.declared.scope.Scope.{Scope}
+use Rattle.enumeration.specs.InnerScope.{whole-scope}
 use Rattle.enumeration.specs.InnerState.{position-in, Follows, Holds}
-use Rattle.enumeration.specs.InnerEnter.{Begun}
+use Rattle.enumeration.specs.InnerEnter.{WalkedAs, Walkable, Begun}
 use Rattle.enumeration.proofs.FollowsLaws.{follows}
+use Rattle.enumeration.proofs.ScopeLaws.{whole-task}
 use Rattle.enumeration.proofs.ListLaws.{brought-resumed, brought-from}
 
-module _ (s : List ℕ) (f : Formula) (w : Takes s f) where
-  -- the tree of an accepted input
-  abbrev pub tree-of : Tree
-  tree-of = tree (whole (w .variables) (w .clauses))
+-- ---- an input that is walked as a task
 
-  pub tree-follows : Follows f tree-of
-  tree-follows =
-      subst (λ (g : Formula). Follows g tree-of) (sym (w .formula))
-      (follows (w .sized) (accepted-is s (w .variables) (w .clauses) (w .row) (w .accepts) .sound))
+module _ (s : List ℕ) (f : Formula) (z : Scope) (w : WalkedAs s f z) where
+  abbrev T : Task
+  T = w .task
+
+  -- the code's choices make the task's tree
+  pub walked-follows : Follows f z (tree (w .task))
+  walked-follows =
+      let few : length (T .clauses) ≤ max-clauses = omega (arith, w .fits .few, ap (λ (g : Formula). g .count) (w .formula)) in
+      subst (λ (g : Formula). Follows g z (tree T)) (sym (w .formula))
+      (subst (λ (y : Scope). Follows (formula-of (T .variables) (T .clauses)) y (tree T)) (sym (w .scope)) (follows T (w .posed) few))
 
   module _ (c : Checkpoint) (whole-bytes : length (c .bytes) ≡ max-variables) where
     -- the checkpoint passes the test
-    pub entered-begun : (r : Entered) → accepts tree-of c ≡ true → Holds tree-of (r .state)
-        → position-in (r .state) ≡ position-of (tree-of .size) (c .mode) (read c) → Begun s f c r
+    pub entered-begun : (r : Entered) → accepts (tree (w .task)) c ≡ true → Holds (tree (w .task)) (r .state)
+        → position-in (r .state) ≡ position-of (tree (w .task) .size) (c .mode) (read c) → Begun s f z c r
     entered-begun r a h p = record {
-      tree = tree-of;
+      tree = tree T;
       fits = w .fits;
-      follows = tree-follows;
+      follows = walked-follows;
       holds = h;
-      calls = λ b. call-resumed s c b whole-bytes _ _ (w .row) (w .accepts) ∙ rw (a, p);
-      lists = λ k l. brought-resumed s _ _ (w .row) (w .accepts) c whole-bytes k ∙ brought-from f (w .fits) tree-of tree-follows k c l a ∙ rw p;
+      calls = λ b. call-tested s T (w .posed) (w .calls) c b whole-bytes ∙ rw (a, p);
+      lists = λ k l. brought-resumed s T (w .posed) (w .calls) c whole-bytes k ∙ brought-from f z (tree T) walked-follows k c l a ∙ rw p;
     }
 
     -- it does not: 11
-    pub entered-foreign : accepts tree-of c ≡ false → (b : ℕ) → walk-call s c b ≡ refusing (ForeignCheckpoint 0) c
-    entered-foreign a b = call-resumed s c b whole-bytes _ _ (w .row) (w .accepts) ∙ rw a
+    pub entered-foreign : accepts (tree (w .task)) c ≡ false → (b : ℕ) → walk-call s c b ≡ refusing (ForeignCheckpoint 0) c
+    entered-foreign a b = call-tested s T (w .posed) (w .calls) c b whole-bytes ∙ rw a
+
+-- ---- an accepted input is walked as its formula's task
+
+module _ (s : List ℕ) (f : Formula) (w : Takes s f) where
+  abbrev pub tree-of : Tree
+  tree-of = tree (whole (w .variables) (w .clauses))
+
+  -- where all its variables are to be assigned
+  abbrev takes-walked : (z : Scope) → z ≡ whole-scope (f .variables) → WalkedAs s f z
+  takes-walked z e = record {
+    task = whole (w .variables) (w .clauses);
+    posed = accepted-posed s (w .variables) (w .clauses) (w .row) (w .accepts);
+    formula = w .formula;
+    scope = e ∙ ap (λ (g : Formula). whole-scope (g .variables)) (w .formula) ∙ whole-task (w .variables) (w .clauses);
+    fits = w .fits;
+    calls = call-accepted s (w .variables) (w .clauses) (w .row) (w .accepts);
+  }
+
+  pub tree-follows : Follows f (whole-scope (f .variables)) tree-of
+  tree-follows = walked-follows s f (whole-scope (f .variables)) (takes-walked (whole-scope (f .variables)) refl)
+
+-- so what comes of an input is what its walk asks
+pub decides-walkable : (s : List ℕ) (o : Outcome) (f : Formula) (z : Scope) → z ≡ whole-scope (f .variables) → Decides s o f → Walkable s o f z
+decides-walkable s o f z e d = record {
+  walked = λ q. takes-walked s f (d .takes q) z e;
+  declined = λ r q c b. let x = d .declines r q in call-declined s r (x .0) c b (x .1);
+}

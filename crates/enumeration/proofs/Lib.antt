@@ -4,6 +4,7 @@ pub mod NextLaws
 pub mod StepLaws
 pub mod RunLaws
 pub mod FollowsLaws
+pub mod ScopeLaws
 pub mod FormLaws
 pub mod ReplayLaws
 pub mod TellLaws

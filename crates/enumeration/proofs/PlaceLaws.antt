@@ -1,6 +1,6 @@
 -- The place of a checkpoint's mode at the node of its trail.
 use Prim.Native.Nat.{ℕ, zero, suc}
-use mathlib.Core.Bool.{Bool, true, false, not, _&&_, _||_, true≢false, false≢true, and-true, and-false, or-false}
+use mathlib.Core.Bool.{Bool, true, false, not, _&&_, _||_, true≢false, false≢true, and-true, and-false}
 use mathlib.Core.Path.{_≡_, refl, sym, ap, _∙_, subst}
 use native.Mathlib.Omega.{arith}
 use lib.Dec.{eqb, ltb}
@@ -11,6 +11,7 @@ use Rattle.walk.specs.Checkpoints.{undone-mode}
 use Rattle.walk.specs.Checkpoints as walk
 use Rattle.walk.specs.InnerStack.{Stack, empty, push, depth, Tree}
 use Rattle.walk.specs.InnerTest.{is-empty, replays, fits, formed, read, accepts}
+use Rattle.enumeration.specs.declared.scope.Scope.{Scope}
 use Rattle.enumeration.specs.declared.state.State.{State}
 use Rattle.enumeration.specs.declared.reading.Tested.{Tested}
 use Rattle.enumeration.specs.InnerState.{stack-in, position-at, Follows, Holds, marked-as, at-place}
@@ -46,7 +47,7 @@ undoing s c = record {
   clear = s .clear;
 }
 
-module _ (f : Formula) (K : Tree) (F : Follows f K) (s : State) (n : Node K (stack-in s) s) where
+module _ (f : Formula) (z : Scope) (K : Tree) (F : Follows f z K) (s : State) (n : Node K (stack-in s) s) where
   h : Holds K s
   h = n .holds
 
@@ -55,7 +56,7 @@ module _ (f : Formula) (K : Tree) (F : Follows f K) (s : State) (n : Node K (sta
 
   -- ---- modes 2 and 3
 
-  fits-full : (b : Bool) → s .length ≡ f .variables → fits K (undone-mode b) (stack-in s) ≡ false
+  fits-full : (b : Bool) → s .length ≡ z .size → fits K (undone-mode b) (stack-in s) ≡ false
   unfolding fits
   fits-full b e =
       let l : ltb (depth (stack-in s)) (K .size) ≡ false = le-ltb (depth (stack-in s)) (K .size) (let d = h .deep in let q = F .size in omega arith) in
@@ -66,12 +67,12 @@ module _ (f : Formula) (K : Tree) (F : Follows f K) (s : State) (n : Node K (sta
       at true l = rw (h .replayed, l)
 
   -- at full length nothing was undone
-  pub taken-full : (b : Bool) → s .length ≡ f .variables → PlaceTaken K (undone-mode b) (stack-in s) (fits K (undone-mode b) (stack-in s)) (record { known = false; state = s })
+  pub taken-full : (b : Bool) → s .length ≡ z .size → PlaceTaken K (undone-mode b) (stack-in s) (fits K (undone-mode b) (stack-in s)) (record { known = false; state = s })
   taken-full b e = taken-none K (undone-mode b) (stack-in s) _ _ refl (fits-full b e)
 
-  module _ (ne : s .length ≡ f .variables → ⊥) (c : Choice) (e : c ≡ K .choose (stack-in s)) where
+  module _ (ne : s .length ≡ z .size → ⊥) (c : Choice) (e : c ≡ K .choose (stack-in s)) where
     below : ltb (depth (stack-in s)) (K .size) ≡ true
-    below = lt-ltb _ _ (within f K F s h ne)
+    below = lt-ltb _ _ (within f z K F s h ne)
 
     fits-true : fits K 3 (stack-in s) ≡ c .true_open && not (eqb (s .length) 0)
     unfolding fits
@@ -83,21 +84,21 @@ module _ (f : Formula) (K : Tree) (F : Follows f K) (s : State) (n : Node K (sta
 
     -- mode 3 with nothing assigned: that is the end
     pub taken-true-root : s .length ≡ 0 → PlaceTaken K 3 (stack-in s) (fits K 3 (stack-in s)) (record { known = false; state = s })
-    taken-true-root z = taken-none K 3 (stack-in s) _ _ refl (fits-true ∙ rw (eq-eqb (s .length) 0 z) (and-false (c .true_open)))
+    taken-true-root l = taken-none K 3 (stack-in s) _ _ refl (fits-true ∙ rw (eq-eqb (s .length) 0 l) (and-false (c .true_open)))
 
     -- mode 3 elsewhere: if true is open
     pub taken-true : (s .length ≡ 0 → ⊥) → (u : State) → u ≡ at-place s 3 → PlaceTaken K 3 (stack-in s) (fits K 3 (stack-in s)) (record { known = c .true_open; state = u })
-    taken-true z u q =
+    taken-true l u q =
         rw q
         (record {
-          known = sym (fits-true ∙ rw (ne-eqb (s .length) 0 z) (and-true (c .true_open)));
+          known = sym (fits-true ∙ rw (ne-eqb (s .length) 0 l) (and-true (c .true_open)));
           holds = λ x. holds-place K s (stack-in s) 3 h (omega arith) (λ y. absurd (omega arith)) (λ y. absurd (omega arith)) (λ y. absurd (omega arith));
           position = λ x. refl;
         })
 
     -- mode 2 with nothing assigned and true not open: that is the end
     pub taken-false-root : s .length ≡ 0 → c .true_open ≡ false → PlaceTaken K 2 (stack-in s) (fits K 2 (stack-in s)) (record { known = false; state = s })
-    taken-false-root z o = taken-none K 2 (stack-in s) _ _ refl (fits-false ∙ rw (eq-eqb (s .length) 0 z, o) (and-false (c .false_open)))
+    taken-false-root l o = taken-none K 2 (stack-in s) _ _ refl (fits-false ∙ rw (eq-eqb (s .length) 0 l, o) (and-false (c .false_open)))
 
     undone-holds : Holds K (undoing s c)
     undone-holds =
@@ -114,13 +115,13 @@ module _ (f : Formula) (K : Tree) (F : Follows f K) (s : State) (n : Node K (sta
           opens = o .1;
           clears = h .clears;
           at-full = λ x. absurd (omega arith);
-          at-back = λ x. (let d = h .deep in let w = within f K F s h ne in omega arith, ap (λ (d : Choice). d .variable) e, bit-marked (s .open_true) (s .length) (c .true_open) ∙ y);
+          at-back = λ x. (let d = h .deep in let w = within f z K F s h ne in omega arith, ap (λ (d : Choice). d .variable) e, bit-marked (s .open_true) (s .length) (c .true_open) ∙ y);
           at-over = λ x. absurd (omega arith);
         }
 
     -- mode 2 elsewhere: if false is open
     pub taken-false : (s .length ≡ 0 → c .true_open ≡ true) → (u : State) → u ≡ undoing s c → PlaceTaken K 2 (stack-in s) (fits K 2 (stack-in s)) (record { known = c .false_open; state = u })
-    taken-false z u q =
+    taken-false o u q =
         rw q
         (record {
           known = sym (fits-false ∙ ap (λ (x : Bool). c .false_open && x) (at (eqb (s .length) 0) refl) ∙ and-true (c .false_open));
@@ -129,7 +130,7 @@ module _ (f : Formula) (K : Tree) (F : Follows f K) (s : State) (n : Node K (sta
         })
       where
         at : (x : Bool) → eqb (s .length) 0 ≡ x → not x || c .true_open ≡ true
-        at true y = z (eqb-true (s .length) 0 y)
+        at true y = o (eqb-true (s .length) 0 y)
         at false y = refl
 
   -- ---- the other modes
@@ -140,32 +141,46 @@ module _ (f : Formula) (K : Tree) (F : Follows f K) (s : State) (n : Node K (sta
   taken-start m e =
       rw e (record { known = is-empty-length; holds = λ x. h; position = λ x. ap (λ (p : ℕ). position-at p (stack-in s)) (n .place) })
 
-  fits-assigned : fits K 1 (stack-in s) ≡ not (eqb (s .length) 0)
+  -- at full length mode 1 fits, also where no variable is to be assigned
+  fits-model : s .length ≡ z .size → fits K 1 (stack-in s) ≡ true
   unfolding fits
-  fits-assigned =
-      let z : eqb (K .size) 0 ≡ false = ne-eqb (K .size) 0 (λ z. omega (arith, F .size, F .some)) in
-      rw (h .replayed, is-empty-length, z) (and-true _ ∙ or-false (not (is-empty (stack-in s))))
+  fits-model l =
+      let e : eqb (K .size) 0 ≡ is-empty (stack-in s) = length-empty (stack-in s) (K .size) (h .deep ∙ l ∙ sym (F .size)) in
+      rw (h .replayed, e) (and-true _ ∙ at (is-empty (stack-in s)))
+    where
+      at : (x : Bool) → not x || x ≡ true
+      at true = refl
+      at false = refl
+
+  -- elsewhere it does if a variable is assigned
+  fits-assigned : (s .length ≡ z .size → ⊥) → fits K 1 (stack-in s) ≡ not (eqb (s .length) 0)
+  unfolding fits
+  fits-assigned l = rw (h .replayed, is-empty-length) (and-true _ ∙ at (stack-in s) (h .deep))
+    where
+      at : (t : Stack) → depth t ≡ s .length → not (is-empty t) || eqb (K .size) 0 ≡ not (is-empty t)
+      at empty e = ne-eqb (K .size) 0 (λ q. l (sym e ∙ sym q ∙ F .size))
+      at (push v b t) e = refl
 
   -- mode 1 at full length: the model is handed out
-  pub taken-model : (m : ℕ) → m ≡ 1 → s .length ≡ f .variables → (u : State) → u ≡ at-place s 1
-      → PlaceTaken K m (stack-in s) (fits K m (stack-in s)) (record { known = not (eqb (s .length) 0); state = u })
+  pub taken-model : (m : ℕ) → m ≡ 1 → s .length ≡ z .size → (u : State) → u ≡ at-place s 1
+      → PlaceTaken K m (stack-in s) (fits K m (stack-in s)) (record { known = true; state = u })
   taken-model m e l u q =
       let d : depth (stack-in s) ≡ K .size = h .deep ∙ l ∙ sym (F .size) in
       rw (e, q)
       (record {
-        known = sym fits-assigned;
+        known = sym (fits-model l);
         holds = λ x. holds-place K s (stack-in s) 1 h (omega arith) (λ y. l ∙ sym (F .size)) (λ y. absurd (omega arith)) (λ y. absurd (omega arith));
         position = λ x. rw (eq-eqb _ _ d);
       })
 
   -- mode 1 elsewhere
-  pub taken-assigned : (m : ℕ) → m ≡ 1 → (s .length ≡ f .variables → ⊥)
+  pub taken-assigned : (m : ℕ) → m ≡ 1 → (s .length ≡ z .size → ⊥)
       → PlaceTaken K m (stack-in s) (fits K m (stack-in s)) (record { known = not (eqb (s .length) 0); state = s })
   taken-assigned m e l =
       let d : eqb (depth (stack-in s)) (K .size) ≡ false = ne-eqb _ _ (λ y. l (sym (h .deep) ∙ y ∙ F .size)) in
       rw e
       (record {
-        known = sym fits-assigned;
+        known = sym (fits-assigned l);
         holds = λ x. h;
         position = λ x. rw (d, n .place);
       })

@@ -8,7 +8,7 @@ use native.Mathlib.Omega.{arith}
 use lib.Dec.{eqb, ltb}
 use lib.ListN.{length, take, getD}
 use borrow.Author.Tests.{eq-eqb, ne-eqb, lt-ltb, le-ltb}
-use Rattle.masks.specs.Mask.{full}
+use Rattle.limits.specs.Limits.{max-variables}
 use Rattle.formula.specs.declared.Formula.{Formula}
 use Rattle.splitting.specs.declared.Choice.{Choice}
 use Rattle.splitting.specs.InnerChoose.{mask-choice}
@@ -16,6 +16,7 @@ use Rattle.splitting.specs.Terms.{opened}
 use Rattle.walk.specs.InnerStack.{Stack, empty, push, depth, Tree}
 use Rattle.walk.specs.InnerTest.{byte-number, byte-value, pushed, replays}
 use Rattle.walk.proofs.ReplayLaws.{read-next}
+use Rattle.enumeration.specs.declared.scope.Scope.{Scope}
 use Rattle.enumeration.specs.declared.state.State.{State}
 use Rattle.enumeration.specs.declared.reading.Tested.{Tested}
 use Rattle.enumeration.specs.InnerState.{stack-in, Follows, Free, Holds, Valid, pushing}
@@ -25,20 +26,20 @@ use Rattle.enumeration.proofs.StateLaws.{holds-stack, holds-own, holds-
 use Rattle.enumeration.proofs.StepLaws.{choice-at}
 use Rattle.enumeration.proofs.FormLaws.{replays-stops}
 
-module _ (f : Formula) (K : Tree) (F : Follows f K) (s : State) (h : Holds K s) where
+module _ (f : Formula) (z : Scope) (K : Tree) (F : Follows f z K) (s : State) (h : Holds K s) where
   -- a trail of full length goes no further
-  replays-full : (v : ℕ) (b : Bool) → s .length ≡ f .variables → replays K (push v b (stack-in s)) ≡ false
+  replays-full : (v : ℕ) (b : Bool) → s .length ≡ z .size → replays K (push v b (stack-in s)) ≡ false
   unfolding replays
   replays-full v b e =
       let l : ltb (depth (stack-in s)) (K .size) ≡ false = le-ltb (depth (stack-in s)) (K .size) (let d = h .deep in let q = F .size in omega arith) in
       rw (h .replayed, l)
 
   -- so no variable is known there
-  pub replayed-full : (v : ℕ) (b : Bool) → s .length ≡ f .variables → Replayed K (push v b (stack-in s)) (record { known = false; state = s })
+  pub replayed-full : (v : ℕ) (b : Bool) → s .length ≡ z .size → Replayed K (push v b (stack-in s)) (record { known = false; state = s })
   replayed-full v b e = record { known = sym (replays-full v b e); node = λ x. absurd (false≢true x) }
 
-  module _ (ne : s .length ≡ f .variables → ⊥) where
-    not-full : s .length < f .variables
+  module _ (ne : s .length ≡ z .size → ⊥) where
+    not-full : s .length < z .size
     not-full = let d = h .short in let q = F .size in omega arith
 
     -- a trail that is not full has room
@@ -46,11 +47,11 @@ module _ (f : Formula) (K : Tree) (F : Follows f K) (s : State) (h : Holds K s) 
     within = let d = h .deep in let l = not-full in let q = F .size in omega arith
 
     -- the code's choice is the tree's
-    pub choice-is : (c : Choice) → c ≡ mask-choice f (full (f .variables)) (s .assignment) → c ≡ K .choose (stack-in s)
-    choice-is c x = x ∙ choice-at f K F s h not-full
+    pub choice-is : (c : Choice) → c ≡ mask-choice f (z .mask) (s .assignment) → c ≡ K .choose (stack-in s)
+    choice-is c x = x ∙ choice-at f z K F s h not-full
 
     module _ (c : Choice) (e : c ≡ K .choose (stack-in s)) where
-      choice-low : c .variable < f .variables
+      choice-low : c .variable < max-variables
       choice-low = rw e (F .low (stack-in s) (h .replayed) within)
 
       -- another variable than the chosen one
@@ -80,11 +81,11 @@ module _ (f : Formula) (K : Tree) (F : Follows f K) (s : State) (h : Holds K s) 
           let x = opens-next K (s .open_true) (s .length) (c .true_open) t (c .variable) in
           let y : c .true_open ≡ K .choose t .true_open = ap (λ (d : Choice). d .true_open) e in
           let q = holds-noted K s t (c .true_open) free h (x true (h .deep) y (h .opens)) (clears-note K (s .clear) (s .length) free t (sym (h .deep)) g (h .clears)) in
-          let n = holds-push f K F (noted s (c .true_open) free) t q
+          let n = holds-push f z K F (noted s (c .true_open) free) t q
           (c .variable) b within (ap (λ (d : Choice). d .variable) e) (ap (λ (d : Choice). opened d b) (sym e) ∙ o) (x b (h .deep) y (h .opens)) in
           record {
-            holds = holds-own f K F _ _ n;
-            stack = holds-stack f K F _ _ n;
+            holds = holds-own f z K F _ _ n;
+            stack = holds-stack f z K F _ _ n;
             place = refl;
           }
 
@@ -94,14 +95,18 @@ module _ (f : Formula) (K : Tree) (F : Follows f K) (s : State) (h : Holds K s) 
       replayed-chosen v x b free u g p q r = rw (p, q, r) (record { known = sym (replays-open b); node = node-more b free g })
 
 -- what the next call needs
-module _ (f : Formula) (s : State) (w : Valid f s) (ne : s .length ≡ f .variables → ⊥) where
-  -- there is room
-  pub valid-short : s .length < f .variables
-  valid-short = not-full f (w .tree) (w .follows) s (w .holds) ne
+module _ (f : Formula) (z : Scope) (s : State) (w : Valid f z s) (ne : s .length ≡ z .size → ⊥) where
+  -- a variable is left to assign
+  pub valid-short : s .length < z .size
+  valid-short = not-full f z (w .tree) (w .follows) s (w .holds) ne
 
-  -- the chosen variable is one of the formula's
-  pub valid-low : (c : Choice) → c ≡ mask-choice f (full (f .variables)) (s .assignment) → c .variable < f .variables
-  valid-low c x = choice-low f (w .tree) (w .follows) s (w .holds) ne c (choice-is f (w .tree) (w .follows) s (w .holds) ne c x)
+  -- and there is room
+  pub valid-room : s .length < max-variables
+  valid-room = let l = valid-short in let m = w .follows .most in omega arith
+
+  -- the chosen variable is below 48
+  pub valid-low : (c : Choice) → c ≡ mask-choice f (z .mask) (s .assignment) → c .variable < max-variables
+  valid-low c x = choice-low f z (w .tree) (w .follows) s (w .holds) ne c (choice-is f z (w .tree) (w .follows) s (w .holds) ne c x)
 
 -- ---- the trail, byte by byte
 

@@ -11,6 +11,7 @@ use Rattle.walk.specs.Checkpoints.{Checkpoint}
 use Rattle.enumeration.specs.Values.{checkpoint-values}
 use Rattle.enumeration.specs.InnerState.{stack-in, position-in, Follows, Holds, marked-as}
 use Rattle.enumeration.specs.declared.checkpoint.Checkpoint as code
+use Rattle.enumeration.specs.declared.scope.Scope.{Scope}
 use Rattle.enumeration.specs.declared.state.State.{State}
 use Rattle.enumeration.specs.declared.reading.Tested.{Tested}
 
@@ -19,10 +20,10 @@ pub record FormTested (c : code.Checkpoint) (r : Bool) : Type 0 where
   pub answer : r ≡ formed (checkpoint-values c)
   pub full : r ≡ true → length (c .bytes) ≡ max-variables
 
--- the formula's choices make a tree
-pub record HasTree (f : Formula) : Type 0 where
+-- the formula's choices over the scope make a tree
+pub record HasTree (f : Formula) (z : Scope) : Type 0 where
   pub tree : Tree
-  pub follows : Follows f tree
+  pub follows : Follows f z tree
 
 -- the state holds the node of the trail t
 pub record Node (K : Tree) (t : Stack) (s : State) : Type 0 where

@@ -1,3 +1,4 @@
+pub mod InnerScope
 pub mod InnerState
 pub mod Values
 pub mod InnerRead

@@ -2,14 +2,14 @@
 ghost use mathlib.Core.List.{List};
 ghost use Prim.Native.Nat.{ℕ};
 ghost use Rattle.formula.specs.InnerFits.{FormulaFits};
-ghost use Rattle.matched.specs.InnerAccept.{Decides};
 ghost use Rattle.walk.specs.InnerStack.{Tree};
 ghost use Rattle.enumeration.specs.InnerState.{Follows};
 ghost use Rattle.enumeration.specs.InnerRead.{HasTree};
-ghost use Rattle.enumeration.specs.InnerEnter.{Stands, Enters};
+ghost use Rattle.enumeration.specs.InnerEnter.{Stands, Walkable, Enters};
 ghost use Rattle.enumeration.specs.Values.{checkpoint-values};
 use crate::checkpoint::Checkpoint;
 use crate::reading::read_checkpoint;
+use crate::scope::Scope;
 use crate::state::State;
 use crate::state::root;
 use formula::Formula;
@@ -23,11 +23,11 @@ pub struct Entered {
 }
 
 // The state of a checkpoint in the walk of an accepted formula, or 11.
-fn enter_formula(f: Formula, c: Checkpoint) -> Entered
-    requires { ⌜ FormulaFits f × HasTree f ⌝ }
-    ensures { λ r. ⌜ ((K : Tree) → Follows f K → Stands K (checkpoint-values c) r) ⌝ }
+fn enter_formula(f: Formula, z: Scope, c: Checkpoint) -> Entered
+    requires { ⌜ FormulaFits f × HasTree f z ⌝ }
+    ensures { λ r. ⌜ ((K : Tree) → Follows f z K → Stands K (checkpoint-values c) r) ⌝ }
 {
-    let t = read_checkpoint(f, c);
+    let t = read_checkpoint(f, z, c);
     let state = t.state;
     if t.known {
         return Entered {
@@ -42,15 +42,15 @@ fn enter_formula(f: Formula, c: Checkpoint) -> Entered
 }
 
 // The state of a checkpoint in the walk of an input, by what comes of the input, or the refusal.
-pub fn enter(accepted: Outcome, f: Formula, c: Checkpoint) -> Entered
-    requires { ⌜ ((s : List ℕ) × Decides s accepted f) ⌝ }
-    ensures { λ r. ⌜ ((s : List ℕ) → Decides s accepted f → Enters s f (checkpoint-values c) r) ⌝ }
+pub fn enter(accepted: Outcome, f: Formula, z: Scope, c: Checkpoint) -> Entered
+    requires { ⌜ ((s : List ℕ) × Walkable s accepted f z) ⌝ }
+    ensures { λ r. ⌜ ((s : List ℕ) → Walkable s accepted f z → Enters s f z (checkpoint-values c) r) ⌝ }
 {
     match accepted {
         Outcome::Refused(refusal) => Entered {
             outcome: Outcome::Refused(refusal),
-            state: root(),
+            state: root(z),
         },
-        Outcome::Accepted => enter_formula(f, c),
+        Outcome::Accepted => enter_formula(f, z, c),
     }
 }

@@ -14,6 +14,7 @@ ghost use Rattle.enumeration.specs.Values.{checkpoint-values};
 use crate::checkpoint::Checkpoint;
 use crate::checkpoint::number_of;
 use crate::checkpoint::well_formed;
+use crate::scope::Scope;
 use crate::state::State;
 use crate::state::apply;
 use crate::state::mark;
@@ -42,14 +43,14 @@ fn unknown(s: State) -> Tested
 }
 
 // Assigns a byte's variable again, if it is the chosen one and its value open.
-fn replay_byte(f: Formula, s: State, b: u8) -> Tested
-    requires { ⌜ FormulaFits f × Valid f s × (1 ≤ byte-number b) ⌝ }
-    ensures { λ r. ⌜ ((K : Tree) → Follows f K → Holds K s → Replayed K (push (byte-number b - 1) (byte-value b) (stack-in s)) r) ⌝ }
+fn replay_byte(f: Formula, z: Scope, s: State, b: u8) -> Tested
+    requires { ⌜ FormulaFits f × Valid f z s × (1 ≤ byte-number b) ⌝ }
+    ensures { λ r. ⌜ ((K : Tree) → Follows f z K → Holds K s → Replayed K (push (byte-number b - 1) (byte-value b) (stack-in s)) r) ⌝ }
 {
-    if s.length == f.variables {
+    if s.length == z.size {
         return unknown(s);
     }
-    let p = pick(f, s);
+    let p = pick(f, z, s);
     let c = p.choice;
     if number_of(b) != c.variable + 1 {
         return unknown(s);
@@ -68,17 +69,17 @@ fn replay_byte(f: Formula, s: State, b: u8) -> Tested
 }
 
 // Assigns the checkpoint's variables again.
-fn replay(f: Formula, c: Checkpoint) -> Tested
-    requires { ⌜ FormulaFits f × HasTree f × (formed (checkpoint-values c) ≡ true) × (length (c .bytes) ≡ max-variables) ⌝ }
-    ensures { λ r. ⌜ ((K : Tree) → Follows f K → Replayed K (read (checkpoint-values c)) r) ⌝ }
+fn replay(f: Formula, z: Scope, c: Checkpoint) -> Tested
+    requires { ⌜ FormulaFits f × HasTree f z × (formed (checkpoint-values c) ≡ true) × (length (c .bytes) ≡ max-variables) ⌝ }
+    ensures { λ r. ⌜ ((K : Tree) → Follows f z K → Replayed K (read (checkpoint-values c)) r) ⌝ }
 {
     let bytes = c.bytes;
     let length = c.length as usize;
-    let mut s = root();
+    let mut s = root(z);
     let mut i: usize = 0;
     while i < length {
         let b = bytes[i];
-        let t = replay_byte(f, s, b);
+        let t = replay_byte(f, z, s, b);
         if !t.known {
             return t;
         }
@@ -92,15 +93,15 @@ fn replay(f: Formula, c: Checkpoint) -> Tested
 }
 
 // The state at a node where a value of the chosen variable was undone, if a walk comes there.
-fn take_undone(f: Formula, s: State, value: bool) -> Tested
-    requires { ⌜ FormulaFits f × Valid f s ⌝ }
-    ensures { λ r. ⌜ ((K : Tree) → Follows f K → Node K (stack-in s) s → PlaceTaken K (undone-mode value) (stack-in s) (fits K (undone-mode value) (stack-in s)) r) ⌝ }
+fn take_undone(f: Formula, z: Scope, s: State, value: bool) -> Tested
+    requires { ⌜ FormulaFits f × Valid f z s ⌝ }
+    ensures { λ r. ⌜ ((K : Tree) → Follows f z K → Node K (stack-in s) s → PlaceTaken K (undone-mode value) (stack-in s) (fits K (undone-mode value) (stack-in s)) r) ⌝ }
 {
-    if s.length == f.variables {
+    if s.length == z.size {
         return unknown(s);
     }
     let a = s.assignment;
-    let p = pick_by_clauses(f, a);
+    let p = pick_by_clauses(f, z, a);
     let c = p.choice;
     if value {
         if s.length == 0 {
@@ -133,9 +134,9 @@ fn take_undone(f: Formula, s: State, value: bool) -> Tested
 }
 
 // The state of a checkpoint's mode at the node of its trail, if a walk comes there.
-fn take_place(f: Formula, s: State, mode: u8) -> Tested
-    requires { ⌜ FormulaFits f × Valid f s ⌝ }
-    ensures { λ r. ⌜ ((K : Tree) → Follows f K → Node K (stack-in s) s → PlaceTaken K mode (stack-in s) (fits K mode (stack-in s)) r) ⌝ }
+fn take_place(f: Formula, z: Scope, s: State, mode: u8) -> Tested
+    requires { ⌜ FormulaFits f × Valid f z s ⌝ }
+    ensures { λ r. ⌜ ((K : Tree) → Follows f z K → Node K (stack-in s) s → PlaceTaken K mode (stack-in s) (fits K mode (stack-in s)) r) ⌝ }
 {
     if mode == 0 {
         return Tested {
@@ -144,9 +145,9 @@ fn take_place(f: Formula, s: State, mode: u8) -> Tested
         };
     }
     if mode == 1 {
-        if s.length == f.variables {
+        if s.length == z.size {
             return Tested {
-                known: s.length != 0,
+                known: true,
                 state: placed(s, 1),
             };
         }
@@ -156,10 +157,10 @@ fn take_place(f: Formula, s: State, mode: u8) -> Tested
         };
     }
     if mode == 2 {
-        return take_undone(f, s, false);
+        return take_undone(f, z, s, false);
     }
     if mode == 3 {
-        return take_undone(f, s, true);
+        return take_undone(f, z, s, true);
     }
     Tested {
         known: s.length == 0,
@@ -168,17 +169,17 @@ fn take_place(f: Formula, s: State, mode: u8) -> Tested
 }
 
 // S7.4: the checkpoint's test, and the state that it stands for.
-pub fn read_checkpoint(f: Formula, c: Checkpoint) -> Tested
-    requires { ⌜ FormulaFits f × HasTree f ⌝ }
-    ensures { λ r. ⌜ ((K : Tree) → Follows f K → PlaceTaken K (c .mode) (read (checkpoint-values c)) (accepts K (checkpoint-values c)) r) ⌝ }
+pub fn read_checkpoint(f: Formula, z: Scope, c: Checkpoint) -> Tested
+    requires { ⌜ FormulaFits f × HasTree f z ⌝ }
+    ensures { λ r. ⌜ ((K : Tree) → Follows f z K → PlaceTaken K (c .mode) (read (checkpoint-values c)) (accepts K (checkpoint-values c)) r) ⌝ }
 {
     if well_formed(c) {
-        let t = replay(f, c);
+        let t = replay(f, z, c);
         if t.known {
             let s = t.state;
-            return take_place(f, s, c.mode);
+            return take_place(f, z, s, c.mode);
         }
         return t;
     }
-    unknown(root())
+    unknown(root(z))
 }

@@ -10,6 +10,7 @@ ghost use Rattle.enumeration.specs.InnerRead.{Node, noted};
 ghost use Rattle.enumeration.specs.Values.{checkpoint-values};
 use crate::checkpoint::Checkpoint;
 use crate::checkpoint::byte_of;
+use crate::scope::Scope;
 use splitting::Assignment;
 
 // Where a walk stands. Place: 0 a variable is assigned next, or the model handed out; 1 the model was handed out; 2 false was
@@ -39,19 +40,17 @@ pub struct Moved {
     pub byte: u8,
 }
 
-// The state in which nothing is assigned.
-pub fn root() -> State
-    ensures { λ r. ⌜ ((K : Tree) → K .size ≤ max-variables → Node K empty r) ⌝ }
+// The state at the first node: what is assigned before, and no variable of the trail.
+pub fn root(z: Scope) -> State
+    ensures { λ r. ⌜ ((K : Tree) → K .size ≤ max-variables → K .before ≡ z .before → Node K empty r) ⌝ }
 {
+    let a = z.before;
     State {
         place: 0,
         variable: 0,
         length: 0,
         bytes: [0u8; limits::MAX_VARIABLES],
-        assignment: Assignment {
-            trues: 0,
-            falses: 0,
-        },
+        assignment: a,
         open_true: 0,
         clear: 0,
     }

@@ -8,6 +8,7 @@ use Rattle.walk.specs.Results.{AnswerKind, says-model, says-spent, says-ended, 
 use Rattle.formula.specs.declared.Formula.{Formula}
 use Rattle.formula.specs.InnerFits.{FormulaFits}
 use Rattle.matched.specs.InnerAccept.{Takes}
+use Rattle.enumeration.specs.declared.scope.Scope.{Scope}
 use Rattle.enumeration.specs.InnerState.{Follows}
 use Rattle.writing.specs.Placed.{Room}
 use Rattle.printing.specs.Printed.{model-line, end-line, more-line, call-lines, max-models, printed}
@@ -20,11 +21,11 @@ module _ (K : Tree) (n : ℕ) where
       let r = resume K ample-budget p in
       call-lines n (r .answer) (r .steps) (r .expansions) (lines-from j (r .position))
 
--- a formula within the limits, whose choices make a tree; and b has room for its lines from `at` on
-pub record Fitting (f : Formula) (at : ℕ) (b : List ℕ) : Type 0 where
+-- a formula within the limits, whose choices over a scope make a tree; and b has room for its lines from `at` on
+pub record Fitting (f : Formula) (z : Scope) (at : ℕ) (b : List ℕ) : Type 0 where
   pub fits : FormulaFits f
   pub tree : Tree
-  pub follows : Follows f tree
+  pub follows : Follows f z tree
   pub room : Room at (lines-from tree (f .variables) max-models (down empty)) b
 
 -- an accepted input has this formula, and b has room for its print

@@ -11,6 +11,7 @@ ghost use Rattle.printing.specs.InnerLines.{lines-from, Fitting, Printab
 ghost use Rattle.printing.specs.Printing.{printing};
 ghost use Rattle.printing.specs.Printed.{header, model-line, end-line, more-line, refused-line, refusal-line, max-models, printed};
 use enumeration::Ending;
+use enumeration::Scope;
 use formula::Formula;
 use formula::Outcome;
 use formula::Refusal;
@@ -90,15 +91,15 @@ fn put_refusal_line(refusal: Refusal, buffer: &mut [u8], at: usize) -> usize
 }
 
 // The lines of a walk from its start: its first models, each by a run that goes on to the next one or to the end.
-fn put_walk(f: Formula, buffer: &mut [u8], at: usize) -> usize
-    requires { ⌜ Fitting f at (now buffer) ⌝ }
-    ensures { λ r. ⌜ ((K : Tree) → Follows f K → Wrote (lines-from K (f .variables) max-models (down empty)) at (now (buffer .entry)) (now (buffer .exit)) r) ⌝ }
+fn put_walk(f: Formula, z: Scope, buffer: &mut [u8], at: usize) -> usize
+    requires { ⌜ Fitting f z at (now buffer) ⌝ }
+    ensures { λ r. ⌜ ((K : Tree) → Follows f z K → Wrote (lines-from K (f .variables) max-models (down empty)) at (now (buffer .entry)) (now (buffer .exit)) r) ⌝ }
 {
-    let mut s = enumeration::root();
+    let mut s = enumeration::root(z);
     let mut next = at;
     let mut left: usize = MAX_MODELS;
     while 0 < left {
-        let r = enumeration::go_on(f, s, enumeration::AMPLE_BUDGET);
+        let r = enumeration::go_on(f, z, s, enumeration::AMPLE_BUDGET);
         let ending = r.ending;
         match ending {
             Ending::Ended => return put_end_line(r.steps, r.expansions, buffer, next),
@@ -119,7 +120,8 @@ fn put_formula(f: Formula, buffer: &mut [u8]) -> usize
     ensures { λ r. ⌜ ((s : List ℕ) → Takes s f → Wrote (printed s) 0 (now (buffer .entry)) (now (buffer .exit)) r) ⌝ }
 {
     let next = put_header(f.variables, f.count, buffer, 0);
-    put_walk(f, buffer, next)
+    let z = enumeration::scope_of(f.variables, splitting::no_assignment());
+    put_walk(f, z, buffer, next)
 }
 
 // S12: prints the walk of an input, or its refusal, into the first bytes of the buffer, and answers how many these are.

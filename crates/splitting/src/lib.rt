@@ -72,7 +72,7 @@ pub fn assign(a: Assignment, v: usize, value: bool) -> Assignment
 }
 
 // Nothing is assigned.
-fn no_assignment() -> Assignment
+pub fn no_assignment() -> Assignment
     ensures { λ r. ⌜ r ≡ unassigned ⌝ }
 {
     Assignment {

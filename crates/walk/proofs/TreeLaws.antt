@@ -163,6 +163,10 @@ module _ (T : Task) (P : Posed T) where
       → (picked t .variable < T .variables) × (names (assigned t) (picked t .variable) ≡ false)
   choice-fresh t r h = let w = choosing t (node t r) h in (w .below, w .fresh)
 
+  -- where the trail is not full, a variable is left to assign
+  pub trail-lacking : (t : Stack) → Replayed (tree T) t → depth t < to-assign T → Unassigned (T .variables) (T .scope) (assigned t)
+  trail-lacking t r h = lacking t (node t r) h
+
   -- a model at a node is one of the task that agrees with the trail
   leave : (t : Stack) → Node t → (a : ℕ) → ModelAt (T .variables) (T .scope) (T .clauses) (assigned t) a → ModelFor T a × Agrees a t
   leave t N a m = (

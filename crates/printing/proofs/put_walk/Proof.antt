@@ -19,11 +19,11 @@ use Rattle.printing.proofs.put_walk.Statement.{statement}
 use Rattle.printing.proofs.put_walk.Tie as tie
 
 abbrev Inv-loop : tie.InvT-loop
-Inv-loop f buffer₀ at s₀ next₀ left₀ buffer s next left =
-    (length buffer ≡ length buffer₀) × ((K : Tree) → Follows f K → Going K (f .variables) at buffer₀ buffer s next left)
+Inv-loop f z buffer₀ at s₀ next₀ left₀ buffer s next left =
+    (length buffer ≡ length buffer₀) × ((K : Tree) → Follows f z K → Going K (f .variables) at buffer₀ buffer s next left)
 
 abbrev μ-loop : tie.MeasureT-loop
-μ-loop f buffer₀ at s₀ next₀ left₀ buffer s next left = left
+μ-loop f z buffer₀ at s₀ next₀ left₀ buffer s next left = left
 
 root-requires : tie.Need-root-requires Inv-loop μ-loop
 root-requires c κs = search needs
@@ -31,7 +31,7 @@ root-requires c κs = search needs
 loop-holds : tie.Need-loop-holds Inv-loop μ-loop
 loop-holds c =
     let b = c .before .before in
-    (refl, λ K F. going-first K (b .args .f .variables) (b .args .at) (b .args .buffer .now) (c .root .result) (c .root .ensures K (omega (arith, F .size, b .pre .fits .most))))
+    (refl, λ K F. going-first K (b .args .f .variables) (b .args .at) (b .args .buffer .now) (c .root .result) (c .root .ensures K (omega (arith, F .size, F .most)) (F .before)))
 
 go-on-requires : tie.Need-go-on-requires Inv-loop μ-loop
 go-on-requires c κs =
@@ -40,7 +40,7 @@ go-on-requires c κs =
     (v .fits, record { tree = v .tree; follows = v .follows; holds = c .before .loop .inv .1 (v .tree) (v .follows) .holds })
 
 -- what a run gives
-ran : (g : tie.After-go-on Inv-loop μ-loop) (K : Tree) → (let l = g .before .before in Follows (l .before .before .before .args .f) K → Ran K (g .go-on .result) (resume K ample-budget (position-in (l .loop .s))))
+ran : (g : tie.After-go-on Inv-loop μ-loop) (K : Tree) → (let l = g .before .before in Follows (l .before .before .before .args .f) (l .before .before .before .args .z) K → Ran K (g .go-on .result) (resume K ample-budget (position-in (l .loop .s))))
 ran g K F = g .go-on .ensures K F (g .before .before .loop .inv .1 K F .holds)
 
 -- room for the end's line

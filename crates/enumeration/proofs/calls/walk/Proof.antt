@@ -1,25 +1,38 @@
 -- `walk` meets its contract: a call begins where `enter` says, or is refused.
-use mathlib.Core.Path.{sym, _∙_}
+use mathlib.Core.Path.{sym, ap, _∙_}
 use native.Mathlib.Omega.{arith}
 use borrow.Author.Needs.{needs}
 use Rattle.matched.proofs.AcceptLaws.{decides}
+use Rattle.enumeration.specs.InnerScope.{scope-under}
 use Rattle.enumeration.specs.Values.{checkpoint-values}
-use Rattle.enumeration.specs.InnerEnter.{Begun, Enters}
+use Rattle.enumeration.specs.InnerEnter.{Walkable, Begun, Enters}
+use Rattle.enumeration.proofs.ScopeLaws.{decoded-small}
+use Rattle.enumeration.proofs.EnterLaws.{decides-walkable}
 use Rattle.enumeration.proofs.calls.walk.Statement.{statement}
 use Rattle.enumeration.proofs.calls.walk.Tie as tie
 
+-- what comes of the input
+abbrev walkable : (c : tie.After-scope-of)
+    → (let a = c .before .before in
+    let d = a .before .before in
+    Walkable (d .before .before .args .input .now) (a .accept .result .outcome) (d .decode .result .formula) (c .scope-of .result))
+walkable c =
+    let a = c .before .before in
+    decides-walkable _ _ _ _ (c .scope-of .ensures ∙ ap (scope-under (a .before .before .decode .result .formula .variables)) (c .before .no-assignment .ensures))
+    (decides _ _ _ (a .accept .ensures _ (a .before .before .decode .ensures)))
+
 -- where the call begins
 abbrev entered : (e : tie.After-enter)
-    → (let d = e .before .before .before in
+    → (let d = e .before .before .before .before .before in
     let b = d .before .before in
-    Enters (b .args .input .now) (d .decode .result .formula) (checkpoint-values (b .args .checkpoint)) (e .enter .result))
-entered e = let a = e .before in e .enter .ensures _ (decides _ _ _ (a .accept .ensures _ (a .before .before .decode .ensures)))
+    Enters (b .args .input .now) (d .decode .result .formula) (e .before .scope-of .result) (checkpoint-values (b .args .checkpoint)) (e .enter .result))
+entered e = e .enter .ensures _ (walkable (e .before))
 
 abbrev begun : (c : tie.After-enum-told)
     → (let e = c .before .before in
-    let d = e .before .before .before in
+    let d = e .before .before .before .before .before in
     let b = d .before .before in
-    Begun (b .args .input .now) (d .decode .result .formula) (checkpoint-values (b .args .checkpoint)) (e .enter .result))
+    Begun (b .args .input .now) (d .decode .result .formula) (e .before .scope-of .result) (checkpoint-values (b .args .checkpoint)) (e .enter .result))
 begun c = entered (c .before .before) .begun (c .enum-told .given .1)
 
 decode-requires : tie.Need-decode-requires
@@ -28,8 +41,14 @@ decode-requires c κs = search needs
 accept-requires : tie.Need-accept-requires
 accept-requires c κs = (_, c .before .decode .ensures)
 
+no-assignment-requires : tie.Need-no-assignment-requires
+no-assignment-requires c κs = search needs
+
+scope-of-requires : tie.Need-scope-of-requires
+scope-of-requires c κs = decoded-small _ _ (c .before .before .before .decode .ensures)
+
 enter-requires : tie.Need-enter-requires
-enter-requires c κs = (_, decides _ _ _ (c .accept .ensures _ (c .before .before .decode .ensures)))
+enter-requires c κs = (_, walkable c)
 
 enum-known-outcome : tie.Need-enum-known-outcome
 enum-known-outcome c = search needs
@@ -66,6 +85,8 @@ walk-spec =
     (tie.spec
     decode-requires
     accept-requires
+    no-assignment-requires
+    scope-of-requires
     enter-requires
     enum-known-outcome
     refuse-requires

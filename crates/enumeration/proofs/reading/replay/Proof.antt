@@ -15,10 +15,10 @@ use Rattle.enumeration.proofs.reading.replay.Statement.{statement}
 use Rattle.enumeration.proofs.reading.replay.Tie as tie
 
 abbrev Inv-loop : tie.InvT-loop
-Inv-loop f bytes end s₀ i₀ s i = (i ≤ end) × ((K : Tree) → Follows f K → Node K (pushed empty (take i bytes)) s)
+Inv-loop f z bytes end s₀ i₀ s i = (i ≤ end) × ((K : Tree) → Follows f z K → Node K (pushed empty (take i bytes)) s)
 
 abbrev μ-loop : tie.MeasureT-loop
-μ-loop f bytes end s₀ i₀ s i = end - i
+μ-loop f z bytes end s₀ i₀ s i = end - i
 
 cast-length : tie.Need-cast-length Inv-loop μ-loop
 cast-length c = search needs
@@ -28,13 +28,13 @@ root-requires c κs = search needs
 
 loop-holds : tie.Need-loop-holds Inv-loop μ-loop
 unfolding pushed
-loop-holds c = (search needs, λ K F. c .root .ensures K (let e = F .size in omega (arith, c .before .before .before .pre .0 .most)))
+loop-holds c = (search needs, λ K F. c .root .ensures K (let e = F .size in omega (arith, F .most)) (F .before))
 
 -- the entry of the function, from the loop; the node so far, and a byte of the trail
 abbrev entry : tie.At-loop Inv-loop μ-loop → tie.Start Inv-loop μ-loop
 entry l = l .before .before .before .before
 
-node : (l : tie.At-loop Inv-loop μ-loop) (K : Tree) → Follows (entry l .args .f) K → Node K (pushed empty (take (l .loop .i) (entry l .args .c .bytes))) (l .loop .s)
+node : (l : tie.At-loop Inv-loop μ-loop) (K : Tree) → Follows (entry l .args .f) (entry l .args .z) K → Node K (pushed empty (take (l .loop .i) (entry l .args .c .bytes))) (l .loop .s)
 node l K F = l .loop .inv .1 K F
 
 inside : (c : tie.In-loop Inv-loop μ-loop) → c .before .loop .i < length (entry (c .before) .args .c .bytes)
@@ -52,7 +52,7 @@ replay-byte-requires c κs =
     (a .pre .0, record { tree = t .tree; follows = t .follows; holds = node (c .before) (t .tree) (t .follows) .holds }, omega (arith, some))
 
 -- one byte more was assigned, or not
-next : (c : tie.After-replay-byte Inv-loop μ-loop) (K : Tree) → (let l = c .before .before in Follows (entry l .args .f) K
+next : (c : tie.After-replay-byte Inv-loop μ-loop) (K : Tree) → (let l = c .before .before in Follows (entry l .args .f) (entry l .args .z) K
     → Replayed K (pushed empty (take (l .loop .i + 1) (entry l .args .c .bytes))) (c .replay-byte .result))
 next c K F =
     let l = c .before .before in

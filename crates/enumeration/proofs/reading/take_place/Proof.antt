@@ -5,16 +5,16 @@ use Rattle.enumeration.proofs.reading.take_place.Statement.{statement}
 use Rattle.enumeration.proofs.reading.take_place.Tie as tie
 
 returns : tie.Need-returns
-returns c = λ K F n. taken-start _ K F _ n _ (c .before .if1 .taken)
+returns c = λ K F n. taken-start _ _ K F _ n _ (c .before .if1 .taken)
 
 placed-requires : tie.Need-placed-requires
 placed-requires c κs = search needs
 
 returns-2 : tie.Need-returns-2
-returns-2 c = λ K F n. taken-model _ K F _ n _ (c .before .before .before .before .before .if2 .taken) (c .before .before .if3 .taken) _ (c .placed .ensures)
+returns-2 c = λ K F n. taken-model _ _ K F _ n _ (c .before .before .before .before .if2 .taken) (c .before .if3 .taken) _ (c .placed .ensures)
 
 returns-3 : tie.Need-returns-3
-returns-3 c = λ K F n. taken-assigned _ K F _ n _ (c .before .before .before .before .if2 .taken) (c .before .if3 .left)
+returns-3 c = λ K F n. taken-assigned _ _ K F _ n _ (c .before .before .before .before .if2 .taken) (c .before .if3 .left)
 
 take-undone-requires : tie.Need-take-undone-requires
 take-undone-requires c κs = search needs
@@ -32,7 +32,7 @@ placed-requires-2 : tie.Need-placed-requires-2
 placed-requires-2 c κs = search needs
 
 returns-6 : tie.Need-returns-6
-returns-6 c = λ K F n. taken-end _ K F _ n _ (c .before .before .before .before .before .if1 .left) (c .before .before .before .before .if2 .left) (c .before .before .before .if4 .left) (c .before .before .if5 .left) _ (c .placed2 .ensures)
+returns-6 c = λ K F n. taken-end _ _ K F _ n _ (c .before .before .before .before .before .if1 .left) (c .before .before .before .before .if2 .left) (c .before .before .before .if4 .left) (c .before .before .if5 .left) _ (c .placed2 .ensures)
 
 pub take-place-spec : {M : Type 1} → statement M
 take-place-spec =

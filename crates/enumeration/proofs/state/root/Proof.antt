@@ -1,4 +1,4 @@
--- `enumeration::root` meets its contract: nothing is assigned.
+-- `enumeration::root` meets its contract: nothing is on the trail.
 use mathlib.Core.Bool.{false≢true}
 use mathlib.Core.Path.{refl, sym, _∙_}
 use native.Mathlib.Omega.{arith}
@@ -12,7 +12,7 @@ use Rattle.enumeration.proofs.state.root.Tie as tie
 
 returns : tie.Need-returns
 unfolding padded assign-all trail-of pushed replays
-returns c = λ K small.
+returns c = λ K small before.
     record {
       holds = record {
         place = omega arith;
@@ -20,7 +20,7 @@ returns c = λ K small.
         short = omega arith;
         deep = refl;
         bytes = refl;
-        assigned = refl;
+        assigned = sym before;
         replayed = refl;
         opens = tt;
         clears = λ e. absurd (false≢true (sym (bit-none 0) ∙ e));
