@@ -2,7 +2,7 @@
 use Prim.Native.Nat.{ℕ, _≤_}
 use mathlib.Core.Bool.{true, false}
 use mathlib.Core.List.{List}
-use mathlib.Core.Path.{_≡_, refl, sym, ap, _∙_, subst}
+use mathlib.Core.Path.{_≡_, sym, ap, _∙_, subst}
 use native.Mathlib.Omega.{arith}
 use lib.ListN.{length}
 use Rattle.limits.specs.Limits.{max-variables, max-clauses}
@@ -75,8 +75,9 @@ module _ (s : List ℕ) (f : Formula) (w : Takes s f) where
     calls = call-accepted s (w .variables) (w .clauses) (w .row) (w .accepts);
   }
 
-  pub tree-follows : Follows f (whole-scope (f .variables)) tree-of
-  tree-follows = walked-follows s f (whole-scope (f .variables)) (takes-walked (whole-scope (f .variables)) refl)
+  -- and the code's choices make its tree
+  pub tree-follows : (z : Scope) → z ≡ whole-scope (f .variables) → Follows f z tree-of
+  tree-follows z e = walked-follows s f z (takes-walked z e)
 
 -- so what comes of an input is what its walk asks
 pub decides-walkable : (s : List ℕ) (o : Outcome) (f : Formula) (z : Scope) → z ≡ whole-scope (f .variables) → Decides s o f → Walkable s o f z
