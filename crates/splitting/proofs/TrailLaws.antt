@@ -24,7 +24,7 @@ use Rattle.splitting.proofs.NodeLaws.{named-remaining}
 use Rattle.splitting.proofs.SoundLaws.{sound-satisfies}
 
 -- a trail has as many variables as literals
-trail-count : (n : ℕ) (t : List Literal) → Trail n t → count (names t) n ≡ length t
+pub trail-count : (n : ℕ) (t : List Literal) → Trail n t → count (names t) n ≡ length t
 unfolding names
 trail-count n [] T = count-none (names []) n (λ i. refl)
 trail-count n (l ∷ t) T =

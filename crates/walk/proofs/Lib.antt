@@ -14,7 +14,7 @@ pub mod ByteLaws
 pub mod AcceptLaws
 pub mod AssignmentLaws
 pub mod TreeLaws
-pub mod WholeLaws
+pub mod UnderLaws
 pub mod ProperLaws
 pub mod TaskLaws
 pub mod RefusalLaws

@@ -16,6 +16,7 @@ use Rattle.masks.specs.Mask.{bit}
 use Rattle.masks.proofs.SizeLaws.{size-le}
 use Rattle.formula.specs.declared.Refusal.the-variants.{ForeignCheckpoint}
 use Rattle.formula.specs.Format.{Literal}
+use Rattle.assumptions.specs.declared.Assumption.{Assumption}
 use Rattle.splitting.specs.Terms as terms
 use Rattle.splitting.specs.Terms.{opened}
 use Rattle.walk.specs.Task.{Task, to-assign, choice-at, ModelFor, Posed}
@@ -61,7 +62,7 @@ module _ (T : Task) where
   rest-start = rw sub-zero (sym (walk-same T))
 
 -- an input whose walk calls are those on a task
-module _ (s : List ℕ) (T : Task) (P : Posed T) (walks : (c : Checkpoint) (b : ℕ) → walk-call s c b ≡ task-call T c b) where
+module _ (s : List ℕ) (us : List Assumption) (T : Task) (P : Posed T) (walks : (c : Checkpoint) (b : ℕ) → walk-call s us c b ≡ task-call T c b) where
   abbrev alive : Live (tree T)
   alive = live T P
 
@@ -120,7 +121,7 @@ module _ (s : List ℕ) (T : Task) (P : Posed T) (walks : (c : Checkpoint) (b : 
   -- ---- a call
 
   -- a call from a checkpoint goes on from its state, or is refused by 11
-  pub call-is : (c : Checkpoint) (b : ℕ) (x : Located) → located T c ≡ x → walk-call s c b ≡ by-state T c x b
+  pub call-is : (c : Checkpoint) (b : ℕ) (x : Located) → located T c ≡ x → walk-call s us c b ≡ by-state T c x b
   unfolding task-call
   call-is c b x e = walks c b ∙ rw e refl
 
@@ -136,10 +137,10 @@ module _ (s : List ℕ) (T : Task) (P : Posed T) (walks : (c : Checkpoint) (b : 
   stopped-has p o q = let g = all-got (tree T) alive p o q in (g .0, at-checkpoint T (standing-at (g .0)) ∙ ap shown (g .1))
 
   -- a call from it goes on from the position
-  call-goes : (b : ℕ) (p : Position) → Reachable (tree T) p → Stops (tree T) p → walk-call s (shown p) b ≡ resumed-result (resume (tree T) b p)
+  call-goes : (b : ℕ) (p : Position) → Reachable (tree T) p → Stops (tree T) p → walk-call s us (shown p) b ≡ resumed-result (resume (tree T) b p)
   call-goes b p o q = at (located T (shown p)) refl
     where
-      at : (x : Located) → located T (shown p) ≡ x → walk-call s (shown p) b ≡ resumed-result (resume (tree T) b p)
+      at : (x : Located) → located T (shown p) ≡ x → walk-call s us (shown p) b ≡ resumed-result (resume (tree T) b p)
       at (at-state k) e =
           let w = located-stands T (shown p) k e in
           let a = standing-at (w .0) in
@@ -150,14 +151,14 @@ module _ (s : List ℕ) (T : Task) (P : Posed T) (walks : (c : Checkpoint) (b : 
           ∙ ap (λ (x : Position). resumed-result (resume (tree T) b x)) one
       at nowhere e = absurd (has-located T (shown p) (stopped-has p o q) e)
 
-  calls-go : (bs : List ℕ) (p : Position) → Reachable (tree T) p → Stops (tree T) p → walk-calls s (shown p) bs ≡ results (tree T) alive p bs
+  calls-go : (bs : List ℕ) (p : Position) → Reachable (tree T) p → Stops (tree T) p → walk-calls s us (shown p) bs ≡ results (tree T) alive p bs
   unfolding walk-calls resumes
   calls-go [] p o q = refl
   calls-go (b ∷ bs) p o q =
       let e = call-effect (tree T) alive b p o in
       rw (call-goes b p o q) (ap {B = List Result} (λ l. resumed-result (resume (tree T) b p) ∷ l) (calls-go bs (resume (tree T) b p .position) (e .fine) (e .stops)))
 
-  last-goes : (bs : List ℕ) (p : Position) → Reachable (tree T) p → Stops (tree T) p → last-checkpoint s (shown p) bs ≡ shown (last-position (tree T) alive p bs)
+  last-goes : (bs : List ℕ) (p : Position) → Reachable (tree T) p → Stops (tree T) p → last-checkpoint s us (shown p) bs ≡ shown (last-position (tree T) alive p bs)
   unfolding last-checkpoint last-position
   last-goes [] p o q = refl
   last-goes (b ∷ bs) p o q =
@@ -165,11 +166,11 @@ module _ (s : List ℕ) (T : Task) (P : Posed T) (walks : (c : Checkpoint) (b : 
       rw (call-goes b p o q) (last-goes bs (resume (tree T) b p .position) (e .fine) (e .stops))
 
   -- the calls from the start are those of the resumable machine
-  pub calls-results : (bs : List ℕ) → walk-calls s start bs ≡ results (tree T) alive (down empty) bs
+  pub calls-results : (bs : List ℕ) → walk-calls s us start bs ≡ results (tree T) alive (down empty) bs
   calls-results bs = rw start-shown (calls-go bs (down empty) tt start-stop)
 
   -- the walk's calls are the plain machine's
-  pub calls-plain : (bs : List ℕ) → walk-calls s start bs ≡ map (plain-result T) (plain-calls T 0 bs)
+  pub calls-plain : (bs : List ℕ) → walk-calls s us start bs ≡ map (plain-result T) (plain-calls T 0 bs)
   calls-plain bs = calls-results bs ∙ sym (plain-results bs 0 (down empty) (at-start (tree T)))
 
   -- none is refused
@@ -183,22 +184,22 @@ module _ (s : List ℕ) (T : Task) (P : Posed T) (walks : (c : Checkpoint) (b : 
   none-refused (c ∷ l) = (plain-kind (c .answer), none-refused l)
 
   -- so no call is refused
-  pub calls-unrefused : (bs : List ℕ) → Every (λ r. r .kind ≡ says-refused → ⊥) (walk-calls s start bs)
+  pub calls-unrefused : (bs : List ℕ) → Every (λ r. r .kind ≡ says-refused → ⊥) (walk-calls s us start bs)
   calls-unrefused bs = rw (calls-plain bs) (none-refused (plain-calls T 0 bs))
 
   -- from a checkpoint that the walk has, a call gives what the plain machine gives from there
-  pub call-plain : (bs : List ℕ) (b : ℕ) → walk-call s (checkpoint-after T (state-after T 0 bs)) b ≡ plain-result T (plain-call T b (state-after T 0 bs))
+  pub call-plain : (bs : List ℕ) (b : ℕ) → walk-call s us (checkpoint-after T (state-after T 0 bs)) b ≡ plain-result T (plain-call T b (state-after T 0 bs))
   call-plain bs b =
       let a = standing-at bs in
       rw (at-checkpoint T a) (call-goes b (standing bs) (a .fine) (standing-stops bs))
       ∙ sym (plain-resumed b (state-after T 0 bs) (standing bs) a)
 
   -- the checkpoint that the last call returned is the plain machine's
-  pub last-plain : (bs : List ℕ) → last-checkpoint s start bs ≡ checkpoint-after T (state-after T 0 bs)
+  pub last-plain : (bs : List ℕ) → last-checkpoint s us start bs ≡ checkpoint-after T (state-after T 0 bs)
   last-plain bs = rw start-shown (last-goes bs (down empty) tt start-stop) ∙ sym (at-checkpoint T (standing-at bs))
 
   -- the models that the calls bring
-  pub calls-first : (bs : List ℕ) → (l : List ℕ) × (listing T ≡ brought (walk-calls s start bs) ++ l)
+  pub calls-first : (bs : List ℕ) → (l : List ℕ) × (listing T ≡ brought (walk-calls s us start bs) ++ l)
   unfolding listing
   calls-first bs = (
     models-of (rest (tree T) (standing bs)),
@@ -206,7 +207,7 @@ module _ (s : List ℕ) (T : Task) (P : Posed T) (walks : (c : Checkpoint) (b : 
   )
 
   -- and all of them
-  pub calls-all : (bs : List ℕ) → SaysEnded (walk-calls s start bs) → brought (walk-calls s start bs) ≡ listing T
+  pub calls-all : (bs : List ℕ) → SaysEnded (walk-calls s us start bs) → brought (walk-calls s us start bs) ≡ listing T
   unfolding listing
   calls-all bs h =
       rw (calls-results bs) (brought-all (tree T) alive bs (down empty) tt (rw (calls-results bs) at h) ∙ ap models-of (rest-start T))
@@ -232,7 +233,7 @@ module _ (s : List ℕ) (T : Task) (P : Posed T) (walks : (c : Checkpoint) (b : 
       (w .0, w .1, rw (at-behind T (x .1)) (agrees-trail (w .0) (stack-of (x .0)) (w .2)))
 
   -- the pace over a list of calls
-  pub calls-paced : (bs : List ℕ) → Paced (to-assign T) (step-bound T) (gaps (walk-calls s start bs))
+  pub calls-paced : (bs : List ℕ) → Paced (to-assign T) (step-bound T) (gaps (walk-calls s us start bs))
   calls-paced bs = rw (calls-results bs) (pace (tree T) alive (step-bound T) (cheap T P) bs)
 
   -- enough steps are not spent
@@ -243,42 +244,42 @@ module _ (s : List ℕ) (T : Task) (P : Posed T) (walks : (c : Checkpoint) (b : 
 
   -- so a call with that many brings a model or the end
   pub calls-ample : (bs : List ℕ) (b : ℕ) → ample-budget ≤ b
-      → (walk-call s (last-checkpoint s start bs) b .kind ≡ says-model) ⊎ (walk-call s (last-checkpoint s start bs) b .kind ≡ says-ended)
+      → (walk-call s us (last-checkpoint s us start bs) b .kind ≡ says-model) ⊎ (walk-call s us (last-checkpoint s us start bs) b .kind ≡ says-ended)
   calls-ample bs b h =
       let a = standing-at bs in
       rw (last-plain bs, at-checkpoint T a, call-goes b (standing bs) (a .fine) (standing-stops bs))
       (not-spent (resume (tree T) b (standing bs) .answer) (never-spent (tree T) alive b (standing bs) (a .fine) (omega (arith, small))))
 
   -- a call makes at most its budget's steps, and all of them where it says spent
-  pub calls-within : (bs : List ℕ) (b : ℕ) → walk-call s (last-checkpoint s start bs) b .steps ≤ b
+  pub calls-within : (bs : List ℕ) (b : ℕ) → walk-call s us (last-checkpoint s us start bs) b .steps ≤ b
   calls-within bs b =
       let a = standing-at bs in
       rw (last-plain bs, at-checkpoint T a, call-goes b (standing bs) (a .fine) (standing-stops bs)) (steps-within (tree T) alive b (standing bs) (a .fine))
 
   -- and all of them where it says spent
-  pub calls-spent : (bs : List ℕ) (b : ℕ) → walk-call s (last-checkpoint s start bs) b .kind ≡ says-spent → walk-call s (last-checkpoint s start bs) b .steps ≡ b
+  pub calls-spent : (bs : List ℕ) (b : ℕ) → walk-call s us (last-checkpoint s us start bs) b .kind ≡ says-spent → walk-call s us (last-checkpoint s us start bs) b .steps ≡ b
   calls-spent bs b =
       let a = standing-at bs in
       rw (last-plain bs, at-checkpoint T a, call-goes b (standing bs) (a .fine) (standing-stops bs)) (spent-all (tree T) alive b (standing bs) (a .fine))
 
   -- from the end a call says ended at once
-  pub call-over : (b : ℕ) → walk-call s (checkpoint-of 4 []) b ≡ answered ended 0 0 (checkpoint-of 4 [])
+  pub call-over : (b : ℕ) → walk-call s us (checkpoint-of 4 []) b ≡ answered ended 0 0 (checkpoint-of 4 [])
   unfolding trail-of next
   call-over b = call-goes b over tt (over-stops (tree T) alive) ∙ ap resumed-result (loop-over (tree T) b over refl)
 
   -- a checkpoint that the walk has not is refused by 11
-  pub foreign : (c : Checkpoint) (b : ℕ) → (Has T c → ⊥) → walk-call s c b ≡ refusing (ForeignCheckpoint 0) c
+  pub foreign : (c : Checkpoint) (b : ℕ) → (Has T c → ⊥) → walk-call s us c b ≡ refusing (ForeignCheckpoint 0) c
   foreign c b f = at (located T c) refl
     where
-      at : (x : Located) → located T c ≡ x → walk-call s c b ≡ refusing (ForeignCheckpoint 0) c
+      at : (x : Located) → located T c ≡ x → walk-call s us c b ≡ refusing (ForeignCheckpoint 0) c
       at (at-state k) e = let w = located-stands T c k e in absurd (f (w .0, ap (checkpoint-after T) (w .1) ∙ w .2))
       at nowhere e = call-is c b nowhere e
 
-  has-number : (c : Checkpoint) (b : ℕ) → Has T c → walk-call s c b .number ≡ 0
-  has-number c b w = ap (λ (x : Checkpoint). walk-call s x b .number) (sym (w .1)) ∙ ap (λ (r : Result). r .number) (call-plain (w .0) b)
+  has-number : (c : Checkpoint) (b : ℕ) → Has T c → walk-call s us c b .number ≡ 0
+  has-number c b w = ap (λ (x : Checkpoint). walk-call s us x b .number) (sym (w .1)) ∙ ap (λ (r : Result). r .number) (call-plain (w .0) b)
 
   -- 11 exactly for the checkpoints that the walk has not
-  pub foreign-number : (c : Checkpoint) (b : ℕ) → (walk-call s c b .number ≡ 11) ↔ (Has T c → ⊥)
+  pub foreign-number : (c : Checkpoint) (b : ℕ) → (walk-call s us c b .number ≡ 11) ↔ (Has T c → ⊥)
   foreign-number c b = (λ e w. let z = has-number c b w in omega arith, λ f. ap (λ (r : Result). r .number) (foreign c b f))
 
   -- ---- the call as the code makes it
@@ -291,13 +292,13 @@ module _ (s : List ℕ) (T : Task) (P : Posed T) (walks : (c : Checkpoint) (b : 
 
   -- the test passes exactly the checkpoints that the walk has, and the machine goes on from there as the plain one does
   pub call-tested : (c : Checkpoint) (b : ℕ) → length (c .bytes) ≡ max-variables
-      → walk-call s c b ≡ cond (accepts (tree T) c) (call-from (tree T) c b) (refusing (ForeignCheckpoint 0) c)
+      → walk-call s us c b ≡ cond (accepts (tree T) c) (call-from (tree T) c b) (refusing (ForeignCheckpoint 0) c)
   call-tested c b h = at (accepts (tree T) c) refl
     where
-      at : (x : Bool) → accepts (tree T) c ≡ x → walk-call s c b ≡ cond x (call-from (tree T) c b) (refusing (ForeignCheckpoint 0) c)
+      at : (x : Bool) → accepts (tree T) c ≡ x → walk-call s us c b ≡ cond x (call-from (tree T) c b) (refusing (ForeignCheckpoint 0) c)
       at true e =
           let w = accepted-stopped (tree T) alive small low c h e in
-          subst (λ (x : Checkpoint). walk-call s x b ≡ call-from (tree T) x b) (w .shows)
+          subst (λ (x : Checkpoint). walk-call s us x b ≡ call-from (tree T) x b) (w .shows)
           (call-goes b (w .position) (w .fine) (w .stops) ∙ sym (call-shown (tree T) alive small low b (w .position) (w .fine) (w .stops)))
       at false e = foreign c b (λ w. bool-clash (has-accepted c w) e)
 
@@ -313,7 +314,7 @@ module _ (s : List ℕ) (T : Task) (P : Posed T) (walks : (c : Checkpoint) (b : 
       ap (λ (c : Checkpoint). length (c .bytes)) (at-checkpoint T (x .1)) ∙ length-padded max-variables 0 (map byte (trail-of t)) m
 
   -- the checkpoints that the walk has are those that calls from the start return
-  pub has-returned : (c : Checkpoint) → Has T c ↔ ((bs : List ℕ) × (last-checkpoint s start bs ≡ c))
+  pub has-returned : (c : Checkpoint) → Has T c ↔ ((bs : List ℕ) × (last-checkpoint s us start bs ≡ c))
   has-returned c = (λ w. (w .0, last-plain (w .0) ∙ w .1), λ w. (w .0, sym (last-plain (w .0)) ∙ w .1))
 
   -- and are the proper ones
@@ -324,7 +325,7 @@ module _ (s : List ℕ) (T : Task) (P : Posed T) (walks : (c : Checkpoint) (b : 
   )
 
   -- the start checkpoint on budget 0, where something is to be assigned
-  pub start-zero : 0 < to-assign T → walk-call s start 0 ≡ answered spent 0 0 start
+  pub start-zero : 0 < to-assign T → walk-call s us start 0 ≡ answered spent 0 0 start
   start-zero h = rw start-shown (call-goes 0 (down empty) tt start-stop ∙ ap resumed-result (down-spent (tree T) alive empty h))
 
   -- at every node of the walk a value of the chosen variable is open exactly if some model agrees with what is assigned and has it

@@ -5,8 +5,9 @@ use mathlib.Core.List.{List, [], _++_}
 use mathlib.Core.Path.{_≡_}
 use Rattle.limits.specs.Limits.{max-variables}
 use Rattle.lists.specs.Every.{Every}
-use Rattle.masks.specs.Mask.{bit, full, size}
+use Rattle.masks.specs.Mask.{bit, minus, full, size}
 use Rattle.formula.specs.Format.{Literal, names, ClauseOver}
+use Rattle.formula.specs.Masked.{variables}
 use Rattle.splitting.specs.declared.Choice.{Choice}
 use Rattle.splitting.specs.Nodes.{remaining}
 use Rattle.splitting.specs.Choosing.{choice}
@@ -23,7 +24,12 @@ pub record Task : Type 0 where
 abbrev pub whole : ℕ → List (List Literal) → Task
 whole n cs = record { variables = n; clauses = cs; scope = full n; before = [] }
 
--- how many variables are to be assigned: n for a formula's own task
+-- S17.3: the task of a formula under assumptions (request: fixed settings): their literals are the trail before, and all other variables
+-- are to be assigned
+abbrev pub under : ℕ → List Literal → List (List Literal) → Task
+under n t cs = record { variables = n; clauses = cs; scope = minus (full n) (variables t); before = t }
+
+-- how many variables are to be assigned: n for a formula's own task, and n less the assumptions under these
 abbrev pub to-assign : Task → ℕ
 to-assign T = size (T .scope)
 
