@@ -17,6 +17,7 @@ pub mod TreeLaws
 pub mod UnderLaws
 pub mod ProperLaws
 pub mod TaskLaws
+pub mod NothingLeftLaws
 pub mod RefusalLaws
 pub mod ResumedLaws
 pub mod Demands

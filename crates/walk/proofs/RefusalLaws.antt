@@ -2,32 +2,37 @@
 use Prim.Native.Nat.{ℕ, _≤_}
 use mathlib.Core.List.{List, [], _∷_, map}
 use mathlib.Core.Logic.{_↔_}
-use mathlib.Core.Path.{_≡_, refl, ap}
+use mathlib.Core.Path.{_≡_, refl, ap, _∙_}
 use native.Mathlib.Omega.{arith}
 use lib.ListN.{length}
 use Rattle.limits.specs.Limits.{max-clauses}
 use Rattle.formula.specs.declared.Refusal.{Refusal}
 use Rattle.formula.specs.declared.Refusal.the-variants.{Unmatched, BadAssumption}
 use Rattle.formula.specs.InnerDecode.{decode}
-use Rattle.formula.specs.Decoding.{readable, refused}
+use Rattle.formula.specs.Decoding.{Decoding, readable, refused}
 use Rattle.formula.specs.Format.{Literal}
+use Rattle.formula.specs.Masked.{variables}
 use Rattle.formula.specs.Refusals.{table-row}
 use Rattle.formula.proofs.Demands.{numbers}
 use Rattle.assumptions.specs.declared.Assumption.{Assumption}
 use Rattle.assumptions.specs.Assumed.{literals, bad, literal-of, assumed}
+use Rattle.matching.specs.Search.{Outcome, success, failure, outcome}
 use Rattle.splitting.specs.Nodes.{remaining}
 use Rattle.matched.specs.Acceptance.{Acceptance, accepted, declined, acceptance}
 use Rattle.matched.specs.Judge.{Judged, refused-values, judge}
 use Rattle.matched.specs.Pairing.{Pairs, Pairable, marked}
+use Rattle.matched.specs.WithoutAssumptions.{plain-by-outcome, plain-by-decoding, plain-acceptance}
+use Rattle.matched.proofs.Demands.{acceptance-unassumed}
 use Rattle.matched.proofs.JudgeLaws.{judge-declined}
-use Rattle.matched.proofs.AcceptanceLaws.{accepted-is, accepted-pairable, pairable-accepted, unpaired-declined, unassumed-declined, unreadable-declined}
-use Rattle.walk.specs.Task.{under, Posed}
+use Rattle.matched.proofs.AcceptanceLaws.{Comes, paired, unpaired, unassumed, unreadable, comes, accepted-is, accepted-pairable, pairable-accepted, unpaired-declined, unassumed-declined, unreadable-declined}
+use Rattle.walk.specs.Task.{Task, under, Posed}
 use Rattle.walk.specs.Checkpoints.{Checkpoint, start}
-use Rattle.walk.specs.WalkCall.{walk-call, walk-calls}
-use Rattle.walk.specs.InnerLocate.{task-call}
+use Rattle.walk.specs.WalkCall.{call-on, walk-call, walk-calls}
+use Rattle.walk.specs.WithoutAssumptions.{plain-call-on}
+use Rattle.walk.specs.InnerLocate.{Located, at-state, nowhere, located, by-state, task-call}
 use Rattle.walk.specs.Results.{says-refused, Result, refusing}
 use Rattle.walk.proofs.TaskLaws.{calls-unrefused}
-use Rattle.walk.proofs.UnderLaws.{under-posed}
+use Rattle.walk.proofs.UnderLaws.{under-posed, under-none}
 
 module _ (s : List ℕ) (us : List Assumption) where
   -- a declined input gets its refusal
@@ -83,3 +88,38 @@ module _ (s : List ℕ) (us : List Assumption) where
   -- from the start a call is refused exactly if the input cannot be paired
   pub walked-exactly : (b : ℕ) → (walk-call s us start b .kind ≡ says-refused → ⊥) ↔ Pairable s us
   walked-exactly b = (unrefused-pairable start b, pairable-unrefused b)
+
+  -- a call is refused by 16 only where the input is readable and an assumption is bad, the first at the place
+  pub called-bad : (c : Checkpoint) (b i : ℕ) → walk-call s us c b ≡ refusing (BadAssumption i) c
+      → (n : ℕ) × (cs : List (List Literal)) × (decode s ≡ readable n cs) × (assumed n us ≡ bad i)
+  unfolding walk-call task-call
+  called-bad c b i q = by (comes s us) q
+    where
+      walked : (T : Task) → by-state T c (located T c) b ≡ refusing (BadAssumption i) c → ⊥
+      walked T e = at (located T c) e
+        where
+          at : (x : Located) → by-state T c x b ≡ refusing (BadAssumption i) c → ⊥
+          at (at-state k) e = let z : _≡_ {A = ℕ} 0 16 = ap (λ (r : Result). r .number) e in omega arith
+          at nowhere e = let z : _≡_ {A = ℕ} 11 16 = ap (λ (r : Result). r .number) e in omega arith
+
+      by : {a : Acceptance} → Comes s us a → call-on a c b ≡ refusing (BadAssumption i) c
+          → (n : ℕ) × (cs : List (List Literal)) × (decode s ≡ readable n cs) × (assumed n us ≡ bad i)
+      by (paired n t cs vs reads assumes w) e = absurd (walked (under n t cs) e)
+      by (unpaired n t cs ms reads assumes v none) e = let z : _≡_ {A = ℕ} 10 16 = ap (λ (r : Result). r .number) e in absurd (omega arith)
+      by (unassumed n cs j reads assumes) e = (n, cs, reads, assumes ∙ ap bad (ap (λ (r : Result). r .place) e))
+      by (unreadable r reads) e =
+          let z : table-row r .number ≡ 16 = ap (λ (x : Result). x .number) e in
+          absurd (omega (arith, numbers s r reads .1))
+
+-- on an empty list a call is what it is without assumptions
+pub called-unassumed : (s : List ℕ) (c : Checkpoint) (b : ℕ) → walk-call s [] c b ≡ plain-call-on (plain-acceptance s) c b
+unfolding walk-call plain-acceptance
+called-unassumed s c b = ap (λ (a : Acceptance). call-on a c b) (acceptance-unassumed s) ∙ by (decode s)
+  where
+    at : (n : ℕ) (cs : List (List Literal)) (o : Outcome) → call-on (plain-by-outcome n cs o) c b ≡ plain-call-on (plain-by-outcome n cs o) c b
+    at n cs (success vs e) = ap (λ (T : Task). task-call T c b) (under-none n cs)
+    at n cs (failure taken e) = refl
+
+    by : (d : Decoding) → call-on (plain-by-decoding d) c b ≡ plain-call-on (plain-by-decoding d) c b
+    by (readable n cs) = at n cs (outcome (map variables cs))
+    by (refused r) = refl

@@ -5,6 +5,7 @@ pub mod PlainMachine
 pub mod Results
 pub mod InnerLocate
 pub mod WalkCall
+pub mod WithoutAssumptions
 pub mod InnerStack
 pub mod InnerMachine
 pub mod InnerTest
