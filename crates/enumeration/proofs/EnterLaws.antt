@@ -2,7 +2,7 @@
 use Prim.Native.Nat.{ℕ, _≤_}
 use mathlib.Core.Bool.{true, false}
 use mathlib.Core.List.{List}
-use mathlib.Core.Path.{_≡_, sym, ap, _∙_, subst}
+use mathlib.Core.Path.{_≡_, sym, ap, ap₂, _∙_, subst}
 use native.Mathlib.Omega.{arith}
 use lib.ListN.{length}
 use Rattle.limits.specs.Limits.{max-variables, max-clauses}
@@ -10,10 +10,15 @@ use Rattle.formula.specs.declared.Formula.{Formula}
 use Rattle.formula.specs.declared.Outcome.{Outcome}
 use Rattle.formula.specs.declared.Refusal.the-variants.{ForeignCheckpoint}
 use Rattle.formula.specs.InnerMasked.{formula-of}
-use Rattle.matched.specs.InnerAccept.{Takes, Decides}
-use Rattle.walk.specs.Task.{Task, whole}
+use Rattle.assumptions.specs.declared.Assumption.{Assumption}
+use Rattle.assumptions.specs.declared.Assumptions.{Assumptions}
+use Rattle.assumptions.specs.InnerAssumed.{Given}
+use Rattle.splitting.specs.declared.Assignment.{Assignment}
+use Rattle.matched.specs.InnerAccept.{assigned-by, Takes, Decides}
+use Rattle.matched.proofs.AcceptLaws.{given-assignment}
+use Rattle.walk.specs.Task.{Task, under}
 use Rattle.walk.specs.Checkpoints.{Checkpoint}
-use Rattle.walk.specs.InnerStack.{Tree, tree}
+use Rattle.walk.specs.InnerStack.{tree}
 use Rattle.walk.specs.InnerTest.{accepts, read, position-of}
 use Rattle.walk.specs.WalkCall.{walk-call}
 use Rattle.walk.specs.Results.{refusing}
@@ -21,16 +26,16 @@ use Rattle.walk.proofs.TaskLaws.{call-tested}
 use Rattle.walk.proofs.RefusalLaws.{call-declined, call-accepted, accepted-posed}
 use Rattle.enumeration.specs.declared.entering.Entered.{Entered}
 use Rattle.enumeration.specs.declared.scope.Scope.{Scope}
-use Rattle.enumeration.specs.InnerScope.{whole-scope}
+use Rattle.enumeration.specs.InnerScope.{scope-under}
 use Rattle.enumeration.specs.InnerState.{position-in, Follows, Holds}
 use Rattle.enumeration.specs.InnerEnter.{WalkedAs, Walkable, Begun}
 use Rattle.enumeration.proofs.FollowsLaws.{follows}
-use Rattle.enumeration.proofs.ScopeLaws.{whole-task}
+use Rattle.enumeration.proofs.ScopeLaws.{under-task}
 use Rattle.enumeration.proofs.ListLaws.{brought-resumed, brought-from}
 
 -- ---- an input that is walked as a task
 
-module _ (s : List ℕ) (f : Formula) (z : Scope) (w : WalkedAs s f z) where
+module _ (s : List ℕ) (us : List Assumption) (f : Formula) (z : Scope) (w : WalkedAs s us f z) where
   abbrev T : Task
   T = w .task
 
@@ -44,44 +49,39 @@ module _ (s : List ℕ) (f : Formula) (z : Scope) (w : WalkedAs s f z) where
   module _ (c : Checkpoint) (whole-bytes : length (c .bytes) ≡ max-variables) where
     -- the checkpoint passes the test
     pub entered-begun : (r : Entered) → accepts (tree (w .task)) c ≡ true → Holds (tree (w .task)) (r .state)
-        → position-in (r .state) ≡ position-of (tree (w .task) .size) (c .mode) (read c) → Begun s f z c r
+        → position-in (r .state) ≡ position-of (tree (w .task) .size) (c .mode) (read c) → Begun s us f z c r
     entered-begun r a h p = record {
       tree = tree T;
       fits = w .fits;
       follows = walked-follows;
       holds = h;
-      calls = λ b. call-tested s T (w .posed) (w .calls) c b whole-bytes ∙ rw (a, p);
-      lists = λ k l. brought-resumed s T (w .posed) (w .calls) c whole-bytes k ∙ brought-from f z (tree T) walked-follows k c l a ∙ rw p;
+      calls = λ b. call-tested s us T (w .posed) (w .calls) c b whole-bytes ∙ rw (a, p);
+      lists = λ k l. brought-resumed s us T (w .posed) (w .calls) c whole-bytes k ∙ brought-from f z (tree T) walked-follows k c l a ∙ rw p;
     }
 
     -- it does not: 11
-    pub entered-foreign : accepts (tree (w .task)) c ≡ false → (b : ℕ) → walk-call s c b ≡ refusing (ForeignCheckpoint 0) c
-    entered-foreign a b = call-tested s T (w .posed) (w .calls) c b whole-bytes ∙ rw a
+    pub entered-foreign : accepts (tree (w .task)) c ≡ false → (b : ℕ) → walk-call s us c b ≡ refusing (ForeignCheckpoint 0) c
+    entered-foreign a b = call-tested s us T (w .posed) (w .calls) c b whole-bytes ∙ rw a
 
--- ---- an accepted input is walked as its formula's task
+-- ---- an accepted input is walked as its formula's task under the assumptions
 
-module _ (s : List ℕ) (f : Formula) (w : Takes s f) where
-  abbrev pub tree-of : Tree
-  tree-of = tree (whole (w .variables) (w .clauses))
-
-  -- where all its variables are to be assigned
-  abbrev takes-walked : (z : Scope) → z ≡ whole-scope (f .variables) → WalkedAs s f z
-  takes-walked z e = record {
-    task = whole (w .variables) (w .clauses);
-    posed = accepted-posed s (w .variables) (w .clauses) (w .row) (w .accepts);
+module _ (s : List ℕ) (us : List Assumption) (u : Assumptions) (given : Given s us u) (f : Formula) (z : Scope) (e : z ≡ scope-under (f .variables) (assigned-by u)) where
+  abbrev takes-walked : Takes s us f → WalkedAs s us f z
+  takes-walked w = record {
+    task = under (w .variables) (w .trail) (w .clauses);
+    posed = accepted-posed s us (w .variables) (w .trail) (w .clauses) (w .row) (w .accepts);
     formula = w .formula;
-    scope = e ∙ ap (λ (g : Formula). whole-scope (g .variables)) (w .formula) ∙ whole-task (w .variables) (w .clauses);
+    scope =
+        e
+        ∙ ap₂ (λ (g : Formula) (a : Assignment). scope-under (g .variables) a) (w .formula) (given-assignment s us u given (w .variables) (w .clauses) (w .reads) (w .trail) (w .assumes))
+        ∙ under-task (w .variables) (w .clauses) (w .trail);
     fits = w .fits;
-    calls = call-accepted s (w .variables) (w .clauses) (w .row) (w .accepts);
+    calls = call-accepted s us (w .variables) (w .trail) (w .clauses) (w .row) (w .accepts);
   }
 
-  -- and the code's choices make its tree
-  pub tree-follows : (z : Scope) → z ≡ whole-scope (f .variables) → Follows f z tree-of
-  tree-follows z e = walked-follows s f z (takes-walked z e)
-
--- so what comes of an input is what its walk asks
-pub decides-walkable : (s : List ℕ) (o : Outcome) (f : Formula) (z : Scope) → z ≡ whole-scope (f .variables) → Decides s o f → Walkable s o f z
-decides-walkable s o f z e d = record {
-  walked = λ q. takes-walked s f (d .takes q) z e;
-  declined = λ r q c b. let x = d .declines r q in call-declined s r (x .0) c b (x .1);
-}
+  -- so what comes of an input is what its walk asks
+  pub decides-walkable : (o : Outcome) → Decides s us o f → Walkable s us o f z
+  decides-walkable o d = record {
+    walked = λ q. takes-walked (d .takes q);
+    declined = λ r q c b. let x = d .declines r q in call-declined s us r (x .0) c b (x .1);
+  }

@@ -10,6 +10,7 @@ use Rattle.formula.specs.declared.Refusal.{Refusal}
 use Rattle.formula.specs.declared.Refusal.the-variants.{ForeignCheckpoint}
 use Rattle.formula.specs.InnerMasked.{formula-of}
 use Rattle.formula.specs.InnerFits.{FormulaFits}
+use Rattle.assumptions.specs.declared.Assumption.{Assumption}
 use Rattle.walk.specs.Task.{Task, Posed}
 use Rattle.walk.specs.Checkpoints.{Checkpoint}
 use Rattle.walk.specs.InnerStack.{Tree}
@@ -32,30 +33,30 @@ pub record Stands (K : Tree) (c : Checkpoint) (r : Entered) : Type 0 where
       → (accepts K c ≡ true) × Holds K (r .state) × (position-in (r .state) ≡ position-of (K .size) (c .mode) (read c))
   pub foreign : (e : Refusal) → r .outcome ≡ outcomes.Refused e → (e ≡ ForeignCheckpoint 0) × (accepts K c ≡ false)
 
--- the input s is walked as a task, and f and z hold it
-pub record WalkedAs (s : List ℕ) (f : Formula) (z : Scope) : Type 0 where
+-- under the assumptions us the input s is walked as a task, and f and z hold it
+pub record WalkedAs (s : List ℕ) (us : List Assumption) (f : Formula) (z : Scope) : Type 0 where
   pub task : Task
   pub posed : Posed task
   pub formula : f ≡ formula-of (task .variables) (task .clauses)
   pub scope : z ≡ task-scope task
   pub fits : FormulaFits f
-  pub calls : (c : Checkpoint) (b : ℕ) → walk-call s c b ≡ task-call task c b
+  pub calls : (c : Checkpoint) (b : ℕ) → walk-call s us c b ≡ task-call task c b
 
 -- o is what comes of the input: it is walked so, or every call is refused
-pub record Walkable (s : List ℕ) (o : Outcome) (f : Formula) (z : Scope) : Type 0 where
-  pub walked : o ≡ outcomes.Accepted → WalkedAs s f z
-  pub declined : (e : Refusal) → o ≡ outcomes.Refused e → (c : Checkpoint) (b : ℕ) → walk-call s c b ≡ refusing e c
+pub record Walkable (s : List ℕ) (us : List Assumption) (o : Outcome) (f : Formula) (z : Scope) : Type 0 where
+  pub walked : o ≡ outcomes.Accepted → WalkedAs s us f z
+  pub declined : (e : Refusal) → o ≡ outcomes.Refused e → (c : Checkpoint) (b : ℕ) → walk-call s us c b ≡ refusing e c
 
--- The state of the checkpoint c in the walk of the input s, which f and z hold: the calls and the lists from c go on from it.
-pub record Begun (s : List ℕ) (f : Formula) (z : Scope) (c : Checkpoint) (r : Entered) : Type 0 where
+-- The state of the checkpoint c in the walk of the input s under us, which f and z hold: the calls and the lists from c go on from it.
+pub record Begun (s : List ℕ) (us : List Assumption) (f : Formula) (z : Scope) (c : Checkpoint) (r : Entered) : Type 0 where
   pub tree : Tree
   pub fits : FormulaFits f
   pub follows : Follows f z tree
   pub holds : Holds tree (r .state)
-  pub calls : (b : ℕ) → walk-call s c b ≡ resumed-result (resume tree b (position-in (r .state)))
-  pub lists : (k : ℕ) → 0 < k → next-models s c k ≡ filling tree (position-in (r .state)) k
+  pub calls : (b : ℕ) → walk-call s us c b ≡ resumed-result (resume tree b (position-in (r .state)))
+  pub lists : (k : ℕ) → 0 < k → next-models s us c k ≡ filling tree (position-in (r .state)) k
 
 -- that state, or the refusal of every call from c
-pub record Enters (s : List ℕ) (f : Formula) (z : Scope) (c : Checkpoint) (r : Entered) : Type 0 where
-  pub begun : r .outcome ≡ outcomes.Accepted → Begun s f z c r
-  pub refused : (e : Refusal) → r .outcome ≡ outcomes.Refused e → (b : ℕ) → walk-call s c b ≡ refusing e c
+pub record Enters (s : List ℕ) (us : List Assumption) (f : Formula) (z : Scope) (c : Checkpoint) (r : Entered) : Type 0 where
+  pub begun : r .outcome ≡ outcomes.Accepted → Begun s us f z c r
+  pub refused : (e : Refusal) → r .outcome ≡ outcomes.Refused e → (b : ℕ) → walk-call s us c b ≡ refusing e c

@@ -2,6 +2,7 @@
 ghost use mathlib.Core.List.{List};
 ghost use Prim.Native.Nat.{ℕ};
 ghost use Rattle.formula.specs.InnerFits.{FormulaFits};
+ghost use Rattle.assumptions.specs.declared.Assumption.{Assumption};
 ghost use Rattle.walk.specs.InnerStack.{Tree};
 ghost use Rattle.enumeration.specs.InnerState.{Follows};
 ghost use Rattle.enumeration.specs.InnerRead.{HasTree};
@@ -43,8 +44,8 @@ fn enter_formula(f: Formula, z: Scope, c: Checkpoint) -> Entered
 
 // The state of a checkpoint in the walk of an input, by what comes of the input, or the refusal.
 pub fn enter(accepted: Outcome, f: Formula, z: Scope, c: Checkpoint) -> Entered
-    requires { ⌜ ((s : List ℕ) × Walkable s accepted f z) ⌝ }
-    ensures { λ r. ⌜ ((s : List ℕ) → Walkable s accepted f z → Enters s f z (checkpoint-values c) r) ⌝ }
+    requires { ⌜ ((s : List ℕ) × (us : List Assumption) × Walkable s us accepted f z) ⌝ }
+    ensures { λ r. ⌜ ((s : List ℕ) (us : List Assumption) → Walkable s us accepted f z → Enters s us f z (checkpoint-values c) r) ⌝ }
 {
     match accepted {
         Outcome::Refused(refusal) => Entered {

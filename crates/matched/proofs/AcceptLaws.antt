@@ -101,12 +101,16 @@ module _ (s : List ℕ) (us : List Assumption) (u : Assumptions) (given : Given 
   given-masks : u ≡ masks-of (assumed n us)
   given-masks = given ∙ ap (λ (k : ℕ). masks-of (assumed k us)) (stated-readable s n cs reads)
 
+  -- the masks of literals are those of their assignment
+  pub given-assignment : (t : List Literal) → assumed n us ≡ literals t → assigned-by u ≡ assignment-of t
+  given-assignment t e = ap assigned-by (given-masks ∙ ap masks-of e) ∙ sym (masks-assigned t 0 0)
+
   -- none is bad
   pub given-literals : u .bad ≡ false → (t : List Literal) × (assumed n us ≡ literals t) × (assigned-by u ≡ assignment-of t)
   given-literals e = by (assumed n us) refl given-masks
     where
       by : (x : Assumed) → assumed n us ≡ x → u ≡ masks-of x → (t : List Literal) × (assumed n us ≡ literals t) × (assigned-by u ≡ assignment-of t)
-      by (literals t) q m = (t, q, ap assigned-by m ∙ sym (masks-assigned t 0 0))
+      by (literals t) q m = (t, q, given-assignment t q)
       by (bad i) q m = absurd (true≢false (sym (ap (λ (y : Assumptions). y .bad) m) ∙ e))
 
   -- one is bad, the first at the place

@@ -29,11 +29,11 @@ enum-told c = search needs
 enter-formula-requires : tie.Need-enter-formula-requires
 enter-formula-requires c κs =
     let p = c .before .before .pre in
-    let w = p .1 .walked (c .enum-told .given .1) in
-    (w .fits, record { tree = tree (w .task); follows = walked-follows (p .0) _ _ w })
+    let w = p .2 .walked (c .enum-told .given .1) in
+    (w .fits, record { tree = tree (w .task); follows = walked-follows (p .0) (p .1) _ _ w })
 
 returns : tie.Need-returns
-returns c s d =
+returns c s us d =
     let o = c .before .before in
     let x = o .accepted .given .0 .0 in
     record {
@@ -44,15 +44,15 @@ returns c s d =
     }
 
 returns-2 : tie.Need-returns-2
-returns-2 c s d =
+returns-2 c s us d =
     let t = c .before in
     let b = t .before .before in
     let w = d .walked (t .enum-told .given .1) in
     let full = all-bytes b in
-    let S = c .enter-formula .ensures (tree (w .task)) (walked-follows s _ _ w) in
+    let S = c .enter-formula .ensures (tree (w .task)) (walked-follows s us _ _ w) in
     record {
-      begun = λ o. let p = S .passed o in entered-begun s _ _ w (checkpoint-values (b .args .c)) full _ (p .0) (p .1) (p .2);
-      refused = λ e o m. let p = S .foreign e o in rw (p .0) (entered-foreign s _ _ w (checkpoint-values (b .args .c)) full (p .1) m);
+      begun = λ o. let p = S .passed o in entered-begun s us _ _ w (checkpoint-values (b .args .c)) full _ (p .0) (p .1) (p .2);
+      refused = λ e o m. let p = S .foreign e o in rw (p .0) (entered-foreign s us _ _ w (checkpoint-values (b .args .c)) full (p .1) m);
     }
 
 pub enter-spec : {M : Type 1} → statement M
