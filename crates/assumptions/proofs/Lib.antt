@@ -1,4 +1,5 @@
 pub mod AssumedLaws
+pub mod CallLaws
 pub mod Demands
 pub mod PairsLaws
 pub mod SplitLaws

@@ -19,6 +19,7 @@ ghost use Rattle.matched.specs.Acceptance.{acceptance, formula-acceptanc
 ghost use Rattle.matched.specs.InnerAccept.{ReaderGives, assigned-by, refused-row, Represents};
 ghost use Rattle.matched.specs.InnerSpread.{bytes-at};
 ghost use Rattle.matched.specs.Judge.{judgement-values, judge};
+use assumptions::Assumption;
 use assumptions::Assumptions;
 use formula::Formula;
 use formula::Outcome;
@@ -158,4 +159,14 @@ pub fn find_matching_under(input: &[u8], u: Assumptions, buffer: &mut [u8]) -> J
         Outcome::Refused(refusal) => Judgement::Refused(refusal),
         Outcome::Accepted => Judgement::Accepted(f.variables, f.count),
     }
+}
+
+// S5.7, S17.2: the act judge. A slice of structs: proved by hand.
+pub fn find_matching(input: &[u8], list: &[Assumption], buffer: &mut [u8]) -> Judgement
+    ensures { λ r. ⌜ (judgement-values r ≡ judge (now (input .entry)) (now (list .entry)) (now (buffer .entry)) .answer)
+        × (now (buffer .exit) ≡ judge (now (input .entry)) (now (list .entry)) (now (buffer .entry)) .buffer) ⌝ }
+{
+    let n = assumptions::stated(input);
+    let u = assumptions::read_assumptions(list, n);
+    find_matching_under(input, u, buffer)
 }
