@@ -13,7 +13,7 @@ use Rattle.assumptions.specs.declared.Assumption.{Assumption}
 use Rattle.assumptions.specs.declared.Assumptions.{Assumptions}
 use Rattle.assumptions.specs.Assumed.{Assumed, literals, bad, assumed}
 
--- before the first
+-- nothing is assumed
 abbrev pub none-assumed : Assumptions
 none-assumed = record { trues = 0; falses = 0; bad = false; place = 0 }
 

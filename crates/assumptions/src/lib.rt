@@ -47,8 +47,8 @@ pub fn stated(input: &[u8]) -> usize
     n
 }
 
-// Before the first.
-fn none_assumed() -> Assumptions
+// Nothing is assumed.
+pub fn none_assumed() -> Assumptions
     ensures { λ r. ⌜ r ≡ none-assumed ⌝ }
 {
     Assumptions {

@@ -18,7 +18,7 @@ use Rattle.matched.specs.InnerAccept.{assigned-by, Takes, Decides}
 use Rattle.matched.proofs.AcceptLaws.{given-assignment}
 use Rattle.walk.specs.Task.{Task, under}
 use Rattle.walk.specs.Checkpoints.{Checkpoint}
-use Rattle.walk.specs.InnerStack.{tree}
+use Rattle.walk.specs.InnerStack.{Tree, tree}
 use Rattle.walk.specs.InnerTest.{accepts, read, position-of}
 use Rattle.walk.specs.WalkCall.{walk-call}
 use Rattle.walk.specs.Results.{refusing}
@@ -65,6 +65,10 @@ module _ (s : List ℕ) (us : List Assumption) (f : Formula) (z : Scope) (w : Wa
 
 -- ---- an accepted input is walked as its formula's task under the assumptions
 
+-- the tree of an accepted input
+abbrev pub tree-of : (s : List ℕ) (us : List Assumption) (f : Formula) → Takes s us f → Tree
+tree-of s us f w = tree (under (w .variables) (w .trail) (w .clauses))
+
 module _ (s : List ℕ) (us : List Assumption) (u : Assumptions) (given : Given s us u) (f : Formula) (z : Scope) (e : z ≡ scope-under (f .variables) (assigned-by u)) where
   abbrev takes-walked : Takes s us f → WalkedAs s us f z
   takes-walked w = record {
@@ -78,6 +82,10 @@ module _ (s : List ℕ) (us : List Assumption) (u : Assumptions) (given : Given 
     fits = w .fits;
     calls = call-accepted s us (w .variables) (w .trail) (w .clauses) (w .row) (w .accepts);
   }
+
+  -- and the code's choices make its tree
+  pub tree-follows : (w : Takes s us f) → Follows f z (tree-of s us f w)
+  tree-follows w = walked-follows s us f z (takes-walked w)
 
   -- so what comes of an input is what its walk asks
   pub decides-walkable : (o : Outcome) → Decides s us o f → Walkable s us o f z

@@ -1,7 +1,7 @@
 -- What is printed, by what comes of the input; and the act.
 use Prim.Native.Nat.{ℕ, _+_, _≤_, _<_}
 use mathlib.Core.Bool.{Bool, cond, true, false}
-use mathlib.Core.List.{List, _++_}
+use mathlib.Core.List.{List, [], _++_}
 use mathlib.Core.Path.{_≡_, refl, sym, ap, _∙_}
 use native.Mathlib.Omega.{arith}
 use lib.Dec.{ltb}
@@ -24,20 +24,20 @@ use Rattle.printing.proofs.PrintedLaws.{printed-length}
 use Rattle.printing.proofs.WalkLinesLaws.{lines-resumed}
 
 -- a refused input
-pub declined-prints : (s : List ℕ) (r : Refusal) (row : List ℕ) → acceptance s ≡ declined r row → printed s ≡ refusal-line r
+pub declined-prints : (s : List ℕ) (r : Refusal) (row : List ℕ) → acceptance s [] ≡ declined r row → printed s ≡ refusal-line r
 unfolding printed
 declined-prints s r row e = ap acceptance-lines e
 
 -- an accepted one: the lines of its walk
-pub accepted-prints : (s : List ℕ) (f : Formula) (w : Takes s f)
-    → printed s ≡ header (f .variables) (f .count) ++ lines-from (tree-of s f w) (f .variables) max-models (down empty)
+pub accepted-prints : (s : List ℕ) (f : Formula) (w : Takes s [] f)
+    → printed s ≡ header (f .variables) (f .count) ++ lines-from (tree-of s [] f w) (f .variables) max-models (down empty)
 unfolding printed
 accepted-prints s f w =
     let n = w .variables in
     let cs = w .clauses in
     ap acceptance-lines (w .accepts)
-    ∙ ap (λ (l : List ℕ). header n (length cs) ++ l) (lines-resumed s n cs (w .row) (w .accepts) max-models)
-    ∙ ap (λ (g : Formula). header (g .variables) (g .count) ++ lines-from (tree-of s f w) (g .variables) max-models (down empty)) (sym (w .formula))
+    ∙ ap (λ (l : List ℕ). header n (length cs) ++ l) (lines-resumed s n (w .trail) cs (w .row) (w .accepts) max-models)
+    ∙ ap (λ (g : Formula). header (g .variables) (g .count) ++ lines-from (tree-of s [] f w) (g .variables) max-models (down empty)) (sym (w .formula))
 
 -- ---- the act
 

@@ -21,21 +21,25 @@ use Rattle.formula.specs.Refusals.{table-row}
 use Rattle.formula.specs.Table.{Beginning, written, Given, no-kind, kind-unknown, kind-misplaced, no-body, count-bad, variable-unknown, literal-complementary, clause-extra, byte-extra}
 use Rattle.formula.proofs.ClauseLaws.{variables-lt}
 use Rattle.formula.proofs.Demands.{accepted-only, accepted-all, accepted-fits, refused-only, numbers}
+use Rattle.assumptions.specs.FirstBad.{NoneBad}
+use Rattle.assumptions.proofs.Demands.{literals-exactly, literals-are, no-assumptions}
 use Rattle.matching.specs.Sets.{union}
 use Rattle.matching.proofs.MatchedLaws.{selected-few}
 use Rattle.matching.proofs.Theorems.{pigeonhole}
+use Rattle.splitting.specs.Nodes.{remaining}
+use Rattle.splitting.proofs.NodeLaws.{length-remaining}
 use Rattle.matched.specs.Acceptance.{Acceptance, accepted, declined, acceptance}
 use Rattle.matched.specs.Pairing.{Pairs, marked}
-use Rattle.matched.proofs.AcceptanceLaws.{AcceptedInput, Comes, paired, unpaired, unreadable, comes, accepted-is, pairs-accepted}
+use Rattle.matched.proofs.AcceptanceLaws.{AcceptedInput, Comes, paired, unpaired, unassumed, unreadable, comes, accepted-is, pairs-accepted}
 use Rattle.matched.proofs.PairingLaws.{masks-words, pairs-matches}
-use Rattle.walk.specs.Task.{Task, whole, to-assign, Posed}
+use Rattle.walk.specs.Task.{Task, under, to-assign, Posed}
 use Rattle.walk.specs.Checkpoints.{Checkpoint}
 use Rattle.walk.specs.PlainMachine.{Answer, found, spent, ended, plain-call, plain-calls, state-after}
 use Rattle.walk.specs.WalkCall.{walk-call}
 use Rattle.walk.specs.InnerLocate.{task-call}
 use Rattle.walk.specs.Results.{says-model, says-ended, answer-kind, plain-result}
 use Rattle.walk.specs.Gaps.{ample-budget, step-bound, gap-after, gaps-from, gaps, PacedLater, Paced}
-use Rattle.walk.proofs.Demands.{whole-size, demand-3}
+use Rattle.walk.proofs.Demands.{under-size, demand-3}
 use Rattle.walk.proofs.TaskLaws.{call-plain, last-plain}
 use Rattle.walk.proofs.RefusalLaws.{accepted-posed, call-accepted}
 use Rattle.printing.specs.Printing.{max-input, max-model-line, max-print}
@@ -113,15 +117,20 @@ clauses-few n cs vs z w =
 cost : (n m : ℕ) → n ≤ max-variables → m ≤ max-variables → n * (n * m * (m + 1)) ≤ 5419008
 cost n m h k = let l : m + 1 ≤ 49 = omega arith in let c = mul-le-mul h (mul-le-mul (mul-le-mul h k) l) in omega arith
 
-walk-short : (s : List ℕ) (n : ℕ) (cs : List (List Literal)) (row : List ℕ) (w : AcceptedInput s n cs row) (j : ℕ)
-    → length (walk-lines (whole n cs) j 0) ≤ max-model-line * j + length more-line
+-- in an empty list no assumption is bad
+none-bad : (n : ℕ) → NoneBad n []
+none-bad n = literals-exactly n [] .0 ([], no-assumptions n)
+
+walk-short : (s : List ℕ) (n : ℕ) (cs : List (List Literal)) (row : List ℕ) (w : AcceptedInput s [] n [] cs row) (j : ℕ)
+    → length (walk-lines (under n [] cs) j 0) ≤ max-model-line * j + length more-line
+unfolding remaining
 walk-short s n cs row w j =
     let z = w .sized in
     let m = clauses-few n cs (w .vs) z (w .pairs) in
-    let t = whole-size n cs (omega (arith, z .most)) in
-    let c = cost (to-assign (whole n cs)) (length cs) (omega (arith, z .most)) (omega (arith, z .most)) in
-    let d = demand-3 s n cs (accepted-only s n cs (w .reads)) (w .vs) (w .pairs) (replicate j ample-budget) in
-    first-short (whole n cs) (to-assign (whole n cs)) (step-bound (whole n cs)) (z .most) (omega (arith, z .most)) (omega arith) j 0 (rw (d .plain) at (d .paced))
+    let t = under-size n [] cs (z .most) (none-bad n) in
+    let c = cost (to-assign (under n [] cs)) (length cs) (omega (arith, z .most)) (omega (arith, z .most)) in
+    let d = demand-3 s [] n cs (accepted-only s n cs (w .reads)) (none-bad n) (w .vs) (w .pairs) (replicate j ample-budget) in
+    first-short (under n [] cs) (to-assign (under n [] cs)) (step-bound (under n [] cs)) (z .most) (omega (arith, z .most)) (omega arith) j 0 (rw (d .plain) at (d .paced))
 
 -- a refusal's place is within the input
 place-le : {len at : ℕ} {b : Beginning} {s : List ℕ} {r : Refusal} → Given len at b s r → len ≡ at + length s → table-row r .place ≤ len
@@ -143,32 +152,38 @@ refused-short s r e h =
 
 -- the most bytes that are printed, 60,026
 pub printed-length : (s : List ℕ) → length s ≤ max-input → length (printed s) ≤ max-print
-unfolding printed
-printed-length s h = go (acceptance s) refl
+unfolding printed remaining
+printed-length s h = go (acceptance s []) refl
   where
-    walked : (n : ℕ) (cs : List (List Literal)) (row : List ℕ) → AcceptedInput s n cs row → length (header n (length cs) ++ walk-lines (whole n cs) max-models 0) ≤ max-print
+    walked : (n : ℕ) (cs : List (List Literal)) (row : List ℕ) → AcceptedInput s [] n [] cs row → length (header n (length cs) ++ walk-lines (under n [] cs) max-models 0) ≤ max-print
     walked n cs row w =
         let z = w .sized in
         let m = clauses-few n cs (w .vs) z (w .pairs) in
         let a = header-length n (length cs) (omega (arith, z .most)) (omega (arith, z .most)) in
         let b = walk-short s n cs row w max-models in
-        rw (length-append (header n (length cs)) (walk-lines (whole n cs) max-models 0)) (omega arith)
+        rw (length-append (header n (length cs)) (walk-lines (under n [] cs) max-models 0)) (omega arith)
 
-    refused-within : (r : Refusal) (row : List ℕ) → acceptance s ≡ declined r row → length (refusal-line r) ≤ max-print
-    refused-within r row = by (comes s)
+    refused-within : (r : Refusal) (row : List ℕ) → acceptance s [] ≡ declined r row → length (refusal-line r) ≤ max-print
+    refused-within r row = by (comes s [])
       where
-        by : {a : Acceptance} → Comes s a → a ≡ declined r row → length (refusal-line r) ≤ max-print
-        by (paired n cs vs reads w) q = let z : _≡_ {A = ℕ} 0 1 = cc in absurd (omega arith)
-        by (unpaired n cs ms reads v none) q =
-            let e : Unmatched (length (marked ms cs)) ≡ r = cc in
+        by : {a : Acceptance} → Comes s [] a → a ≡ declined r row → length (refusal-line r) ≤ max-print
+        by (paired n t cs vs reads assumes w) q = let z : _≡_ {A = ℕ} 0 1 = cc in absurd (omega arith)
+        by (unpaired n t cs ms reads assumes v none) q =
+            let rs = remaining t cs in
+            let e : Unmatched (length (marked ms rs)) ≡ r = cc in
             let f = accepted-fits s n cs reads .few in
-            let k = selected-few ms (map variables cs) in
-            let l = refused-line-length 10 (length (marked ms cs)) (omega arith) (omega (arith, length-map cs variables)) in
+            let g = length-remaining t cs in
+            let k = selected-few ms (map variables rs) in
+            let l = refused-line-length 10 (length (marked ms rs)) (omega arith) (omega (arith, length-map rs variables)) in
             rw (← e) (omega arith)
+        by (unassumed n cs i reads assumes) q = let z : _≡_ {A = ℕ} 0 1 = cc (no-assumptions n) in absurd (omega arith)
         by (unreadable t reads) q = let e : t ≡ r = cc in let l = refused-short s t reads h in rw (← e) (omega arith)
 
-    go : (a : Acceptance) → acceptance s ≡ a → length (acceptance-lines a) ≤ max-print
-    go (accepted n cs row) e = walked n cs row (accepted-is s n cs row e)
+    go : (a : Acceptance) → acceptance s [] ≡ a → length (acceptance-lines a) ≤ max-print
+    go (accepted n t cs row) e =
+        let a = accepted-is s [] n t cs row e in
+        let q : t ≡ [] = literals-are n [] t (a .assumes) in
+        rw q (walked n cs row (rw q at a))
     go (declined r row) e = refused-within r row e
 
 -- ---- no call of the print says spent
@@ -179,22 +194,23 @@ not-spent a (inr h) e = let z : _≡_ {A = ℕ} 0 1 = cc in omega arith
 
 -- after j calls on an ample budget, the next one on it brings a model or the end
 pub never-spent : (s : List ℕ) (n : ℕ) (cs : List (List Literal)) (vs : List ℕ) → Encodes s n cs → Pairs cs vs → (j : ℕ)
-    → plain-call (whole n cs) ample-budget (state-after (whole n cs) 0 (replicate j ample-budget)) .answer ≡ spent → ⊥
+    → plain-call (under n [] cs) ample-budget (state-after (under n [] cs) 0 (replicate j ample-budget)) .answer ≡ spent → ⊥
+unfolding remaining
 never-spent s n cs vs e w j =
     not-spent (plain-call T ample-budget (state-after T 0 bs) .answer)
-    (rw (call-plain s T P walks bs ample-budget) at (rw (last-plain s T P walks bs) at (demand-3 s n cs e vs w bs .ample ample-budget (omega arith))))
+    (rw (call-plain s [] T P walks bs ample-budget) at (rw (last-plain s [] T P walks bs) at (demand-3 s [] n cs e (none-bad n) vs w bs .ample ample-budget (omega arith))))
   where
     bs : List ℕ
     bs = replicate j ample-budget
 
     T : Task
-    T = whole n cs
+    T = under n [] cs
 
-    a : (row : List ℕ) × (acceptance s ≡ accepted n cs row)
-    a = pairs-accepted s n cs vs (accepted-all s n cs e) w
+    a : (row : List ℕ) × (acceptance s [] ≡ accepted n [] cs row)
+    a = pairs-accepted s [] n [] cs vs (accepted-all s n cs e) (no-assumptions n) w
 
-    P : Posed (whole n cs)
-    P = accepted-posed s n cs (a .0) (a .1)
+    P : Posed (under n [] cs)
+    P = accepted-posed s [] n [] cs (a .0) (a .1)
 
-    walks : (c : Checkpoint) (b : ℕ) → walk-call s c b ≡ task-call (whole n cs) c b
-    walks = call-accepted s n cs (a .0) (a .1)
+    walks : (c : Checkpoint) (b : ℕ) → walk-call s [] c b ≡ task-call (under n [] cs) c b
+    walks = call-accepted s [] n [] cs (a .0) (a .1)

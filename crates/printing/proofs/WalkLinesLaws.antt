@@ -1,11 +1,11 @@
 -- The lines of the plain machine, of walk calls and of the machine that resumes are the same.
 use Prim.Native.Nat.{ℕ, zero, suc}
-use mathlib.Core.List.{List, map}
+use mathlib.Core.List.{List, [], map}
 use mathlib.Core.Path.{_≡_, refl, sym, ap, _∙_}
 use lib.ListN.{replicate}
 use Rattle.formula.specs.Format.{Literal}
 use Rattle.matched.specs.Acceptance.{accepted, acceptance}
-use Rattle.walk.specs.Task.{Task, whole, Posed}
+use Rattle.walk.specs.Task.{Task, under, Posed}
 use Rattle.walk.specs.Gaps.{ample-budget}
 use Rattle.walk.specs.Checkpoints.{Checkpoint, start, checkpoint-after}
 use Rattle.walk.specs.PlainMachine.{Answer, found, spent, ended, plain-call, plain-calls}
@@ -47,23 +47,23 @@ resumed-lines K L n (suc j) p =
     ap (call-lines n (r .answer) (r .steps) (r .expansions)) (resumed-lines K L n j (r .position))
     ∙ answer-lines n (r .answer) (r .steps) (r .expansions) (shown (r .position)) _
 
-module _ (s : List ℕ) (n : ℕ) (cs : List (List Literal)) (row : List ℕ) (accepts : acceptance s ≡ accepted n cs row) where
+module _ (s : List ℕ) (n : ℕ) (t : List Literal) (cs : List (List Literal)) (row : List ℕ) (accepts : acceptance s [] ≡ accepted n t cs row) where
   abbrev T : Task
-  T = whole n cs
+  T = under n t cs
 
-  P : Posed (whole n cs)
-  P = accepted-posed s n cs row accepts
+  P : Posed (under n t cs)
+  P = accepted-posed s [] n t cs row accepts
 
-  walks : (c : Checkpoint) (b : ℕ) → walk-call s c b ≡ task-call (whole n cs) c b
-  walks = call-accepted s n cs row accepts
+  walks : (c : Checkpoint) (b : ℕ) → walk-call s [] c b ≡ task-call (under n t cs) c b
+  walks = call-accepted s [] n t cs row accepts
 
   -- the lines are those of walk calls on an ample budget, from the start on
-  pub lines-calls : (j : ℕ) → walk-lines (whole n cs) j 0 ≡ result-lines n (walk-calls s start (replicate j ample-budget))
-  lines-calls j = plain-lines T j 0 ∙ ap (result-lines n) (sym (calls-plain s T P walks (replicate j ample-budget)))
+  pub lines-calls : (j : ℕ) → walk-lines (under n t cs) j 0 ≡ result-lines n (walk-calls s [] start (replicate j ample-budget))
+  lines-calls j = plain-lines T j 0 ∙ ap (result-lines n) (sym (calls-plain s [] T P walks (replicate j ample-budget)))
 
   -- and of the machine that resumes
-  pub lines-resumed : (j : ℕ) → walk-lines (whole n cs) j 0 ≡ lines-from (tree (whole n cs)) n j (down empty)
+  pub lines-resumed : (j : ℕ) → walk-lines (under n t cs) j 0 ≡ lines-from (tree (under n t cs)) n j (down empty)
   lines-resumed j =
       lines-calls j
-      ∙ ap (result-lines n) (calls-results s T P walks (replicate j ample-budget))
+      ∙ ap (result-lines n) (calls-results s [] T P walks (replicate j ample-budget))
       ∙ sym (resumed-lines (tree T) (live T P) n j (down empty))

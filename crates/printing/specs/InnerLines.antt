@@ -31,7 +31,7 @@ pub record Fitting (f : Formula) (z : Scope) (at : ℕ) (b : List ℕ) : Type 0 
 -- an accepted input has this formula, and b has room for its print
 pub record Printable (f : Formula) (b : List ℕ) : Type 0 where
   pub input : List ℕ
-  pub takes : Takes input f
+  pub takes : Takes input [] f
   pub room : Room 0 (printed input) b
 
 -- the line of a result, and then the rest

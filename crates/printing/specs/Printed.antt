@@ -7,7 +7,7 @@ use Rattle.formula.specs.Refusals.{table-row}
 use Rattle.writing.specs.Text.{decimal, digits, line-of}
 use Rattle.walk.specs.Gaps.{ample-budget}
 use Rattle.matched.specs.Acceptance.{Acceptance, accepted, declined, acceptance}
-use Rattle.walk.specs.Task.{Task, whole}
+use Rattle.walk.specs.Task.{Task, under}
 use Rattle.walk.specs.PlainMachine.{Answer, found, spent, ended, plain-call}
 
 -- the words `switches`, `rules`, `end`, `more`, `refused`
@@ -70,9 +70,9 @@ walk-lines T (suc j) k =
 
 -- the first line and the walk of an accepted input, or its refusal
 abbrev pub acceptance-lines : Acceptance → List ℕ
-acceptance-lines (accepted n cs row) = header n (length cs) ++ walk-lines (whole n cs) max-models 0
+acceptance-lines (accepted n t cs row) = header n (length cs) ++ walk-lines (under n t cs) max-models 0
 acceptance-lines (declined r row) = refusal-line r
 
--- what is printed for the bytes of an input
+-- what is printed for the bytes of an input: nothing is assumed
 unfoldable pub printed : List ℕ → List ℕ
-printed s = acceptance-lines (acceptance s)
+printed s = acceptance-lines (acceptance s [])

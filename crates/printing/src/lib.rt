@@ -1,6 +1,6 @@
 // The printed walk: its lines as bytes, written into a lent buffer (S12).
 ghost use mathlib.Core.Path.{_≡_};
-ghost use mathlib.Core.List.{List};
+ghost use mathlib.Core.List.{List, []};
 ghost use Prim.Native.Nat.{ℕ, _≤_};
 ghost use Rattle.writing.specs.Placed.{Room, Wrote};
 ghost use Rattle.matched.specs.InnerAccept.{Takes};
@@ -117,7 +117,7 @@ fn put_walk(f: Formula, z: Scope, buffer: &mut [u8], at: usize) -> usize
 // The print of an accepted formula: the first line and the walk.
 fn put_formula(f: Formula, buffer: &mut [u8]) -> usize
     requires { ⌜ Printable f (now buffer) ⌝ }
-    ensures { λ r. ⌜ ((s : List ℕ) → Takes s f → Wrote (printed s) 0 (now (buffer .entry)) (now (buffer .exit)) r) ⌝ }
+    ensures { λ r. ⌜ ((s : List ℕ) → Takes s [] f → Wrote (printed s) 0 (now (buffer .entry)) (now (buffer .exit)) r) ⌝ }
 {
     let next = put_header(f.variables, f.count, buffer, 0);
     let z = enumeration::scope_of(f.variables, splitting::no_assignment());
@@ -137,7 +137,7 @@ pub fn print(input: &[u8], buffer: &mut [u8]) -> usize
     let d = formula::decode(input);
     let read = d.outcome;
     let f = d.formula;
-    let row = matched::accept(read, f);
+    let row = matched::accept(read, f, assumptions::none_assumed());
     let outcome = row.outcome;
     match outcome {
         Outcome::Refused(refusal) => put_refusal_line(refusal, buffer, 0),

@@ -1,10 +1,11 @@
 -- `print` by its three answers: nothing is written, the refusal, or the print of the formula.
 use native.Mathlib.Omega.{arith}
-use mathlib.Core.Path.{subst}
-use mathlib.Core.List.{List}
+use mathlib.Core.Path.{_∙_, subst}
+use mathlib.Core.List.{List, []}
 use Prim.Native.Nat.{ℕ, _≤_}
 use lib.ListN.{length}
 use borrow.Author.Needs.{needs}
+use Rattle.assumptions.proofs.StatedLaws.{given-none}
 use Rattle.matched.specs.InnerAccept.{Decides}
 use Rattle.matched.proofs.AcceptLaws.{decides}
 use Rattle.writing.specs.Placed.{Room}
@@ -21,10 +22,10 @@ room s b h k = let l = printed-length s h in omega arith
 
 -- the entry, and what comes of the input
 abbrev entry : tie.After-accept → tie.Start
-entry d = d .before .before .before .before .before .before .before
+entry d = d .before .before .before .before .before .before .before .before
 
-abbrev decided : (d : tie.After-accept) → Decides (entry d .args .input .now) (d .accept .result .outcome) (d .before .before .decode .result .formula)
-decided d = decides _ _ _ (d .accept .ensures _ (d .before .before .decode .ensures))
+abbrev decided : (d : tie.After-accept) → Decides (entry d .args .input .now) [] (d .accept .result .outcome) (d .before .before .before .decode .result .formula)
+decided d = decides _ [] _ _ (d .accept .ensures _ [] (d .before .before .before .decode .ensures) (d .before .none-assumed .ensures ∙ given-none _))
 
 decode-requires : tie.Need-decode-requires
 decode-requires c κs = search needs
@@ -35,8 +36,11 @@ returns c = let b = c .before .before .before in print-short (b .args .input .no
 returns-2 : tie.Need-returns-2
 returns-2 c = let b = c .before .before .before .before in print-long (b .args .input .now) (b .args .buffer .now) (omega arith) (omega arith)
 
+none-assumed-requires : tie.Need-none-assumed-requires
+none-assumed-requires c κs = search needs
+
 accept-requires : tie.Need-accept-requires
-accept-requires c κs = (_, c .before .decode .ensures)
+accept-requires c κs = (_, [], c .before .before .decode .ensures, c .none-assumed .ensures ∙ given-none _)
 
 enum-known-outcome : tie.Need-enum-known-outcome
 enum-known-outcome c = search needs
@@ -94,6 +98,7 @@ print-spec =
     returns
     returns-2
     decode-requires
+    none-assumed-requires
     accept-requires
     enum-known-outcome
     put-refusal-line-requires

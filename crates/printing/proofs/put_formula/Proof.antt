@@ -1,10 +1,14 @@
 -- `put_formula` prints the header and the walk.
+use mathlib.Core.List.{[]}
 use mathlib.Core.Path.{_≡_, ap, _∙_}
 use native.Mathlib.Omega.{arith}
 use borrow.Author.Needs.{needs}
+use Rattle.assumptions.specs.InnerAssumed.{none-assumed}
+use Rattle.assumptions.proofs.StatedLaws.{given-none}
+use Rattle.splitting.specs.InnerChoose.{unassigned}
 use Rattle.walk.specs.InnerStack.{empty}
 use Rattle.walk.specs.InnerMachine.{down}
-use Rattle.enumeration.specs.InnerScope.{scope-under, whole-scope}
+use Rattle.enumeration.specs.InnerScope.{scope-under}
 use Rattle.enumeration.proofs.EnterLaws.{tree-of, tree-follows}
 use Rattle.printing.specs.Printed.{header, max-models}
 use Rattle.printing.specs.InnerLines.{lines-from}
@@ -20,7 +24,7 @@ header-written c = c .before .before .before .before
 abbrev entry : tie.After-scope-of → tie.Start
 entry c = header-written c .before .before .before
 
-scope : (c : tie.After-scope-of) → c .scope-of .result ≡ whole-scope (entry c .args .f .variables)
+scope : (c : tie.After-scope-of) → c .scope-of .result ≡ scope-under (entry c .args .f .variables) unassigned
 scope c = c .scope-of .ensures ∙ ap (scope-under (entry c .args .f .variables)) (c .before .no-assignment .ensures)
 
 put-header-requires : tie.Need-put-header-requires
@@ -28,7 +32,7 @@ put-header-requires c κs =
     let b = c .before .before in
     let w = b .pre in
     let f = b .args .f in
-    room-front 0 (header (f .variables) (f .count)) (lines-from (tree-of _ _ (w .takes)) (f .variables) max-models (down empty)) _ (b .args .buffer .now)
+    room-front 0 (header (f .variables) (f .count)) (lines-from (tree-of _ [] _ (w .takes)) (f .variables) max-models (down empty)) _ (b .args .buffer .now)
     (accepted-prints _ _ (w .takes)) (w .room)
 
 no-assignment-requires : tie.Need-no-assignment-requires
@@ -43,8 +47,8 @@ put-walk-requires c κs =
     let w = entry z .pre in
     record {
       fits = w .takes .fits;
-      tree = tree-of _ _ (w .takes);
-      follows = tree-follows _ _ (w .takes) _ (scope z);
+      tree = tree-of _ [] _ (w .takes);
+      follows = tree-follows _ [] none-assumed (given-none _) _ _ (scope z) (w .takes);
       room = room-behind 0 _ _ _ _ _ _ (accepted-prints _ _ (w .takes)) (w .room) (header-written z .put-header .ensures);
     }
 
@@ -57,7 +61,7 @@ returns c =
     let walk = c .before .before in
     let z = walk .before .before in
     rw (accepted-prints s _ t)
-    (wrote-more (omega arith) (header-written z .put-header .ensures) (walk .put-walk .ensures _ (tree-follows s _ t _ (scope z))))
+    (wrote-more (omega arith) (header-written z .put-header .ensures) (walk .put-walk .ensures _ (tree-follows s [] none-assumed (given-none s) _ _ (scope z) t)))
 
 pub put-formula-spec : {M : Type 1} → statement M
 put-formula-spec =
