@@ -1,4 +1,4 @@
--- The cases of the table specs/MarkedCases.antt, and some more, computed from the definitions.
+-- The cases of the tables specs/MarkedCases.antt and specs/AssumedCases.antt, and some more, computed from the definitions.
 use mathlib.Core.Bool.{xor}
 use Prim.Native.Nat.{ℕ}
 use mathlib.Core.List.{List, [], _∷_, _++_, map}
@@ -12,22 +12,26 @@ use Rattle.writing.specs.Text.{line-feed, blank, decimal-within, decimal}
 use Rattle.formula.specs.InnerDecode.{decode, records, read-record}
 use Rattle.formula.specs.Format.{Literal, names, names-as, add, literal-bytes, literals-bytes, clause-bytes, clauses-bytes, formula-bytes}
 use Rattle.formula.specs.Masked.{variables}
+use Rattle.assumptions.specs.declared.Assumption.{Assumption}
+use Rattle.assumptions.specs.Assumed.{is-bad, assumed-from, assumed}
 use Rattle.matching.specs.Search.{owner, no-links, begin, see, scan, take-front, expand, search-from, rematch-from, match-rest, outcome, marks}
-use Rattle.matched.specs.Acceptance.{accepted, acceptance}
+use Rattle.matched.specs.Acceptance.{accepted, spread, acceptance}
 use Rattle.matched.specs.Judge.{judge}
-use Rattle.splitting.specs.Nodes.{less, assign, remaining, occurs, named, first-from, upward-from}
+use Rattle.splitting.specs.Nodes.{less, assign, remaining, satisfied-by, occurs, named, first-from, upward-from}
 use Rattle.splitting.specs.Stripping.{pure, not-naming, strip}
 use Rattle.splitting.specs.Choosing.{matching-of, trial, first-passing, candidates, among, listed, last, emptied, last-listed, choice}
-use Rattle.walk.specs.Task.{whole}
+use Rattle.walk.specs.Task.{under}
 use Rattle.walk.specs.Plain.{assignment, node-walk, plain-walk}
 use Rattle.walk.specs.Gaps.{ample-budget}
 use Rattle.walk.specs.PlainMachine.{go-on, plain-call, plain-calls}
 use Rattle.walk.specs.Results.{plain-result}
 use Rattle.walk.proofs.Demands.{start-zero}
 use Rattle.walk.proofs.TaskLaws.{calls-plain}
-use Rattle.walk.proofs.RefusalLaws.{accepted-posed, call-accepted}
+use Rattle.walk.proofs.RefusalLaws.{accepted-posed, call-accepted, call-declined}
+use Rattle.walk.proofs.NothingLeftLaws.{call-first, call-second}
 use Rattle.printing.specs.Printed.{refused-word, walk-lines, printed}
-use Rattle.edge_cases.specs.MarkedCases.{on, off, line, model-at, end-at, walked, MarkedCases}
+use Rattle.edge_cases.specs.MarkedCases.{on, off, line, model-at, end-at, walked-under, walked, example, MarkedCases}
+use Rattle.edge_cases.specs.AssumedCases.{assume-on, assume-off, AssumedCases}
 
 -- ---- what computes: to unfold one of these is to unfold all that its line names
 
@@ -39,12 +43,16 @@ encoding : Unit {0}
 unfolding formula-bytes clauses-bytes clause-bytes literals-bytes literal-bytes
 encoding = tt
 
+assuming : Unit {0}
+unfolding assumed assumed-from is-bad names
+assuming = tt
+
 searching : Unit {0}
 unfolding variables outcome match-rest search-from expand take-front scan see begin no-links owner rematch-from bit members
 searching = tt
 
 judging : Unit {0}
-unfolding reading searching acceptance marks judge
+unfolding reading assuming searching acceptance spread satisfied-by remaining assign less marks judge
 judging = tt
 
 choosing : Unit {0}
@@ -62,10 +70,10 @@ printing = tt
 -- ---- walks
 
 -- what walk calls bring is what the plain machine brings, which needs no search for the state of a checkpoint
-walked-plain : (s : List ℕ) (n : ℕ) (cs : List (List Literal)) (row : List ℕ) → acceptance s ≡ accepted n cs row → (k : ℕ)
-    → walked s k ≡ map line (map (plain-result (whole n cs)) (plain-calls (whole n cs) 0 (replicate k ample-budget)))
-walked-plain s n cs row e k =
-    ap (map line) (calls-plain s (whole n cs) (accepted-posed s n cs row e) (call-accepted s n cs row e) (replicate k ample-budget))
+walked-plain : (s : List ℕ) (us : List Assumption) (n : ℕ) (t : List Literal) (cs : List (List Literal)) (row : List ℕ) → acceptance s us ≡ accepted n t cs row → (k : ℕ)
+    → walked-under s us k ≡ map line (map (plain-result (under n t cs)) (plain-calls (under n t cs) 0 (replicate k ample-budget)))
+walked-plain s us n t cs row e k =
+    ap (map line) (calls-plain s us (under n t cs) (accepted-posed s us n t cs row e) (call-accepted s us n t cs row e) (replicate k ample-budget))
 
 -- ---- the table
 
@@ -74,9 +82,9 @@ unfolding judging walking printing
 marked-cases = record {
   example-matching = λ b l. rw (le-ltb (length b) max-clauses l);
   example-printed = refl;
-  three-pairs = walked-plain _ _ _ _ refl 5;
-  wrong-turn = walked-plain _ _ _ _ refl 3;
-  no-clauses = walked-plain _ _ _ _ refl 5;
+  three-pairs = walked-plain _ _ _ _ _ _ refl 5;
+  wrong-turn = walked-plain _ _ _ _ _ _ refl 3;
+  no-clauses = walked-plain _ _ _ _ _ _ refl 5;
   no-bytes = refl;
   empty-clause = λ b l. rw (le-ltb (length b) max-clauses l);
   both-ways = λ b l. rw (le-ltb (length b) max-clauses l);
@@ -87,6 +95,27 @@ marked-cases = record {
   clause-not-ended = refl;
   tail-byte = refl;
   start-zero = start-zero;
+}
+
+-- ---- assumptions
+
+-- the example with both variables assumed is accepted, with nothing left to assign
+both-assumed : acceptance example (assume-on 1 ∷ assume-off 2 ∷ []) ≡ accepted 2 (on 1 ∷ off 2 ∷ []) ((on 1 ∷ on 2 ∷ []) ∷ (off 1 ∷ off 2 ∷ []) ∷ []) (0 ∷ 0 ∷ [])
+unfolding judging
+both-assumed = refl
+
+pub assumed-cases : AssumedCases
+unfolding judging walking
+assumed-cases = record {
+  one-matching = λ b l. rw (le-ltb (length b) max-clauses l);
+  one-walked = walked-plain _ _ _ _ _ _ refl 2;
+  both-matching = λ b l. rw (le-ltb (length b) max-clauses l);
+  both-first = λ b. call-first _ refl _ _ (accepted-posed _ _ _ _ _ _ both-assumed) (call-accepted _ _ _ _ _ _ both-assumed) b;
+  both-second = λ b. call-second _ refl _ _ (accepted-posed _ _ _ _ _ _ both-assumed) (call-accepted _ _ _ _ _ _ both-assumed) b;
+  both-true = λ b l. rw (le-ltb (length b) max-clauses l);
+  above = (λ b l. rw (le-ltb (length b) max-clauses l), λ c b. call-declined _ _ _ _ c b refl);
+  again = (λ b l. rw (le-ltb (length b) max-clauses l), λ c b. call-declined _ _ _ _ c b refl);
+  free-walked = walked-plain _ _ _ _ _ _ refl 3;
 }
 
 -- ---- more cases
@@ -101,7 +130,7 @@ pub failed-trials : walked (formula-bytes 4 ((off 1 ∷ off 2 ∷ off 3 ∷ []) 
     ∷ end-at 4 0
     ∷ []
 unfolding walking
-failed-trials = walked-plain _ _ _ _ refl 6
+failed-trials = walked-plain _ _ _ _ _ _ refl 6
 
 -- and another such
 pub more-failed-trials : walked (formula-bytes 4 ((on 3 ∷ on 4 ∷ []) ∷ (on 2 ∷ off 3 ∷ off 4 ∷ []) ∷ (on 1 ∷ on 2 ∷ []) ∷ (off 2 ∷ off 3 ∷ []) ∷ [])) 5
@@ -112,7 +141,7 @@ pub more-failed-trials : walked (formula-bytes 4 ((on 3 ∷ on 4 ∷ []) ∷ (on
     ∷ end-at 4 0
     ∷ []
 unfolding walking
-more-failed-trials = walked-plain _ _ _ _ refl 5
+more-failed-trials = walked-plain _ _ _ _ _ _ refl 5
 
 -- S12.1: refusals as they are printed: the empty input, `refused 2 0`
 pub no-bytes-printed : printed [] ≡ refused-word ++ (blank ∷ 50 ∷ blank ∷ 48 ∷ line-feed ∷ [])

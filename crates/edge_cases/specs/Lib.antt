@@ -1,2 +1,3 @@
+pub mod AssumedCases
 pub mod MarkedCases
 pub mod TextCases

@@ -1,6 +1,6 @@
 -- The cases at the edges, as one table: each from the bytes of an input, which are written out or are those of the clauses. In the
 -- comments a variable is its number from 1, and ¬ stands before it where it is named as false.
-use Prim.Native.Nat.{ℕ, _+_, _-_, _*_, _≤_}
+use Prim.Native.Nat.{ℕ, _+_, _-_, _*_, _≤_, _<_}
 use mathlib.Core.Bool.{true, false}
 use mathlib.Core.List.{List, [], _∷_, _++_, map}
 use mathlib.Core.Path.{_≡_}
@@ -11,8 +11,12 @@ use Rattle.formula.specs.InnerDecode.{decode}
 use Rattle.formula.specs.Decoding.{Decoding, readable, refused}
 use Rattle.formula.specs.Format.{Literal, formula-bytes, Encodes}
 use Rattle.formula.specs.Refusals.{TableRow, table-row}
+use Rattle.assumptions.specs.declared.Assumption.{Assumption}
+use Rattle.assumptions.specs.Assumed.{literal-of}
+use Rattle.assumptions.specs.FirstBad.{NoneBad}
 use Rattle.matched.specs.Judge.{accepted-values, judge}
 use Rattle.matched.specs.Pairing.{Pairs}
+use Rattle.splitting.specs.Nodes.{remaining}
 use Rattle.walk.specs.Gaps.{ample-budget}
 use Rattle.walk.specs.Checkpoints.{start}
 use Rattle.walk.specs.PlainMachine.{spent}
@@ -50,9 +54,13 @@ model-at ds steps expansions = record { kind = says-model; model = digits-assign
 abbrev pub end-at : ℕ → ℕ → Line
 end-at steps expansions = record { kind = says-ended; model = 0; steps = steps; expansions = expansions }
 
--- the lines of the first k walk calls on an input: from the start, on an ample budget, which brings a model or the end
+-- the lines of the first k walk calls on an input under assumptions: from the start, on an ample budget, which brings a model or the end
+abbrev pub walked-under : List ℕ → List Assumption → ℕ → List Line
+walked-under s us k = map line (walk-calls s us start (replicate k ample-budget))
+
+-- and with nothing assumed
 abbrev pub walked : List ℕ → ℕ → List Line
-walked s k = map line (walk-calls s start (replicate k ample-budget))
+walked s k = walked-under s [] k
 
 -- the number and the place of the refusal that reading gives, zeros if it gives none
 abbrev pub refusal-of : Decoding → TableRow
@@ -63,10 +71,13 @@ abbrev pub number-at : ℕ → ℕ → TableRow
 number-at k p = record { number = k; place = p }
 
 -- S5.7: judge refuses by 10 with this place, and writes these marks into a buffer that is not short
-abbrev pub UnmatchedAt : List ℕ → ℕ → List ℕ → Type 0
-UnmatchedAt s p marks =
+abbrev pub UnmatchedUnder : List ℕ → List Assumption → ℕ → List ℕ → Type 0
+UnmatchedUnder s us p marks =
     (b : List ℕ) → max-clauses ≤ length b
-    → judge s b ≡ record { answer = record { number = 10; place = p; variables = 0; clauses = 0 }; buffer = marks ++ drop (length marks) b }
+    → judge s us b ≡ record { answer = record { number = 10; place = p; variables = 0; clauses = 0 }; buffer = marks ++ drop (length marks) b }
+
+abbrev pub UnmatchedAt : List ℕ → ℕ → List ℕ → Type 0
+UnmatchedAt s p marks = UnmatchedUnder s [] p marks
 
 -- S12.3: the example: 2 variables, clauses (1, 2) and (¬1, ¬2)
 abbrev pub example : List ℕ
@@ -76,7 +87,7 @@ example = 1 ∷ 2 ∷ 2 ∷ 1 ∷ 2 ∷ 2 ∷ 4 ∷ 3 ∷ 1 ∷ 3 ∷ 2 ∷ 4 �
 
 pub record MarkedCases : Type 0 where
   -- the example is matched: the buffer begins with the variables 1 and 2
-  pub example-matching : (b : List ℕ) → max-clauses ≤ length b → judge example b ≡ record { answer = accepted-values 2 2; buffer = 1 ∷ 2 ∷ drop 2 b }
+  pub example-matching : (b : List ℕ) → max-clauses ≤ length b → judge example [] b ≡ record { answer = accepted-values 2 2; buffer = 1 ∷ 2 ∷ drop 2 b }
   -- S12.3: it is printed as `switches 2 rules 2`, `01 2 2`, `10 4 0`, `end 2 0`
   pub example-printed : printed example
       ≡ (switches-word ++ (blank ∷ 50 ∷ blank ∷ [])) ++ (rules-word ++ (blank ∷ 50 ∷ line-feed ∷ []))
@@ -110,6 +121,7 @@ pub record MarkedCases : Type 0 where
   pub clause-not-ended : refusal-of (decode (1 ∷ 1 ∷ 2 ∷ 1 ∷ 5 ∷ [])) ≡ number-at 4 4
   -- a byte behind kind 5: 9 at offset 3
   pub tail-byte : refusal-of (decode (1 ∷ 1 ∷ 5 ∷ 0 ∷ [])) ≡ number-at 9 3
-  -- S8.2: an accepted formula, from the start checkpoint, on budget 0: spent, with no step made and the checkpoint unchanged
-  pub start-zero : (s : List ℕ) (n : ℕ) (cs : List (List Literal)) → Encodes s n cs → (vs : List ℕ) → Pairs cs vs
-      → walk-call s start 0 ≡ answered spent 0 0 start
+  -- S8.2: an accepted formula with a variable that is not assumed, from the start checkpoint, on budget 0: spent, with no step made and
+  -- the checkpoint unchanged
+  pub start-zero : (s : List ℕ) (us : List Assumption) (n : ℕ) (cs : List (List Literal)) → Encodes s n cs → NoneBad n us
+      → (vs : List ℕ) → Pairs (remaining (map literal-of us) cs) vs → length us < n → walk-call s us start 0 ≡ answered spent 0 0 start
