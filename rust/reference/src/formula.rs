@@ -11,9 +11,9 @@ pub const MAX_CLAUSES: usize = 96;
 /// A refusal: its number and place in the table of S3.1.
 #[derive(Clone, Copy, Debug, PartialEq, Eq)]
 pub struct Refusal {
-    /// 1 to 15.
+    /// 1 to 16.
     pub number: u8,
-    /// An offset in the input or the text, or at 10 the number of the violator's clauses.
+    /// An offset in the input or the text, at 10 the number of the violator's clauses, or at 16 the index of the assumption.
     pub place: usize,
 }
 
@@ -44,6 +44,17 @@ impl Clause {
     #[inline]
     pub fn holds(&self, assignment: u64) -> bool {
         self.positive & assignment | self.negative & !assignment != 0
+    }
+
+    /// What remains of the clause where these variables are assigned: nothing if a literal of theirs is true, and else the literals
+    /// of the others.
+    #[inline]
+    pub fn remaining(&self, assigned: u64, assignment: u64) -> Option<Clause> {
+        let (are_true, are_false) = (assigned & assignment, assigned & !assignment);
+        (self.positive & are_true | self.negative & are_false == 0).then_some(Clause {
+            positive: self.positive & !assigned,
+            negative: self.negative & !assigned,
+        })
     }
 }
 

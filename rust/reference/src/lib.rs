@@ -5,12 +5,14 @@
 //! nothing is carried from one choice to the next, so that each function can be read beside its section (S-numbers).
 //!
 //! The acts are [`check`], [`judge`], [`start_checkpoint`], [`walk`] and [`list`], and between DIMACS CNF text and encoded formulas
-//! [`from_dimacs`] and [`to_dimacs`]; [`print()`] writes the printed walk. Variables count from 0 in the code, so that variable v is
-//! bit v of a mask; in bytes and in texts they count from 1 (switch s is variable s - 1).
+//! [`from_dimacs`] and [`to_dimacs`]; [`print()`] writes the printed walk. Judge, walk and list also take assumptions. Variables count
+//! from 0 in the code, so that variable v is bit v of a mask; in bytes, texts and assumptions they count from 1 (switch s is variable
+//! s - 1).
 
 #![forbid(unsafe_code)]
 #![deny(missing_docs)]
 
+mod assumptions;
 pub mod bits;
 mod choice;
 mod dimacs;
@@ -19,6 +21,7 @@ mod matching;
 mod printing;
 mod walking;
 
+pub use assumptions::{assume, Assumed, Assumption};
 pub use dimacs::{from_dimacs, read_text, to_dimacs, write_text, FORMULA_BUFFER, TEXT_BUFFER};
 pub use formula::{check, decode, Clause, Formula, Refusal, MAX_CLAUSES, MAX_VARIABLES};
 pub use matching::{judge, judge_with, Size};

@@ -20,7 +20,7 @@ pub fn print(input: &[u8]) -> String {
 
 fn print_models(input: &[u8]) -> Result<String, Refusal> {
     let formula = decode(input)?;
-    let mut walker = Walker::start(&formula)?;
+    let mut walker = Walker::start(&formula, &[])?;
     let variables = formula.variables();
     let mut text = format!("switches {} rules {}\n", variables, formula.clauses().len());
     for _ in 0..MOST_MODELS {

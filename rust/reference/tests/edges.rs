@@ -20,7 +20,7 @@ fn the_example_is_matched_and_printed() {
         variables: 2,
         clauses: 2,
     };
-    assert_eq!(judge(EXAMPLE, &mut buffer), Ok(size));
+    assert_eq!(judge(EXAMPLE, &[], &mut buffer), Ok(size));
     assert_eq!(buffer[..3], [1, 2, 170]);
     assert!(buffer[3..].iter().all(|byte| *byte == 170));
     assert_eq!(
@@ -57,8 +57,8 @@ fn refusals_of_reading() {
     for (input, expected) in cases {
         assert_eq!(decode(input).unwrap_err(), expected, "{input:?}");
         assert_eq!(check(input, !0), Err(expected), "{input:?}");
-        assert_eq!(judge(input, &mut [0; 96]), Err(expected), "{input:?}");
-        let walked = walk(input, &[9; 50], 1);
+        assert_eq!(judge(input, &[], &mut [0; 96]), Err(expected), "{input:?}");
+        let walked = walk(input, &[], &[9; 50], 1);
         assert_eq!(walked, Err(expected), "{input:?}");
     }
     assert_eq!(decode(&[1, 0x30, 5]).unwrap().variables(), 48);
@@ -84,7 +84,7 @@ fn a_literal_counts_once() {
     }
     // In two clauses it counts in both.
     assert_eq!(
-        judge(&encode(1, &[vec![1, 1], vec![1]]), &mut [0; 96]),
+        judge(&encode(1, &[vec![1, 1], vec![1]]), &[], &mut [0; 96]),
         Err(refusal(10, 2))
     );
 }
@@ -145,13 +145,13 @@ fn print_takes_16_384_bytes_as_the_whole() {
 #[test]
 fn unmatched_formulas_have_a_violator() {
     let mut buffer = [170; 96];
-    assert_eq!(judge(&[1, 1, 4, 5], &mut buffer), Err(refusal(10, 1)));
+    assert_eq!(judge(&[1, 1, 4, 5], &[], &mut buffer), Err(refusal(10, 1)));
     assert_eq!(buffer[..2], [1, 170]);
     let both = encode(1, &[vec![1], vec![-1]]);
-    assert_eq!(judge(&both, &mut buffer), Err(refusal(10, 2)));
+    assert_eq!(judge(&both, &[], &mut buffer), Err(refusal(10, 2)));
     assert_eq!(buffer[..3], [1, 1, 170]);
     // The checkpoint is tested after the matching.
-    assert_eq!(walk(&both, &[9; 50], 0), Err(refusal(10, 2)));
+    assert_eq!(walk(&both, &[], &[9; 50], 0), Err(refusal(10, 2)));
     assert_eq!(check(&both, 1), Ok(false));
 }
 
@@ -167,11 +167,11 @@ fn ninety_six_clauses_and_one_more() {
 #[test]
 fn buffers_of_95_and_96_bytes() {
     let mut buffer = [170; 95];
-    assert_eq!(judge(EXAMPLE, &mut buffer), Err(refusal(1, 0)));
+    assert_eq!(judge(EXAMPLE, &[], &mut buffer), Err(refusal(1, 0)));
     // A short buffer is refused before anything is read.
-    assert_eq!(judge(&[], &mut buffer), Err(refusal(1, 0)));
+    assert_eq!(judge(&[], &[], &mut buffer), Err(refusal(1, 0)));
     assert_eq!(buffer, [170; 95]);
-    assert!(judge(EXAMPLE, &mut [0; 96]).is_ok());
+    assert!(judge(EXAMPLE, &[], &mut [0; 96]).is_ok());
 }
 
 #[test]
@@ -182,7 +182,7 @@ fn stray_variables() {
 
 #[test]
 fn budget_zero_from_the_start_is_spent() {
-    let walked = walk(EXAMPLE, &start_checkpoint(), 0).unwrap();
+    let walked = walk(EXAMPLE, &[], &start_checkpoint(), 0).unwrap();
     assert_eq!(walked.progress.answer, Answer::Spent);
     assert_eq!((walked.progress.steps, walked.progress.expansions), (0, 0));
     assert_eq!(walked.checkpoint, start_checkpoint());
@@ -193,7 +193,7 @@ fn the_end_comes_with_the_last_undo() {
     let mut checkpoint = start_checkpoint();
     let mut seen = Vec::new();
     for _ in 0..9 {
-        let walked = walk(EXAMPLE, &checkpoint, 1).unwrap();
+        let walked = walk(EXAMPLE, &[], &checkpoint, 1).unwrap();
         checkpoint = walked.checkpoint;
         seen.push((walked.progress.answer, checkpoint[..4].to_vec()));
     }
@@ -209,7 +209,7 @@ fn the_end_comes_with_the_last_undo() {
         (Answer::Ended, vec![4, 0, 0, 0]),
     ];
     assert_eq!(seen, expected);
-    let again = walk(EXAMPLE, &checkpoint, 0).unwrap();
+    let again = walk(EXAMPLE, &[], &checkpoint, 0).unwrap();
     assert_eq!(again.progress.answer, Answer::Ended);
 }
 
@@ -217,7 +217,7 @@ fn the_end_comes_with_the_last_undo() {
 fn checkpoints_that_the_walk_never_has() {
     let mut last_byte = start_checkpoint();
     last_byte[49] = 1;
-    assert_eq!(walk(EXAMPLE, &last_byte, 5), Err(refusal(11, 0)));
+    assert_eq!(walk(EXAMPLE, &[], &last_byte, 5), Err(refusal(11, 0)));
     // By mode, length and the first two bytes of the trail.
     let cases: [[u8; 4]; 12] = [
         [0, 1, 1, 0],
@@ -237,7 +237,7 @@ fn checkpoints_that_the_walk_never_has() {
         let mut checkpoint = start_checkpoint();
         checkpoint[..4].copy_from_slice(&case);
         assert_eq!(
-            walk(EXAMPLE, &checkpoint, 5),
+            walk(EXAMPLE, &[], &checkpoint, 5),
             Err(refusal(11, 0)),
             "{case:?}"
         );
@@ -269,7 +269,7 @@ fn list_gives_every_model_once() {
     for input in formulas {
         let formula = decode(&input).unwrap();
         let mut models = [0; 64];
-        let listed = list(&input, &start_checkpoint(), &mut models).unwrap();
+        let listed = list(&input, &[], &start_checkpoint(), &mut models).unwrap();
         assert_eq!(listed.answer, Answer::Ended);
         let mut found = models[..listed.written].to_vec();
         found.sort();
@@ -283,12 +283,12 @@ fn list_gives_every_model_once() {
 
 #[test]
 fn an_empty_list_makes_no_step() {
-    let listed = list(EXAMPLE, &start_checkpoint(), &mut []).unwrap();
+    let listed = list(EXAMPLE, &[], &start_checkpoint(), &mut []).unwrap();
     assert_eq!((listed.answer, listed.written), (Answer::Spent, 0));
     assert_eq!(listed.checkpoint, start_checkpoint());
     let mut ended = start_checkpoint();
     ended[0] = 4;
-    let listed = list(EXAMPLE, &ended, &mut []).unwrap();
+    let listed = list(EXAMPLE, &[], &ended, &mut []).unwrap();
     assert_eq!((listed.answer, listed.written), (Answer::Ended, 0));
 }
 
@@ -300,12 +300,12 @@ fn a_walker_goes_on_where_its_checkpoint_says() {
         .collect();
     let input = encode(12, &clauses);
     let formula = decode(&input).unwrap();
-    let mut walker = Walker::start(&formula).unwrap();
+    let mut walker = Walker::start(&formula, &[]).unwrap();
     let mut expansions = 0;
     loop {
         let checkpoint = walker.checkpoint();
         let progress = walker.advance(LIST_BUDGET);
-        let walked = walk(&input, &checkpoint, LIST_BUDGET).unwrap();
+        let walked = walk(&input, &[], &checkpoint, LIST_BUDGET).unwrap();
         assert_eq!(walked.progress, progress);
         assert_eq!(walked.checkpoint, walker.checkpoint());
         expansions += progress.expansions;

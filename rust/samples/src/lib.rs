@@ -4,12 +4,14 @@
 #![forbid(unsafe_code)]
 #![deny(missing_docs)]
 
+mod assumptions;
 mod calls;
 mod formulas;
 mod inputs;
 mod random;
 mod texts;
 
+pub use assumptions::some_assumptions;
 pub use calls::{some_assignment, some_budget, some_checkpoint, some_length};
 pub use formulas::{encode, stairs, Clauses};
 pub use inputs::{some_input, some_matched_formula};

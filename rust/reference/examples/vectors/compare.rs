@@ -2,8 +2,8 @@
 
 use crate::values::{from_hex, number};
 use norwythai_reference::{
-    check, from_dimacs, judge, list, print, start_checkpoint, to_dimacs, walk, Answer, Checkpoint,
-    Refusal, Walked, CHECKPOINT_LENGTH,
+    check, from_dimacs, judge, list, print, start_checkpoint, to_dimacs, walk, Answer, Assumption,
+    Checkpoint, Refusal, Walked, CHECKPOINT_LENGTH, LIST_BUDGET,
 };
 use std::collections::BTreeMap;
 
@@ -54,20 +54,56 @@ fn mask(text: &str) -> Result<u64, String> {
     u64::from_str_radix(text, 16).map_err(|_| format!("not hexadecimal: {text}"))
 }
 
+/// The items of an array without arrays in it; strings without their quotes.
+fn items<const COUNT: usize>(text: &str) -> Result<[&str; COUNT], String> {
+    let inside = text.trim_matches(['[', ']']);
+    let items: Vec<&str> = inside
+        .split(',')
+        .map(|item| item.trim().trim_matches('"'))
+        .collect();
+    items
+        .try_into()
+        .map_err(|_| format!("not {COUNT} items: {text}"))
+}
+
+/// The items of each array in the array of a field.
+fn rows<'a, const COUNT: usize>(
+    line: &'a str,
+    name: &str,
+) -> Result<Vec<[&'a str; COUNT]>, String> {
+    let array = field(line, name)?;
+    let parts = array[1..].split('[').skip(1);
+    parts
+        .map(|part| items(part.split(']').next().unwrap_or("")))
+        .collect()
+}
+
 /// The expected refusal, if any: null or [number, place].
 fn refusal_of(line: &str) -> Result<Option<Refusal>, String> {
     let text = field(line, "refusal")?;
     if text == "null" {
         return Ok(None);
     }
-    let (first, second) = text
-        .trim_matches(['[', ']'])
-        .split_once(',')
-        .ok_or(format!("not a refusal: {text}"))?;
+    let [first, second] = items(text)?;
     Ok(Some(Refusal {
         number: number(first)?,
         place: number(second)?,
     }))
+}
+
+/// The assumptions that are given: a list of [variable, value].
+fn assumptions_of(line: &str) -> Result<Vec<Assumption>, String> {
+    let assumption = |[variable, value]: [&str; 2]| {
+        Ok(Assumption {
+            variable: number(variable)?,
+            value: match value {
+                "0" => false,
+                "1" => true,
+                _ => return Err(format!("not a value: {value}")),
+            },
+        })
+    };
+    rows(line, "fixings")?.into_iter().map(assumption).collect()
 }
 
 fn compare<T: PartialEq + std::fmt::Debug>(what: &str, found: T, expected: T) -> Compared {
@@ -98,7 +134,8 @@ fn compare_judge(line: &str) -> Compared {
     let length: usize = number(field(line, "slate_len")?)?;
     let fill: u8 = number(field(line, "slate_fill")?)?;
     let mut buffer = vec![fill; length];
-    let found = judge(&input, &mut buffer).map(|size| (size.variables, size.clauses));
+    let found = judge(&input, &assumptions_of(line)?, &mut buffer)
+        .map(|size| (size.variables, size.clauses));
     let expected = match refusal_of(line)? {
         Some(refusal) => Err(refusal),
         None => Ok((number(field(line, "n")?)?, number(field(line, "m")?)?)),
@@ -132,8 +169,10 @@ fn parts(walked: Walked) -> Parts {
 
 fn compare_walk(line: &str) -> Compared {
     let input = hex_field(line, "sheet")?;
+    let assumptions = assumptions_of(line)?;
     let given = checkpoint_of(field(line, "marker")?)?;
-    let found = walk(&input, &given, number(field(line, "budget")?)?).map(parts);
+    let budget = number(field(line, "budget")?)?;
+    let found = walk(&input, &assumptions, &given, budget).map(parts);
     let returned = checkpoint_of(field(line, "marker_out")?)?;
     let expected = match refusal_of(line)? {
         Some(refusal) => {
@@ -150,36 +189,56 @@ fn compare_walk(line: &str) -> Compared {
     compare("answer", found, expected)
 }
 
+fn unexpected(refusal: Refusal) -> String {
+    format!("unexpected: {refusal:?}")
+}
+
 fn compare_chain(line: &str) -> Compared {
     let input = hex_field(line, "sheet")?;
+    let assumptions = assumptions_of(line)?;
     let mut checkpoint = start_checkpoint();
-    let calls = field(line, "calls")?;
-    for call in calls[1..].split('[').skip(1) {
-        let call = call.split(']').next().unwrap_or("");
-        let items: Vec<&str> = call
-            .split(',')
-            .map(|i| i.trim().trim_matches('"'))
-            .collect();
-        let [budget, word, model, returned, steps, expansions] = items[..] else {
-            return Err(format!("not a call: {call}"));
-        };
+    for [budget, word, model, returned, steps, expansions] in rows(line, "calls")? {
         let expected: Parts = (
             answer_of(word, model)?,
             number(steps)?,
             number(expansions)?,
             checkpoint_of(returned)?,
         );
-        let found = walk(&input, &checkpoint, number(budget)?).map(parts);
+        let found = walk(&input, &assumptions, &checkpoint, number(budget)?).map(parts);
         compare("call", found, Ok(expected))?;
         checkpoint = expected.3;
     }
-    compare_list(&input)
+    compare_list(&input, &assumptions)
+}
+
+/// A whole walk by calls of an ample budget: each brings a model, and the last one the end.
+fn compare_listing(line: &str) -> Compared {
+    let input = hex_field(line, "sheet")?;
+    let assumptions = assumptions_of(line)?;
+    let mut expected = Vec::new();
+    for [model, steps, expansions] in rows(line, "setups")? {
+        expected.push((
+            Answer::Model(mask(model)?),
+            number(steps)?,
+            number(expansions)?,
+        ));
+    }
+    let [steps, expansions] = items(field(line, "end")?)?;
+    expected.push((Answer::Ended, number(steps)?, number(expansions)?));
+    let mut checkpoint = start_checkpoint();
+    for expected in expected {
+        let walked = walk(&input, &assumptions, &checkpoint, LIST_BUDGET).map_err(unexpected)?;
+        let (answer, steps, expansions, returned) = parts(walked);
+        compare("call", (answer, steps, expansions), expected)?;
+        checkpoint = returned;
+    }
+    compare_list(&input, &assumptions)
 }
 
 /// list, with no vectors of its own, against walk calls of the same budget.
-fn compare_list(input: &[u8]) -> Compared {
+fn compare_list(input: &[u8], assumptions: &[Assumption]) -> Compared {
     let mut models = [0; 20];
-    let found = list(input, &start_checkpoint(), &mut models).map_err(|r| format!("{r:?}"))?;
+    let found = list(input, assumptions, &start_checkpoint(), &mut models).map_err(unexpected)?;
     let mut checkpoint = start_checkpoint();
     for i in 0..=found.written {
         let expected = if i < found.written {
@@ -189,7 +248,7 @@ fn compare_list(input: &[u8]) -> Compared {
         } else {
             break;
         };
-        let walked = walk(input, &checkpoint, 96).map_err(|r| format!("{r:?}"))?;
+        let walked = walk(input, assumptions, &checkpoint, LIST_BUDGET).map_err(unexpected)?;
         compare("list", walked.progress.answer, expected)?;
         checkpoint = walked.checkpoint;
     }
@@ -239,6 +298,7 @@ pub fn compare_line(line: &str) -> Compared {
         "judge" => compare_judge(line),
         "walk" => compare_walk(line),
         "chain" => compare_chain(line),
+        "listing" => compare_listing(line),
         "printed" => compare_printed(line),
         "read_text" => compare_conversion(line, "text", from_dimacs),
         "write_text" => compare_conversion(line, "sheet", to_dimacs),

@@ -2,17 +2,22 @@
 
 use crate::values::to_hex;
 use norwythai_reference::{
-    check, from_dimacs, judge, print, start_checkpoint, to_dimacs, walk, write_text, Answer,
-    Checkpoint, Refusal, FORMULA_BUFFER, LIST_BUDGET, TEXT_BUFFER,
+    check, decode, from_dimacs, judge, print, start_checkpoint, to_dimacs, walk, write_text,
+    Answer, Assumption, Checkpoint, Progress, Refusal, Walker, FORMULA_BUFFER, LIST_BUDGET,
+    TEXT_BUFFER,
 };
 use norwythai_samples::{
-    some_assignment, some_budget, some_checkpoint, some_input, some_length, some_text, Random,
+    some_assignment, some_assumptions, some_budget, some_checkpoint, some_input, some_length,
+    some_text, Random,
 };
 
 /// A longer input or printed walk takes much of a file of the corpus. Such an input is given to fewer calls, and such a walk is
 /// written only for one input of so many, which is no long one itself.
 const LONG: usize = 5_000;
 const ONE_LONG_OF: usize = 16;
+
+/// A listing of more models is not written.
+const MOST_LISTED: usize = 32;
 
 /// A line of an act, with the fields that follow.
 fn line(act: &str, from: &str, fields: &str) -> String {
@@ -46,14 +51,33 @@ fn check_line(from: &str, input: &[u8], assignment: u64) -> String {
     line("check", from, &fields)
 }
 
-fn judge_line(from: &str, input: &[u8], length: usize, fill: u8) -> String {
+/// The first fields of an act on a formula with assumptions.
+fn given_text(input: &[u8], assumptions: &[Assumption]) -> String {
+    let pairs: Vec<String> = assumptions
+        .iter()
+        .map(|assumption| format!("[{}, {}]", assumption.variable, u8::from(assumption.value)))
+        .collect();
+    format!(
+        "\"sheet\": \"{}\", \"fixings\": [{}]",
+        to_hex(input),
+        pairs.join(", ")
+    )
+}
+
+fn judge_line(
+    from: &str,
+    input: &[u8],
+    assumptions: &[Assumption],
+    length: usize,
+    fill: u8,
+) -> String {
     let mut buffer = vec![fill; length];
-    let found = judge(input, &mut buffer);
+    let found = judge(input, assumptions, &mut buffer);
     let (n, m) = found.map_or((0, 0), |size| (size.variables, size.clauses));
     let fields = format!(
-        "\"sheet\": \"{}\", \"slate_len\": {length}, \"slate_fill\": {fill}, \"refusal\": {}, \"n\": {n}, \"m\": {m}, \
+        "{}, \"slate_len\": {length}, \"slate_fill\": {fill}, \"refusal\": {}, \"n\": {n}, \"m\": {m}, \
          \"slate\": \"{}\"",
-        to_hex(input),
+        given_text(input, assumptions),
         refusal_text(found.err()),
         to_hex(&buffer),
     );
@@ -69,8 +93,14 @@ fn answer_parts(answer: Answer) -> (&'static str, u64) {
     }
 }
 
-fn walk_line(from: &str, input: &[u8], given: &Checkpoint, budget: u32) -> String {
-    let found = walk(input, given, budget);
+fn walk_line(
+    from: &str,
+    input: &[u8],
+    assumptions: &[Assumption],
+    given: &Checkpoint,
+    budget: u32,
+) -> String {
+    let found = walk(input, assumptions, given, budget);
     let ((answer, model), returned, steps, expansions) = match &found {
         Ok(walked) => (
             answer_parts(walked.progress.answer),
@@ -81,9 +111,9 @@ fn walk_line(from: &str, input: &[u8], given: &Checkpoint, budget: u32) -> Strin
         Err(_) => (("refused", 0), given, 0, 0),
     };
     let fields = format!(
-        "\"sheet\": \"{}\", \"marker\": \"{}\", \"budget\": {budget}, \"answer\": \"{answer}\", \"refusal\": {}, \
+        "{}, \"marker\": \"{}\", \"budget\": {budget}, \"answer\": \"{answer}\", \"refusal\": {}, \
          \"setup\": \"{model:016x}\", \"marker_out\": \"{}\", \"moves\": {steps}, \"reaches\": {expansions}",
-        to_hex(input),
+        given_text(input, assumptions),
         to_hex(given),
         refusal_text(found.err()),
         to_hex(returned),
@@ -91,13 +121,19 @@ fn walk_line(from: &str, input: &[u8], given: &Checkpoint, budget: u32) -> Strin
     line("walk", from, &fields)
 }
 
-/// Calls with these budgets, one after the other from the start, on a matched formula: the line, and all checkpoints.
-fn chain_line(from: &str, input: &[u8], budgets: &[u32]) -> (String, Vec<Checkpoint>) {
+/// Calls with these budgets, one after the other from the start, on a formula that is matched under the assumptions: the line, and
+/// all checkpoints.
+fn chain_line(
+    from: &str,
+    input: &[u8],
+    assumptions: &[Assumption],
+    budgets: &[u32],
+) -> (String, Vec<Checkpoint>) {
     let mut checkpoints = vec![start_checkpoint()];
     let mut calls = Vec::new();
     for budget in budgets {
         let given = checkpoints[checkpoints.len() - 1];
-        let walked = walk(input, &given, *budget).expect("a checkpoint of this walk");
+        let walked = walk(input, assumptions, &given, *budget).expect("a checkpoint of this walk");
         let (answer, model) = answer_parts(walked.progress.answer);
         calls.push(format!(
             "[{budget}, \"{answer}\", \"{model:016x}\", \"{}\", {}, {}]",
@@ -108,11 +144,37 @@ fn chain_line(from: &str, input: &[u8], budgets: &[u32]) -> (String, Vec<Checkpo
         checkpoints.push(walked.checkpoint);
     }
     let fields = format!(
-        "\"sheet\": \"{}\", \"calls\": [{}]",
-        to_hex(input),
+        "{}, \"calls\": [{}]",
+        given_text(input, assumptions),
         calls.join(", ")
     );
     (line("chain", from, &fields), checkpoints)
+}
+
+/// The whole walk of a formula that is matched under the assumptions, if it has few models.
+fn listing_line(from: &str, input: &[u8], assumptions: &[Assumption]) -> Option<String> {
+    let formula = decode(input).ok()?;
+    let mut walker = Walker::start(&formula, assumptions).ok()?;
+    let mut models = Vec::new();
+    loop {
+        let Progress {
+            answer,
+            steps,
+            expansions,
+        } = walker.advance(LIST_BUDGET);
+        let Answer::Model(model) = answer else {
+            let fields = format!(
+                "{}, \"setups\": [{}], \"end\": [{steps}, {expansions}]",
+                given_text(input, assumptions),
+                models.join(", ")
+            );
+            return Some(line("listing", from, &fields));
+        };
+        if models.len() == MOST_LISTED {
+            return None;
+        }
+        models.push(format!("[\"{model:016x}\", {steps}, {expansions}]"));
+    }
 }
 
 fn printed_line(from: &str, input: &[u8], text: &str) -> String {
@@ -172,43 +234,64 @@ impl Conversion {
 }
 
 fn is_matched(input: &[u8]) -> bool {
-    judge(input, &mut [0; 96]).is_ok()
+    judge(input, &[], &mut [0; 96]).is_ok()
+}
+
+/// The vectors of one input under a list of assumptions. The walks are given checkpoints of their own chain and of those before it,
+/// which are made under another list; then they are known, too.
+fn assuming_lines(
+    from: &str,
+    random: &mut Random,
+    input: &[u8],
+    assumptions: &[Assumption],
+    known: &mut Vec<Checkpoint>,
+) -> Vec<String> {
+    let mut lines = Vec::new();
+    let calls = if input.len() > LONG { 1 } else { 3 };
+    if judge(input, assumptions, &mut [0; 96]).is_ok() {
+        let budgets: Vec<u32> = (0..random.below(3 * calls))
+            .map(|_| some_budget(random))
+            .collect();
+        let (chain, checkpoints) = chain_line(from, input, assumptions, &budgets);
+        lines.push(chain);
+        known.extend(checkpoints);
+        lines.extend(listing_line(from, input, assumptions));
+        let first = walk(input, assumptions, &start_checkpoint(), LIST_BUDGET);
+        let first = first.expect("a matched formula").progress.answer;
+        lines.push(check_line(from, input, answer_parts(first).1));
+    }
+    let length = random.pick(&[0, 95, 96, 96, 96, 96, 97, 128, 255]);
+    lines.push(judge_line(from, input, assumptions, length, random.byte()));
+    for call in 0..=calls {
+        let given = if call == 0 {
+            start_checkpoint()
+        } else {
+            some_checkpoint(random, known)
+        };
+        let budget = some_budget(random);
+        lines.push(walk_line(from, input, assumptions, &given, budget));
+    }
+    lines
 }
 
 /// The vectors of one input, but for the printed walk.
 fn act_lines(from: &str, random: &mut Random, input: &[u8]) -> Vec<String> {
     let mut lines = Vec::new();
     let mut known = Vec::new();
-    let calls = if input.len() > LONG { 1 } else { 4 };
-    if is_matched(input) {
-        let budgets: Vec<u32> = (0..random.below(3 * calls))
-            .map(|_| some_budget(random))
-            .collect();
-        let (chain, checkpoints) = chain_line(from, input, &budgets);
-        lines.push(chain);
-        known = checkpoints;
-        let first = walk(input, &start_checkpoint(), LIST_BUDGET).expect("a matched formula");
-        lines.push(check_line(
+    lines.extend(assuming_lines(from, random, input, &[], &mut known));
+    for _ in 0..random.between(1, 2) {
+        let assumptions = some_assumptions(random, input);
+        let assumptions: Vec<Assumption> = assumptions.into_iter().map(Into::into).collect();
+        lines.extend(assuming_lines(
             from,
+            random,
             input,
-            answer_parts(first.progress.answer).1,
+            &assumptions,
+            &mut known,
         ));
     }
-    for _ in 0..calls {
+    for _ in 0..if input.len() > LONG { 1 } else { 3 } {
         lines.push(check_line(from, input, some_assignment(random, input)));
-    }
-    lines.push(judge_line(from, input, 96, random.byte()));
-    let length = random.pick(&[0, 95, 96, 97, 128, 255]);
-    lines.push(judge_line(from, input, length, random.byte()));
-    lines.push(walk_line(
-        from,
-        input,
-        &start_checkpoint(),
-        some_budget(random),
-    ));
-    for _ in 0..calls {
-        let given = some_checkpoint(random, &known);
-        lines.push(walk_line(from, input, &given, some_budget(random)));
     }
     lines.push(WRITE_TEXT.some_line(from, random, input));
     if let Ok(text) = write_text(input) {
@@ -270,10 +353,10 @@ mod tests {
             "{\"act\": \"check\", \"from\": \"edge\", \"sheet\": \"010205\", \"setup\": \"0000000000000004\", \
              \"refusal\": [12, 0], \"answer\": \"refused\"}"
         );
-        let judged = judge_line("edge", EXAMPLE, 97, 170);
+        let judged = judge_line("edge", EXAMPLE, &[], 97, 170);
         let slate = format!("\"slate\": \"0102{}\"", "aa".repeat(95));
         assert!(judged.contains("\"n\": 2, \"m\": 2") && judged.contains(&slate));
-        let (chain, checkpoints) = chain_line("edge", EXAMPLE, &[1, 96]);
+        let (chain, checkpoints) = chain_line("edge", EXAMPLE, &[], &[1, 96]);
         let second = format!(
             "[96, \"set-up\", \"0000000000000002\", \"01020182{}\", 1, 0]",
             "00".repeat(46)
@@ -285,6 +368,21 @@ mod tests {
             "{\"act\": \"printed\", \"from\": \"edge\", \"stdin\": \"01020201020204030103020405\", \
              \"stdout\": \"switches 2 rules 2\\n01 2 2\\n10 4 0\\nend 2 0\\n\"}"
         );
+    }
+
+    #[test]
+    fn lines_with_assumptions() {
+        let first = [Assumption::from((1, true))];
+        let judged = judge_line("edge", EXAMPLE, &first, 96, 170);
+        assert!(judged.contains("0405\", \"fixings\": [[1, 1]], \"slate_len\": 96"));
+        let slate = format!("\"slate\": \"0002{}\"", "aa".repeat(94));
+        assert!(judged.contains("\"n\": 2, \"m\": 2") && judged.contains(&slate));
+        assert_eq!(
+            listing_line("edge", EXAMPLE, &first).unwrap(),
+            "{\"act\": \"listing\", \"from\": \"edge\", \"sheet\": \"01020201020204030103020405\", \
+             \"fixings\": [[1, 1]], \"setups\": [[\"0000000000000001\", 1, 0]], \"end\": [1, 0]}"
+        );
+        assert_eq!(listing_line("edge", &[1, 6, 5], &[]), None);
     }
 
     #[test]
@@ -306,7 +404,7 @@ mod tests {
         let mut foreign = start_checkpoint();
         foreign[0] = 9;
         let text = to_hex(&foreign);
-        let line = walk_line("edge", EXAMPLE, &foreign, 7);
+        let line = walk_line("edge", EXAMPLE, &[], &foreign, 7);
         assert!(line.contains(&format!(
             "\"marker\": \"{text}\", \"budget\": 7, \"answer\": \"refused\", \"refusal\": [11, 0], \
              \"setup\": \"0000000000000000\", \"marker_out\": \"{text}\", \"moves\": 0, \"reaches\": 0"
@@ -325,6 +423,7 @@ mod tests {
             "judge",
             "walk",
             "chain",
+            "listing",
             "printed",
             "read_text",
             "write_text",
@@ -335,11 +434,53 @@ mod tests {
     }
 
     #[test]
+    fn assumptions_of_all_kinds_are_written() {
+        let lines = generated_vectors(1, 300);
+        let count = |words: &[&str]| {
+            let has_all = |line: &&String| words.iter().all(|word| line.contains(word));
+            lines.iter().filter(has_all).count()
+        };
+        for act in ["judge", "walk"].map(|act| format!("\"act\": \"{act}\"")) {
+            for refusal in ["[2, ", "[10, ", "[16, 0]", "[16, 1]", "[16, 2]"] {
+                let refusal = format!("\"refusal\": {refusal}");
+                let seen = count(&[&act, "\"fixings\": [[", &refusal]);
+                assert!(seen > 0, "{act} {refusal}");
+            }
+        }
+        let walk = ["\"act\": \"walk\"", "\"fixings\": [["];
+        let wanted = [
+            // a foreign checkpoint, and a checkpoint from within the walk
+            [walk[0], walk[1], "\"refusal\": [11, "],
+            [walk[0], walk[1], "\"marker_out\": \"0201"],
+            // nothing is left to assign: the model, behind it, and a whole walk
+            [
+                walk[0],
+                "\"answer\": \"set-up\"",
+                "\"marker_out\": \"010000",
+            ],
+            [walk[0], "\"marker\": \"010000", "\"answer\": \"ended\""],
+            ["\"act\": \"listing\"", ", 0, 0]], ", "\"end\": [0, 0]"],
+        ];
+        for words in wanted {
+            assert!(count(&words) > 0, "{words:?}");
+        }
+    }
+
+    #[test]
     fn a_wrong_answer_is_found() {
         let right = check_line("edge", EXAMPLE, 2);
         assert!(compare_line(&right.replace("yes", "no")).is_err());
-        let right = walk_line("edge", EXAMPLE, &start_checkpoint(), 1);
+        let right = walk_line("edge", EXAMPLE, &[], &start_checkpoint(), 1);
         assert!(compare_line(&right.replace("\"moves\": 1", "\"moves\": 2")).is_err());
+        let right = listing_line("edge", EXAMPLE, &[]).unwrap();
+        assert_eq!(compare_line(&right), Ok(()));
+        for wrong in ["[[1, 1]]", "[[1, 2]]", "[[1, 0, 0]]"] {
+            assert!(
+                compare_line(&right.replace("[]", wrong)).is_err(),
+                "{wrong}"
+            );
+        }
+        assert!(compare_line(&right.replace("\"end\": [2, 0]", "\"end\": [1, 0]")).is_err());
         let right = READ_TEXT.line("edge", b"p cnf 2 0", 9_315, 0);
         assert_eq!(compare_line(&right), Ok(()));
         assert!(compare_line(&right.replace("010205", "010204")).is_err());

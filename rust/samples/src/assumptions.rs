@@ -1,0 +1,133 @@
+//! Lists of assumptions: good ones, of which many leave the formula matched, and bad ones.
+
+use crate::random::Random;
+
+/// A variable, by its number from 1, and its value.
+type Assumption = (u8, bool);
+
+/// The number of variables of an input, or one that a formula may have.
+fn variables_of(input: &[u8]) -> usize {
+    input.get(1).copied().unwrap_or(1).clamp(1, 48).into()
+}
+
+/// Values that make the clauses true, as far as that comes by chance: for each clause in turn that is not true by them, the value of
+/// one of its variables that has none.
+fn some_satisfying(random: &mut Random, input: &[u8]) -> Vec<Assumption> {
+    let mut values: Vec<Assumption> = Vec::new();
+    let mut clause: Vec<Assumption> = Vec::new();
+    let mut at = 2;
+    while let Some(kind @ 2..=4) = input.get(at) {
+        if *kind < 4 {
+            let variable = input.get(at + 1).copied().unwrap_or(0);
+            clause.push((variable, *kind == 2));
+            at += 2;
+            continue;
+        }
+        if !clause.iter().any(|literal| values.contains(literal)) {
+            clause.retain(|(variable, _)| values.iter().all(|(other, _)| other != variable));
+            if !clause.is_empty() {
+                values.push(random.pick(&clause));
+            }
+        }
+        clause.clear();
+        at += 1;
+    }
+    values
+}
+
+/// Assumptions of so many different variables of the input. Most lists make clauses true.
+fn some_good(random: &mut Random, input: &[u8], count: usize) -> Vec<Assumption> {
+    let values = if random.percent(75) {
+        some_satisfying(random, input)
+    } else {
+        Vec::new()
+    };
+    let numbers = random.some_of(count, variables_of(input));
+    numbers
+        .into_iter()
+        .map(|number| {
+            let by_chance = (number as u8, random.percent(50));
+            let found = values.iter().find(|(variable, _)| *variable == by_chance.0);
+            *found.unwrap_or(&by_chance)
+        })
+        .collect()
+}
+
+/// Puts a bad assumption at a random index: of no variable, or of one that stands before.
+fn put_bad(random: &mut Random, list: &mut Vec<Assumption>, variables: usize) {
+    let at = random.below(list.len() + 1);
+    let variable = match random.below(6) {
+        0 => 0,
+        1 => variables as u8 + 1,
+        2 => random.between(variables + 1, 255) as u8,
+        _ if at > 0 => list[random.below(at)].0,
+        _ => 0,
+    };
+    list.insert(at, (variable, random.percent(50)));
+}
+
+/// Assumptions of some, most or all variables, at times with bad ones among them.
+pub fn some_assumptions(random: &mut Random, input: &[u8]) -> Vec<Assumption> {
+    let variables = variables_of(input);
+    let count = match random.below(12) {
+        0..=5 => random.between(1, variables.min(4)),
+        6 | 7 => random.between(1, variables),
+        8 => variables - 1,
+        9 | 10 => variables,
+        _ => 0,
+    };
+    let mut list = some_good(random, input, count);
+    if random.percent(20) {
+        for _ in 0..random.between(1, 2) {
+            put_bad(random, &mut list, variables);
+        }
+        if random.percent(20) {
+            // More than there are variables.
+            let more = variables + random.pick(&[1, 10, 256]);
+            let last = list.len() - 1;
+            list.extend((0..more).map(|i| list[i.min(last)]).collect::<Vec<_>>());
+        }
+    }
+    list
+}
+
+#[cfg(test)]
+mod tests {
+    use super::*;
+    use crate::formulas::encode;
+
+    #[test]
+    fn values_that_make_clauses_true() {
+        let input = encode(3, &[vec![1], vec![-1, 2], vec![-2, -3], vec![-1]]);
+        let values = some_satisfying(&mut Random::new(1), &input);
+        assert_eq!(values, [(1, true), (2, true), (3, false)]);
+    }
+
+    #[test]
+    fn lists_of_all_kinds() {
+        let mut random = Random::new(1);
+        let input = encode(5, &[vec![1, 2], vec![-3, 4, 5]]);
+        let (mut whole, mut zero, mut above, mut again, mut turned, mut long) = (0, 0, 0, 0, 0, 0);
+        for _ in 0..1_000 {
+            let list = some_assumptions(&mut random, &input);
+            let bad = (0..list.len()).find(|i| {
+                let (variable, _) = list[*i];
+                let before = list[..*i].iter().any(|(other, _)| *other == variable);
+                !(1..=5).contains(&variable) || before
+            });
+            let Some(index) = bad else {
+                whole += usize::from(list.len() == 5);
+                continue;
+            };
+            let (variable, value) = list[index];
+            zero += usize::from(variable == 0);
+            above += usize::from(variable > 5);
+            again += usize::from(list[..index].contains(&(variable, value)));
+            turned += usize::from(list[..index].contains(&(variable, !value)));
+            long += usize::from(list.len() > 255);
+        }
+        for seen in [whole, zero, above, again, turned, long] {
+            assert!(seen >= 5, "{whole} {zero} {above} {again} {turned} {long}");
+        }
+    }
+}
