@@ -1,0 +1,349 @@
+//! Judge, walk and list under assumptions.
+
+use norwythai_reference::bits::{bit, numbers};
+use norwythai_reference::{
+    assume, check, decode, judge, list, start_checkpoint, walk, Answer, Assumption, Checkpoint,
+    Formula, Listed, Refusal, Size, Walker, LIST_BUDGET,
+};
+use norwythai_samples::{encode, some_assumptions, some_input, some_matched_formula, Random};
+
+/// The specification's example, S12.3: clauses (1, 2) and (not 1, not 2).
+const EXAMPLE: &[u8] = &[1, 2, 2, 1, 2, 2, 4, 3, 1, 3, 2, 4, 5];
+
+/// Assumptions as literals: a negative number assumes that the variable is false.
+fn assuming(literals: &[i8]) -> Vec<Assumption> {
+    let assumption = |literal: &i8| (literal.unsigned_abs(), *literal > 0).into();
+    literals.iter().map(assumption).collect()
+}
+
+fn refusal(number: u8, place: usize) -> Refusal {
+    Refusal { number, place }
+}
+
+/// A checkpoint by its mode, length and the first bytes of its trail.
+fn checkpoint(bytes: &[u8]) -> Checkpoint {
+    let mut checkpoint = start_checkpoint();
+    checkpoint[..bytes.len()].copy_from_slice(bytes);
+    checkpoint
+}
+
+fn is_matched(input: &[u8]) -> bool {
+    judge(input, &[], &mut [0; 96]).is_ok()
+}
+
+fn some_list(random: &mut Random, input: &[u8]) -> Vec<Assumption> {
+    let list = some_assumptions(random, input);
+    list.into_iter().map(Into::into).collect()
+}
+
+#[test]
+fn bad_assumptions_have_their_index() {
+    // By literals of the list; the number of variables is 2.
+    let cases: [(&[i8], usize); 9] = [
+        (&[0], 0),
+        (&[3], 0),
+        (&[-49], 0),
+        (&[1, 1], 1),
+        (&[1, -1], 1),
+        (&[2, -1, 0], 2),
+        (&[2, -1, -2], 2),
+        (&[-2, 3, 0, 0], 1),
+        (&[1; 127], 1),
+    ];
+    for (literals, place) in cases {
+        let list = assuming(literals);
+        let expected = refusal(16, place);
+        let mut buffer = [170; 97];
+        assert_eq!(
+            judge(EXAMPLE, &list, &mut buffer),
+            Err(expected),
+            "{literals:?}"
+        );
+        assert_eq!(buffer, [170; 97]);
+        // It is judged before the checkpoint, and before the matching.
+        assert_eq!(walk(EXAMPLE, &list, &[9; 50], 5), Err(expected));
+        assert_eq!(
+            list_of(EXAMPLE, &list, &[9; 50], 3),
+            (Err(expected), vec![7; 3])
+        );
+        let unmatched = encode(2, &[vec![], vec![1]]);
+        assert_eq!(judge(&unmatched, &list, &mut buffer), Err(expected));
+        assert_eq!(buffer, [170; 97]);
+        // It is judged after the buffer's length, and after reading.
+        assert_eq!(judge(EXAMPLE, &list, &mut [0; 95]), Err(refusal(1, 0)));
+        assert_eq!(judge(&[1, 2], &list, &mut [0; 96]), Err(refusal(2, 2)));
+        assert_eq!(
+            walk(&[1, 2, 5, 5], &list, &[9; 50], 5),
+            Err(refusal(9, 3)),
+            "{literals:?}"
+        );
+    }
+    let above = [Assumption::from((255, true))];
+    assert_eq!(
+        walk(&[1, 48, 5], &above, &start_checkpoint(), 1),
+        Err(refusal(16, 0))
+    );
+}
+
+/// A list call with room for so many models, and what is in the slice.
+fn list_of(
+    input: &[u8],
+    assumptions: &[Assumption],
+    from: &Checkpoint,
+    room: usize,
+) -> (Result<Listed, Refusal>, Vec<u64>) {
+    let mut models = vec![7; room];
+    let listed = list(input, assumptions, from, &mut models);
+    (listed, models)
+}
+
+#[test]
+fn what_remains_is_matched() {
+    let input = encode(3, &[vec![1, 2], vec![-1, 3], vec![2, -3], vec![1, 2, 3]]);
+    // More clauses than variables: only assumptions make it matched.
+    let size = Size {
+        variables: 3,
+        clauses: 4,
+    };
+    let unmatched = |clauses| Err(refusal(10, clauses));
+    let cases = [
+        (&[][..], unmatched(4), [1, 1, 1, 1]),
+        (&[1], Ok(size), [0, 3, 2, 0]),
+        (&[2, -1], Ok(size), [0, 0, 0, 0]),
+        // (2) (2, not 3) (2, 3)
+        (&[-1], unmatched(3), [1, 0, 1, 1]),
+        // The second clause is empty.
+        (&[-3, 1], unmatched(1), [0, 1, 0, 0]),
+        // (1) (not 1) (1), of which the second can't be matched.
+        (&[-3, -2], unmatched(2), [1, 1, 0, 0]),
+    ];
+    for (literals, expected, row) in cases {
+        let mut buffer = [170; 96];
+        let found = judge(&input, &assuming(literals), &mut buffer);
+        assert_eq!(found, expected, "{literals:?}");
+        assert_eq!(buffer[..4], row, "{literals:?}");
+        assert!(buffer[4..].iter().all(|byte| *byte == 170));
+        let walked = walk(&input, &assuming(literals), &start_checkpoint(), 0);
+        assert_eq!(walked.err(), expected.err(), "{literals:?}");
+    }
+}
+
+#[test]
+fn an_assumption_satisfies_any_number_of_clauses() {
+    // 96 clauses over 48 variables, all true with variable 1.
+    let clauses: Vec<Vec<i8>> = (0..96).map(|i| vec![1, i % 47 + 2]).collect();
+    let input = encode(48, &clauses);
+    let mut buffer = [170; 96];
+    assert_eq!(judge(&input, &[], &mut buffer), Err(refusal(10, 4)));
+    let first = assuming(&[1]);
+    assert!(judge(&input, &first, &mut buffer).is_ok());
+    assert_eq!(buffer, [0; 96]);
+    let walked = walk(&input, &first, &start_checkpoint(), LIST_BUDGET).unwrap();
+    assert_eq!(walked.progress.answer, Answer::Model(1));
+    assert_eq!((walked.progress.steps, walked.progress.expansions), (47, 0));
+    // Variable 2 is the lowest that is not assumed.
+    assert_eq!(walked.checkpoint[..4], [1, 47, 2, 3]);
+}
+
+#[test]
+fn assumed_variables_are_in_no_trail() {
+    let first = assuming(&[-1]);
+    // What remains is (2).
+    let walked = walk(EXAMPLE, &first, &start_checkpoint(), LIST_BUDGET).unwrap();
+    assert_eq!(walked.progress.answer, Answer::Model(2));
+    assert_eq!(walked.checkpoint, checkpoint(&[1, 1, 130]));
+    let walked = walk(EXAMPLE, &first, &walked.checkpoint, LIST_BUDGET).unwrap();
+    assert_eq!(walked.progress.answer, Answer::Ended);
+    assert_eq!(walked.progress.steps, 1);
+    let foreign: [&[u8]; 6] = [
+        &[1, 1, 1],
+        &[1, 2, 1, 130],
+        &[1, 2, 130, 1],
+        &[1, 1, 2],
+        &[2, 0],
+        // Something is to be assigned.
+        &[1, 0],
+    ];
+    for bytes in foreign {
+        let walked = walk(EXAMPLE, &first, &checkpoint(bytes), 5);
+        assert_eq!(walked, Err(refusal(11, 0)), "{bytes:?}");
+    }
+    // One that was made without the assumption is taken where it fits.
+    let fits = checkpoint(&[1, 1, 130]);
+    let models = [1, 3].map(|variables| {
+        let input = [1, variables, 5];
+        walk(&input, &first, &fits, LIST_BUDGET).map(|walked| walked.progress.answer)
+    });
+    assert_eq!(models, [Err(refusal(11, 0)), Ok(Answer::Model(2))]);
+}
+
+#[test]
+fn the_order_of_the_list_plays_no_part() {
+    let input = encode(4, &[vec![1, 2, 3], vec![-1, -2, 4], vec![3, -4]]);
+    let [one, other] = [[1, -3], [-3, 1]].map(|literals| assuming(&literals));
+    let mut from = start_checkpoint();
+    for budget in [1, 2, 96, 0, 96, 96] {
+        let walked = walk(&input, &one, &from, budget);
+        assert_eq!(walked, walk(&input, &other, &from, budget));
+        from = walked.unwrap().checkpoint;
+    }
+}
+
+#[test]
+fn nothing_is_left_to_assign() {
+    let inputs: [(&[u8], &[i8], u64); 4] = [
+        (EXAMPLE, &[1, -2], 1),
+        (EXAMPLE, &[2, -1], 2),
+        (&[1, 1, 5], &[-1], 0),
+        (&[1, 2, 5], &[1, 2], 3),
+    ];
+    let [start, given, ended] = [&[0, 0], &[1, 0], &[4, 0]].map(|bytes| checkpoint(bytes));
+    for (input, literals, model) in inputs {
+        let assumed = assuming(literals);
+        for budget in [0, 1, 95, 96, u32::MAX] {
+            for (from, answer, next) in [
+                (start, Answer::Model(model), given),
+                (given, Answer::Ended, ended),
+                (ended, Answer::Ended, ended),
+            ] {
+                let walked = walk(input, &assumed, &from, budget).unwrap();
+                assert_eq!((walked.progress.answer, walked.checkpoint), (answer, next));
+                assert_eq!((walked.progress.steps, walked.progress.expansions), (0, 0));
+            }
+            let foreign: [&[u8]; 6] = [&[2, 0], &[3, 0], &[5, 0], &[1, 1, 1], &[1, 1], &[0, 0, 1]];
+            for bytes in foreign {
+                let walked = walk(input, &assumed, &checkpoint(bytes), budget);
+                assert_eq!(walked, Err(refusal(11, 0)), "{bytes:?}");
+            }
+        }
+        // A list has the model only if there is room for it.
+        let lists = [
+            (start, 0, (Answer::Spent, 0, start)),
+            (start, 1, (Answer::Model(model), 1, given)),
+            (start, 2, (Answer::Ended, 1, ended)),
+            (given, 0, (Answer::Ended, 0, ended)),
+            (given, 2, (Answer::Ended, 0, ended)),
+            (ended, 0, (Answer::Ended, 0, ended)),
+            (ended, 2, (Answer::Ended, 0, ended)),
+        ];
+        for (from, room, (answer, written, checkpoint)) in lists {
+            let (found, models) = list_of(input, &assumed, &from, room);
+            let expected = Listed {
+                answer,
+                written,
+                checkpoint,
+            };
+            assert_eq!(found, Ok(expected));
+            let mut expected_models = vec![7; room];
+            expected_models[..written].fill(model);
+            assert_eq!(models, expected_models);
+        }
+    }
+    // No model has these values.
+    let walked = walk(EXAMPLE, &assuming(&[1, 2]), &start, 0);
+    assert_eq!(walked, Err(refusal(10, 1)));
+}
+
+#[test]
+fn list_gives_the_models_that_keep_the_assumptions() {
+    let mut random = Random::new(1);
+    let (mut walks, mut models) = (0, 0);
+    while walks < 1_000 {
+        let input = some_input(&mut random, is_matched);
+        let assumptions = some_list(&mut random, &input);
+        let Ok(formula) = decode(&input) else {
+            continue;
+        };
+        if formula.variables() > 10 || judge(&input, &assumptions, &mut [0; 96]).is_err() {
+            continue;
+        }
+        let keeps = |assignment: u64| {
+            let kept = |a: &Assumption| (assignment >> (a.variable - 1) & 1 == 1) == a.value;
+            assumptions.iter().all(kept)
+        };
+        let all: Vec<u64> = (0..1 << formula.variables())
+            .filter(|assignment| keeps(*assignment) && check(&input, *assignment) == Ok(true))
+            .collect();
+        let (listed, mut found) = list_of(&input, &assumptions, &start_checkpoint(), 1 << 11);
+        let listed = listed.unwrap();
+        assert_eq!(listed.answer, Answer::Ended);
+        found.truncate(listed.written);
+        found.sort();
+        assert_eq!(found, all, "{input:?} {assumptions:?}");
+        walks += 1;
+        models += all.len();
+    }
+    assert!(models > 5_000, "{models}");
+}
+
+/// What remains of a formula, as an input, and its variables: those that are not assumed, renumbered in their order.
+fn renumbered(formula: &Formula, assumptions: &[Assumption]) -> (Vec<u8>, Vec<usize>) {
+    let assumed = assume(formula, assumptions).unwrap();
+    let left: Vec<usize> = numbers((bit(formula.variables()) - 1) & !assumed.variables).collect();
+    let number = |variable| left.iter().position(|v| *v == variable).unwrap() as i8 + 1;
+    let mut clauses = Vec::new();
+    for clause in formula.clauses() {
+        let are_true = clause.positive & assumed.assignment;
+        let are_false = clause.negative & assumed.variables & !assumed.assignment;
+        if are_true | are_false == 0 {
+            let positive = numbers(clause.positive & !assumed.variables).map(number);
+            let negative = numbers(clause.negative & !assumed.variables).map(|v| -number(v));
+            clauses.push(positive.chain(negative).collect());
+        }
+    }
+    (encode(left.len(), &clauses), left)
+}
+
+#[test]
+fn a_walk_under_assumptions_is_that_of_what_remains() {
+    let mut random = Random::new(2);
+    let (mut walks, mut refused, mut with_trials) = (0, 0, 0);
+    while walks < 1_000 {
+        let input = some_matched_formula(&mut random, is_matched);
+        let formula = decode(&input).unwrap();
+        let assumptions = some_list(&mut random, &input);
+        let Ok(assumed) = assume(&formula, &assumptions) else {
+            continue;
+        };
+        if assumptions.is_empty() || assumptions.len() == formula.variables() {
+            continue;
+        }
+        let (smaller, left) = renumbered(&formula, &assumptions);
+        let smaller = decode(&smaller).unwrap();
+        let mut walker = match Walker::start(&formula, &assumptions) {
+            Ok(walker) => walker,
+            Err(refusal) => {
+                assert_eq!(Walker::start(&smaller, &[]).err(), Some(refusal));
+                refused += 1;
+                continue;
+            }
+        };
+        let mut smaller_walker = Walker::start(&smaller, &[]).unwrap();
+        for _ in 0..20 {
+            let budget = random.pick(&[1, 5, 30, LIST_BUDGET]);
+            let (found, expected) = (walker.advance(budget), smaller_walker.advance(budget));
+            assert_eq!(found.steps, expected.steps);
+            assert_eq!(found.expansions, expected.expansions);
+            let answer = match expected.answer {
+                Answer::Model(model) => {
+                    let are_true = numbers(model).map(|v| bit(left[v])).sum::<u64>();
+                    Answer::Model(assumed.assignment | are_true)
+                }
+                answer => answer,
+            };
+            assert_eq!(found.answer, answer);
+            let mut bytes = smaller_walker.checkpoint();
+            let length = usize::from(bytes[1]);
+            for byte in &mut bytes[2..2 + length] {
+                *byte = *byte & 128 | (left[usize::from(*byte & 127) - 1] + 1) as u8;
+            }
+            assert_eq!(walker.checkpoint(), bytes);
+            with_trials += usize::from(found.expansions > 0);
+        }
+        walks += 1;
+    }
+    assert!(
+        refused > 100 && with_trials > 200,
+        "{refused} {with_trials}"
+    );
+}
