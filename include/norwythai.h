@@ -31,6 +31,12 @@
  * assignment is a 64-bit number: variable v, counted from 1, is true if bit v - 1 is set. A model is an assignment in which every clause
  * has a literal that is true, and no variable above n is.
  *
+ * ASSUMPTIONS are values that judge, walk and list are to take for some variables. The list has two bytes for each: the variable,
+ * counted from 1, and its value, 0 for false and any other byte for true. `assumptions_length` counts bytes; with 0 nothing is assumed.
+ * They are applied first: a clause that one of them satisfies is gone, and the others lose the assumed variables. Matching and walking
+ * are of what remains, and the models of a walk are those that have the assumed values, which stand among their bits. A variable stands
+ * in the list once at most (refusal 16); that refusal's place is all that depends on the order.
+ *
  * A TEXT is DIMACS CNF: lines that start with c are comments, anywhere; the first other line is `p cnf` with the numbers of variables
  * and clauses; then come the literals as numbers, a minus before those that are negative, and 0 at the end of each clause. Line feeds (0A)
  * end lines; they and blanks (20), tabs (09) and carriage returns (0D) stand between words. Lines without words may stand behind the p
@@ -54,8 +60,8 @@
  *
  * from_dimacs and to_dimacs answer 0, NORWYTHAI_WRITTEN, or 3, NORWYTHAI_REFUSED.
  *
- * REFUSALS. Places are offsets into the input or the text, counted from 0, except at 10. In a text the place at 5 to 8 is the word's
- * first byte.
+ * REFUSALS. Places are offsets into the input or the text, counted from 0, except at 10 and 16. In a text the place at 5 to 8 is the
+ * word's first byte.
  *
  *   number  trade's word     given if                                            place
  *    1      short slate      the buffer is below 96 bytes (judge), 9,315
@@ -69,8 +75,8 @@
  *    7      named twice      the clause already names the variable the other way its kind byte, or the word
  *    8      too many rules   a 97th clause ends                                  its kind byte, or the word
  *    9      tail             the input goes on behind kind 5                     first byte behind
- *   10      over-ruled       the clauses can't be matched with variables         number of marked clauses
- *   11      foreign marker   the walk of this input never has this checkpoint    0
+ *   10      over-ruled       the clauses that remain can't be matched            number of marked clauses
+ *   11      foreign marker   the walk never has this checkpoint                  0
  *   12      stray switch     a checked assignment has a variable above n true    0
  *   13      bad opening      the first line that is no comment is no p line of   its first byte, or the text's
  *                            four words: p, cnf and two runs of digits           length if there is none
@@ -78,19 +84,21 @@
  *                            minus and digits that are not zero
  *   15      rule count       there are not as many clauses as the p line says    first byte of that number
  *           differs
+ *   16      bad fixing       an assumption's variable is not 1 to n, or is       index of the first such
+ *                            assumed before, with either value                   assumption, from 0
  *
- * They are tested in the order 1, then record by record 2 to 8, then 9, 10, 11, 12. check gives 2 to 9 and 12 only; judge 1 to 10;
- * walk and list 2 to 11; to_dimacs 1 to 9. from_dimacs tests 1, 13, 5, then word by word 14, 6, 7, 8, and at the end 2 and 15. On a
- * refusal results[1], results[4] and results[5] are 0.
+ * They are tested in the order 1, then record by record 2 to 8, then 9, 16, 10, 11, 12. check gives 2 to 9 and 12 only; judge 1 to 10
+ * and 16; walk and list 2 to 11 and 16; to_dimacs 1 to 9. from_dimacs tests 1, 13, 5, then word by word 14, 6, 7, 8, and at the end 2
+ * and 15. On a refusal results[1], results[4] and results[5] are 0.
  *
  * A CHECKPOINT is NORWYTHAI_CHECKPOINT bytes that say where a walk stands: mode, length, 48 bytes of trail. norwythai_start gives the
- * first, norwythai_walk and norwythai_list each the next. It can be kept, copied and sent anywhere, and used again with the same input.
- * It holds no mark of that input: keep beside it which one it is of. With another input it is refused by 11 where it does not fit, and
- * taken where it happens to.
+ * first, norwythai_walk and norwythai_list each the next. It can be kept, copied and sent anywhere, and used again with the same input
+ * and the same assumptions. It holds no mark of them and has no assumed variable: keep beside it what it is of. With another input or
+ * other assumptions it is refused by 11 where it does not fit, and taken where it happens to.
  *
  * THE RETURNED NUMBER of every function is 0 if the results (norwythai_start: the checkpoint) were written, and 1 if `results_length`
- * is not NORWYTHAI_RESULTS or `checkpoint_length` is not NORWYTHAI_CHECKPOINT: then no byte of any buffer has changed. A refusal is an
- * answer: the function returns 0. Where the compiler can, it warns of a returned number that is ignored.
+ * is not NORWYTHAI_RESULTS, `checkpoint_length` is not NORWYTHAI_CHECKPOINT or `assumptions_length` is odd: then no byte of any buffer
+ * has changed. A refusal is an answer: the function returns 0. Where the compiler can, it warns of a returned number that is ignored.
  */
 #ifndef NORWYTHAI_H
 #define NORWYTHAI_H
@@ -143,16 +151,19 @@ uint32_t norwythai_check(const uint8_t *input, size_t input_length, uint64_t ass
                          uint64_t *results, size_t results_length);
 
 /*
- * Whether the formula is matched: each clause can have a variable that it names, no variable used twice.
- * Reads the input; writes the results and into the buffer, of which it needs NORWYTHAI_BUFFER bytes or more (fewer: refusal 1).
- * Matched: byte i of the buffer, i below m, is the variable matched with clause i + 1, and results[4] and results[5] are n and m.
- * Refusal 10: byte i is 1 if clause i + 1 is marked, else 0; the marked clauses name fewer variables than they are, and results[3]
- * is how many they are. The buffer's other bytes never change; on any other refusal none does.
- * With `input_length` or `buffer_length` 0, `input` or `buffer` is the address of any byte and not null.
+ * Whether what remains of the formula under the assumptions is matched: each clause can have a variable that it names, no variable
+ * used twice.
+ * Reads the input and the assumptions; writes the results and into the buffer, of which it needs NORWYTHAI_BUFFER bytes or more
+ * (fewer: refusal 1). Matched: byte i of the buffer, i below m, is 0 if an assumption satisfies clause i + 1, and else the variable
+ * matched with it; results[4] and results[5] are n and m, those of the whole formula. Refusal 10: byte i is 1 if clause i + 1 is
+ * marked, else 0; without the assumed variables the marked clauses name fewer variables than they are, and results[3] is how many they
+ * are. The buffer's other bytes never change; on any other refusal none does.
+ * With `input_length`, `assumptions_length` or `buffer_length` 0, `input`, `assumptions` or `buffer` is the address of any byte and not
+ * null.
  */
 NORWYTHAI_NODISCARD
-uint32_t norwythai_judge(const uint8_t *input, size_t input_length, uint8_t *buffer, size_t buffer_length,
-                         uint64_t *results, size_t results_length);
+uint32_t norwythai_judge(const uint8_t *input, size_t input_length, const uint8_t *assumptions, size_t assumptions_length,
+                         uint8_t *buffer, size_t buffer_length, uint64_t *results, size_t results_length);
 
 /*
  * The checkpoint at which every walk starts. Writes the checkpoint: 50 zeros.
@@ -162,28 +173,32 @@ uint32_t norwythai_start(uint8_t *checkpoint, size_t checkpoint_length);
 
 /*
  * One walk call: goes on from the checkpoint until a model or the end comes, or as many steps as the budget are made.
- * Reads the input, the checkpoint and the budget; writes the results, and over the checkpoint the one to go on from.
- * After NORWYTHAI_SPENT and NORWYTHAI_MODEL the walk goes on by another call. After NORWYTHAI_ENDED another call says it again. On a
- * refusal the checkpoint stays as it was (theorem walk-refused in crates/capi/proofs/Theorems.antt). A budget of 96 always brings a
- * model or the end.
- * With `input_length` 0, `input` is the address of any byte and not null.
+ * Reads the input, the assumptions, the checkpoint and the budget; writes the results, and over the checkpoint the one to go on from.
+ * After NORWYTHAI_SPENT and NORWYTHAI_MODEL the walk goes on by another call, with the same assumptions. After NORWYTHAI_ENDED another
+ * call says it again. On a refusal the checkpoint stays as it was (theorem walk-refused in crates/capi/proofs/Theorems.antt). A budget
+ * of 96 always brings a model or the end. Where all variables are assumed there are no steps: on any budget, 0 too, the call from the
+ * start brings the one model, and the next one the end.
+ * With `input_length` or `assumptions_length` 0, `input` or `assumptions` is the address of any byte and not null.
  */
 NORWYTHAI_NODISCARD
-uint32_t norwythai_walk(const uint8_t *input, size_t input_length, uint8_t *checkpoint, size_t checkpoint_length,
-                        uint32_t budget, uint64_t *results, size_t results_length);
+uint32_t norwythai_walk(const uint8_t *input, size_t input_length, const uint8_t *assumptions, size_t assumptions_length,
+                        uint8_t *checkpoint, size_t checkpoint_length, uint32_t budget, uint64_t *results, size_t results_length);
 
 /*
  * The next models, as many as there is room for: what a list of walk calls of budget 96 gives, in one call.
- * Reads the input and the checkpoint; writes the models from the front of `models`, the results, and over the checkpoint the one to
- * go on from. It stops when `models` is full (NORWYTHAI_MODEL) or at the end (NORWYTHAI_ENDED). What stands behind the last model
- * written does not change. A refusal brings no model: results[4] is 0, and `models` and the checkpoint stay as they were (theorem
- * list-refused in crates/capi/proofs/Theorems.antt). `models_length` may be any number; with 0 it makes one walk call of budget 0
- * (NORWYTHAI_SPENT, or NORWYTHAI_ENDED from a checkpoint at the end, or a refusal).
- * With `input_length` 0, `input` is the address of any byte, and with `models_length` 0, `models` that of any uint64_t; neither is null.
+ * Reads the input, the assumptions and the checkpoint; writes the models from the front of `models`, the results, and over the
+ * checkpoint the one to go on from. It stops when `models` is full (NORWYTHAI_MODEL) or at the end (NORWYTHAI_ENDED). What stands behind
+ * the last model written does not change. A refusal brings no model: results[4] is 0, and `models` and the checkpoint stay as they were
+ * (theorem list-refused in crates/capi/proofs/Theorems.antt). `models_length` may be any number; with 0 it makes one walk call of budget
+ * 0 (NORWYTHAI_SPENT, or NORWYTHAI_ENDED where no step is left, or a refusal), but none where that would bring a model: it answers
+ * NORWYTHAI_SPENT then too, and the checkpoint stays, so that the model is still to come.
+ * With `input_length` or `assumptions_length` 0, `input` or `assumptions` is the address of any byte, and with `models_length` 0,
+ * `models` that of any uint64_t; none is null.
  */
 NORWYTHAI_NODISCARD
-uint32_t norwythai_list(const uint8_t *input, size_t input_length, uint8_t *checkpoint, size_t checkpoint_length,
-                        uint64_t *models, size_t models_length, uint64_t *results, size_t results_length);
+uint32_t norwythai_list(const uint8_t *input, size_t input_length, const uint8_t *assumptions, size_t assumptions_length,
+                        uint8_t *checkpoint, size_t checkpoint_length, uint64_t *models, size_t models_length,
+                        uint64_t *results, size_t results_length);
 
 /*
  * Reads a DIMACS CNF text into an encoded formula: the clauses in order, each literal once, at its first place in the clause.

@@ -18,7 +18,7 @@ fn print_page(file: &str, size: &str, checkpoint: Option<&String>) -> Result<(),
         Some(text) => text.parse()?,
         None => Checkpoint::start(),
     };
-    let variables = formula.judge()?.variables();
+    let variables = formula.judge(&[])?.variables();
     let mut models = formula.models_from(start);
     for _ in 0..size {
         match models.next() {

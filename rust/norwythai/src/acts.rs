@@ -1,6 +1,7 @@
 //! The acts: the library's answers as types.
 
 use crate::assignment::Assignment;
+use crate::assumption::Assumption;
 use crate::checkpoint::Checkpoint;
 use crate::ffi::{self, Results};
 use crate::limits::{FORMULA_BUFFER, MAX_CLAUSES, TEXT_BUFFER};
@@ -27,7 +28,7 @@ pub fn check(input: &[u8], assignment: Assignment) -> Result<bool, Refusal> {
     }
 }
 
-/// The numbers of variables and clauses of a matched formula.
+/// The numbers of variables and clauses of a formula, those that are assumed or satisfied by an assumption among them.
 #[derive(Clone, Copy, Debug, PartialEq, Eq)]
 pub struct Size {
     /// The number of variables.
@@ -36,21 +37,30 @@ pub struct Size {
     pub clauses: usize,
 }
 
-/// Judge, with a lent buffer of at least 96 bytes. If the formula is matched, byte i is then the number, from 1, of the
-/// variable of clause i, counted from 0. If it is unmatched, byte i is 1 if clause i belongs to the violator, else 0. As many
-/// bytes are written as there are clauses, and none at any other refusal.
+/// Judge, with a lent buffer of at least 96 bytes. If what remains of the formula under the assumptions is matched, byte i is then the
+/// number, from 1, of the variable of clause i, counted from 0, or 0 if an assumption satisfies the clause. If it is unmatched, byte i
+/// is 1 if clause i belongs to the violator, else 0. As many bytes are written as there are clauses, and none at any other refusal.
 ///
 /// ```
-/// use norwythai::{judge_into, Refusal};
+/// use norwythai::{judge_into, Assumption, Refusal};
 ///
+/// let input = [1, 2, 2, 1, 2, 2, 4, 2, 1, 4, 5]; // (1, 2) and (1)
 /// let mut buffer = [7; 96];
-/// let size = judge_into(&[1, 2, 2, 1, 2, 2, 4, 2, 1, 4, 5], &mut buffer)?;
+/// let size = judge_into(&input, &[], &mut buffer)?;
 /// assert_eq!((size.variables, size.clauses), (2, 2));
 /// assert_eq!(buffer[..3], [2, 1, 7]);
+///
+/// let size = judge_into(&input, &[Assumption::positive(2)], &mut buffer)?;
+/// assert_eq!((size.variables, size.clauses), (2, 2));
+/// assert_eq!(buffer[..3], [0, 1, 7]);
 /// # Ok::<(), Refusal>(())
 /// ```
-pub fn judge_into(input: &[u8], buffer: &mut [u8]) -> Result<Size, Refusal> {
-    let results = accept(ffi::judge(input, buffer))?;
+pub fn judge_into(
+    input: &[u8],
+    assumptions: &[Assumption],
+    buffer: &mut [u8],
+) -> Result<Size, Refusal> {
+    let results = accept(ffi::judge(input, assumptions, buffer))?;
     match (results[ANSWER], u8::try_from(results[FIRST_COUNT])) {
         (0, Ok(variables)) => Ok(Size {
             variables,
@@ -60,7 +70,7 @@ pub fn judge_into(input: &[u8], buffer: &mut [u8]) -> Result<Size, Refusal> {
     }
 }
 
-/// A variable of its own for each clause.
+/// A variable of its own for each clause that remains under the assumptions.
 #[derive(Clone, Debug, PartialEq, Eq)]
 pub struct Matching {
     variables: u8,
@@ -78,7 +88,7 @@ impl Matching {
         self.matched.len()
     }
 
-    /// By clause, in the formula's order: the number, from 1, of its variable.
+    /// By clause, in the formula's order: the number, from 1, of its variable, or 0 if an assumption satisfies the clause.
     pub fn matched(&self) -> &[u8] {
         &self.matched
     }
@@ -87,12 +97,12 @@ impl Matching {
 /// Why judge gives no matching.
 #[derive(Clone, Debug, PartialEq, Eq)]
 pub enum JudgeError {
-    /// The clauses can't be matched.
+    /// What remains of the clauses can't be matched.
     Unmatched {
-        /// The violator: clauses, counted from 0 and upward, that name one variable fewer than they are.
+        /// The violator: clauses, counted from 0 and upward, that name one variable fewer than they are, assumed ones not counted.
         violator: Vec<usize>,
     },
-    /// The input is not a formula.
+    /// The input is not a formula, or an assumption is bad.
     Refused(Refusal),
 }
 
@@ -123,23 +133,31 @@ impl fmt::Display for JudgeError {
 
 impl Error for JudgeError {}
 
-/// Judge: matches each clause with a variable that it names, none used twice, or says which clauses stand in the way.
+/// Judge: matches each clause that remains under the assumptions with a variable that it names, none used twice, or says which
+/// clauses stand in the way.
 ///
 /// ```
-/// use norwythai::{judge, JudgeError};
+/// use norwythai::{judge, Assumption, JudgeError, Refusal};
 ///
-/// let matching = judge(&[1, 2, 2, 1, 2, 2, 4, 2, 1, 4, 5])?;
+/// let matching = judge(&[1, 2, 2, 1, 2, 2, 4, 2, 1, 4, 5], &[])?;
 /// assert_eq!(matching.matched(), [2, 1]);
 ///
 /// // The second and the third clause name only variable 2.
-/// let error = judge(&[1, 2, 2, 1, 4, 2, 2, 4, 3, 2, 4, 5]).unwrap_err();
+/// let input = [1, 2, 2, 1, 4, 2, 2, 4, 3, 2, 4, 5];
+/// let error = judge(&input, &[]).unwrap_err();
 /// assert_eq!(error, JudgeError::Unmatched { violator: vec![1, 2] });
 /// assert_eq!((error.refusal().number(), error.refusal().place()), (10, 2));
+///
+/// // With variable 2 true nothing is left of the third.
+/// let error = judge(&input, &[Assumption::positive(2)]).unwrap_err();
+/// assert_eq!(error, JudgeError::Unmatched { violator: vec![2] });
+/// let error = judge(&input, &[Assumption::positive(2), Assumption::negative(2)]).unwrap_err();
+/// assert_eq!(error, JudgeError::Refused(Refusal::BadAssumption { index: 1 }));
 /// # Ok::<(), JudgeError>(())
 /// ```
-pub fn judge(input: &[u8]) -> Result<Matching, JudgeError> {
+pub fn judge(input: &[u8], assumptions: &[Assumption]) -> Result<Matching, JudgeError> {
     let mut buffer = [0; MAX_CLAUSES];
-    match judge_into(input, &mut buffer) {
+    match judge_into(input, assumptions, &mut buffer) {
         Ok(Size { variables, clauses }) => Ok(Matching {
             variables,
             matched: buffer[..clauses].to_vec(),
@@ -175,21 +193,38 @@ pub struct Walked {
 }
 
 /// Goes on from the checkpoint until a model or the end comes, or as many steps as the budget are made. The checkpoint becomes
-/// the one to go on from; at a refusal it stays. A budget of 96 always brings a model or the end.
+/// the one to go on from, under the same assumptions; at a refusal it stays. A budget of 96 always brings a model or the end.
 ///
 /// ```
-/// use norwythai::{walk, Answer, Assignment, Checkpoint};
+/// use norwythai::{walk, Answer, Assignment, Assumption, Checkpoint};
 ///
 /// let input = [1, 2, 2, 1, 2, 2, 4, 3, 1, 3, 2, 4, 5];
 /// let mut checkpoint = Checkpoint::start();
-/// assert_eq!(walk(&input, &mut checkpoint, 1)?.answer, Answer::Spent);
-/// let walked = walk(&input, &mut checkpoint, 96)?;
+/// assert_eq!(walk(&input, &[], &mut checkpoint, 1)?.answer, Answer::Spent);
+/// let walked = walk(&input, &[], &mut checkpoint, 96)?;
 /// assert_eq!(walked.answer, Answer::Model(Assignment::from_bits(0b10)));
 /// assert_eq!((walked.steps, walked.expansions), (1, 0));
+///
+/// // Where all variables are assumed, the one model comes without a step, and then the end.
+/// let all = [Assumption::positive(1), Assumption::negative(2)];
+/// let mut checkpoint = Checkpoint::start();
+/// let walked = walk(&input, &all, &mut checkpoint, 0)?;
+/// assert_eq!(walked.answer, Answer::Model(Assignment::from_bits(0b01)));
+/// assert_eq!(walk(&input, &all, &mut checkpoint, 0)?.answer, Answer::Ended);
 /// # Ok::<(), norwythai::Refusal>(())
 /// ```
-pub fn walk(input: &[u8], checkpoint: &mut Checkpoint, budget: u32) -> Result<Walked, Refusal> {
-    let results = accept(ffi::walk(input, checkpoint.bytes_mut(), budget))?;
+pub fn walk(
+    input: &[u8],
+    assumptions: &[Assumption],
+    checkpoint: &mut Checkpoint,
+    budget: u32,
+) -> Result<Walked, Refusal> {
+    let results = accept(ffi::walk(
+        input,
+        assumptions,
+        checkpoint.bytes_mut(),
+        budget,
+    ))?;
     match (answer(results), u32::try_from(results[FIRST_COUNT])) {
         (Some(answer), Ok(steps)) => Ok(Walked {
             answer,
@@ -207,29 +242,40 @@ pub struct Listed {
     /// How many models were written, from the front of the slice.
     pub written: usize,
     /// A model, the last one written, if the slice is full; the end, if it came before that; spent, if the slice is empty and
-    /// the walk hasn't ended.
+    /// a step or a model is next.
     pub answer: Answer,
 }
 
 /// Fills the slice with the next models, as [`walk`] calls with a budget of 96 would, and tests the checkpoint only once. The
-/// checkpoint becomes the one to go on from; at a refusal it stays.
+/// checkpoint becomes the one to go on from, under the same assumptions; at a refusal it stays. An empty slice brings no model and
+/// makes no step.
 ///
 /// ```
-/// use norwythai::{list, Answer, Checkpoint};
+/// use norwythai::{list, Answer, Assumption, Checkpoint};
 ///
 /// let input = [1, 2, 2, 1, 2, 2, 4, 3, 1, 3, 2, 4, 5];
 /// let mut models = [0; 3];
-/// let listed = list(&input, &mut Checkpoint::start(), &mut models)?;
+/// let listed = list(&input, &[], &mut Checkpoint::start(), &mut models)?;
 /// assert_eq!((listed.written, listed.answer), (2, Answer::Ended));
 /// assert_eq!(models[..2], [0b10, 0b01]);
+///
+/// let first = [Assumption::positive(1)];
+/// let listed = list(&input, &first, &mut Checkpoint::start(), &mut models)?;
+/// assert_eq!((listed.written, models[0]), (1, 0b01));
 /// # Ok::<(), norwythai::Refusal>(())
 /// ```
 pub fn list(
     input: &[u8],
+    assumptions: &[Assumption],
     checkpoint: &mut Checkpoint,
     models: &mut [u64],
 ) -> Result<Listed, Refusal> {
-    let results = accept(ffi::list(input, checkpoint.bytes_mut(), models))?;
+    let results = accept(ffi::list(
+        input,
+        assumptions,
+        checkpoint.bytes_mut(),
+        models,
+    ))?;
     match answer(results) {
         Some(answer) => Ok(Listed {
             written: index(results, FIRST_COUNT),

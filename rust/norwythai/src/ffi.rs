@@ -3,6 +3,7 @@
 //! Each function here lends the library only whole slices, with their own lengths, for the time of the call; the library reads
 //! and writes nothing else and keeps no pointer.
 
+use crate::assumption::Assumption;
 use crate::limits::CHECKPOINT_LENGTH;
 use crate::raw::{
     norwythai_check, norwythai_from_dimacs, norwythai_judge, norwythai_list, norwythai_start,
@@ -17,6 +18,18 @@ const RESULTS_LENGTH: usize = 6;
 /// The library returns 1 only for arrays of other lengths than it asks for.
 fn require(returned: u32) {
     assert_eq!(returned, 0, "the library refuses the lengths of its arrays");
+}
+
+/// The bytes of an assumption: its variable and its value, which is 0 or 1.
+const ASSUMPTION_LENGTH: usize = size_of::<Assumption>();
+
+const _: () = assert!(ASSUMPTION_LENGTH == 2);
+
+/// The pointer to assumptions as bytes, and the number of these. An assumption is two bytes, one behind the other and without any
+/// between, so that all of them may be read.
+fn bytes_of(assumptions: &[Assumption]) -> (*const u8, usize) {
+    let length = ASSUMPTION_LENGTH * assumptions.len();
+    (assumptions.as_ptr().cast(), length)
 }
 
 pub(crate) fn check(input: &[u8], assignment: u64) -> Results {
@@ -56,16 +69,32 @@ fn write(function: Writer, input: &[u8], buffer: &mut [u8]) -> Results {
     results
 }
 
-pub(crate) fn judge(input: &[u8], buffer: &mut [u8]) -> Results {
-    write(norwythai_judge, input, buffer)
-}
-
 pub(crate) fn from_dimacs(text: &[u8], buffer: &mut [u8]) -> Results {
     write(norwythai_from_dimacs, text, buffer)
 }
 
 pub(crate) fn to_dimacs(input: &[u8], buffer: &mut [u8]) -> Results {
     write(norwythai_to_dimacs, input, buffer)
+}
+
+pub(crate) fn judge(input: &[u8], assumptions: &[Assumption], buffer: &mut [u8]) -> Results {
+    let mut results = [0; RESULTS_LENGTH];
+    let (assumptions, assumptions_length) = bytes_of(assumptions);
+    // SAFETY: `input` and `assumptions` may be read, `buffer` and `results` written for the lengths given, and no two of them overlap.
+    let returned = unsafe {
+        norwythai_judge(
+            input.as_ptr(),
+            input.len(),
+            assumptions,
+            assumptions_length,
+            buffer.as_mut_ptr(),
+            buffer.len(),
+            results.as_mut_ptr(),
+            results.len(),
+        )
+    };
+    require(returned);
+    results
 }
 
 pub(crate) fn start() -> [u8; CHECKPOINT_LENGTH] {
@@ -76,14 +105,22 @@ pub(crate) fn start() -> [u8; CHECKPOINT_LENGTH] {
     checkpoint
 }
 
-pub(crate) fn walk(input: &[u8], checkpoint: &mut [u8; CHECKPOINT_LENGTH], budget: u32) -> Results {
+pub(crate) fn walk(
+    input: &[u8],
+    assumptions: &[Assumption],
+    checkpoint: &mut [u8; CHECKPOINT_LENGTH],
+    budget: u32,
+) -> Results {
     let mut results = [0; RESULTS_LENGTH];
-    // SAFETY: `input` may be read, `checkpoint` and `results` read and written for the lengths given, and no two of them
-    // overlap.
+    let (assumptions, assumptions_length) = bytes_of(assumptions);
+    // SAFETY: `input` and `assumptions` may be read, `checkpoint` and `results` read and written for the lengths given, and no two of
+    // them overlap.
     let returned = unsafe {
         norwythai_walk(
             input.as_ptr(),
             input.len(),
+            assumptions,
+            assumptions_length,
             checkpoint.as_mut_ptr(),
             checkpoint.len(),
             budget,
@@ -97,16 +134,20 @@ pub(crate) fn walk(input: &[u8], checkpoint: &mut [u8; CHECKPOINT_LENGTH], budge
 
 pub(crate) fn list(
     input: &[u8],
+    assumptions: &[Assumption],
     checkpoint: &mut [u8; CHECKPOINT_LENGTH],
     models: &mut [u64],
 ) -> Results {
     let mut results = [0; RESULTS_LENGTH];
-    // SAFETY: `input` may be read, `checkpoint`, `models` and `results` read and written for the lengths given, and no two of
-    // them overlap.
+    let (assumptions, assumptions_length) = bytes_of(assumptions);
+    // SAFETY: `input` and `assumptions` may be read, `checkpoint`, `models` and `results` read and written for the lengths given, and
+    // no two of them overlap.
     let returned = unsafe {
         norwythai_list(
             input.as_ptr(),
             input.len(),
+            assumptions,
+            assumptions_length,
             checkpoint.as_mut_ptr(),
             checkpoint.len(),
             models.as_mut_ptr(),

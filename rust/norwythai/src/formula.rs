@@ -4,6 +4,7 @@ use crate::acts::{
     check, from_dimacs, judge, list, to_dimacs, walk, JudgeError, Listed, Matching, Walked,
 };
 use crate::assignment::Assignment;
+use crate::assumption::Assumption;
 use crate::checkpoint::Checkpoint;
 use crate::models::Models;
 use crate::refusal::Refusal;
@@ -56,18 +57,28 @@ impl Formula<'_> {
     }
 
     /// See [`judge`].
-    pub fn judge(&self) -> Result<Matching, JudgeError> {
-        judge(&self.0)
+    pub fn judge(&self, assumptions: &[Assumption]) -> Result<Matching, JudgeError> {
+        judge(&self.0, assumptions)
     }
 
     /// See [`walk`].
-    pub fn walk(&self, checkpoint: &mut Checkpoint, budget: u32) -> Result<Walked, Refusal> {
-        walk(&self.0, checkpoint, budget)
+    pub fn walk(
+        &self,
+        assumptions: &[Assumption],
+        checkpoint: &mut Checkpoint,
+        budget: u32,
+    ) -> Result<Walked, Refusal> {
+        walk(&self.0, assumptions, checkpoint, budget)
     }
 
     /// See [`list`].
-    pub fn list(&self, checkpoint: &mut Checkpoint, models: &mut [u64]) -> Result<Listed, Refusal> {
-        list(&self.0, checkpoint, models)
+    pub fn list(
+        &self,
+        assumptions: &[Assumption],
+        checkpoint: &mut Checkpoint,
+        models: &mut [u64],
+    ) -> Result<Listed, Refusal> {
+        list(&self.0, assumptions, checkpoint, models)
     }
 
     /// See [`to_dimacs`].
@@ -83,6 +94,20 @@ impl Formula<'_> {
     /// The models that come after a checkpoint.
     pub fn models_from(&self, checkpoint: Checkpoint) -> Models<'_> {
         Models::resume(&self.0, checkpoint)
+    }
+
+    /// The models that keep the assumptions.
+    pub fn models_under(&self, assumptions: &[Assumption]) -> Models<'_> {
+        Models::under(&self.0, assumptions)
+    }
+
+    /// Those of them that come after a checkpoint, which a walk under the same assumptions gave.
+    pub fn models_under_from(
+        &self,
+        assumptions: &[Assumption],
+        checkpoint: Checkpoint,
+    ) -> Models<'_> {
+        Models::resume_under(&self.0, assumptions, checkpoint)
     }
 }
 

@@ -3,19 +3,20 @@
 //! A formula has up to 48 variables and 96 clauses. It is *matched* if each clause can have a variable of its own among those
 //! that it names. The library reads an encoded formula, says whether an assignment is a model ([`check`]), matches the clauses
 //! ([`judge`]), and lists all models of a matched formula ([`walk`], [`list`], [`Models`]), each exactly once. The listing can be
-//! stopped after any number of steps and goes on from a [`Checkpoint`], which is a line of text if need be. DIMACS CNF text is read
-//! into an encoded formula and written from one ([`from_dimacs`], [`to_dimacs`]). Whatever the bytes are, an act answers: with a
-//! [`Refusal`], if it has to.
+//! stopped after any number of steps and goes on from a [`Checkpoint`], which is a line of text if need be. Where the values of some
+//! variables are known, matching and listing are of what remains under these [`Assumption`]s. DIMACS CNF text is read into an encoded
+//! formula and written from one ([`from_dimacs`], [`to_dimacs`]). Whatever the bytes are, an act answers: with a [`Refusal`], if it
+//! has to.
 //!
-//! Clubs call these things sheets (formulas), rules (clauses), switches (variables), set-ups (assignments) and markers
-//! (checkpoints); the sentences of refusals do, too.
+//! Clubs call these things sheets (formulas), rules (clauses), switches (variables), set-ups (assignments), fixed settings
+//! (assumptions) and markers (checkpoints); the sentences of refusals do, too.
 //!
 //! Variables are given by their numbers, which count from 1 as in the encoded formula.
 //!
 //! The C functions that these acts call are in [`raw`].
 //!
 //! ```
-//! use norwythai::{FormulaBuilder, Literal};
+//! use norwythai::{Assumption, FormulaBuilder, Literal};
 //!
 //! # fn main() -> Result<(), Box<dyn std::error::Error>> {
 //! // Some switch of three is on, and switch 2 is on only if switch 1 is.
@@ -23,7 +24,7 @@
 //!     .clause(&[Literal::positive(1), Literal::positive(2), Literal::positive(3)])?
 //!     .clause(&[Literal::positive(1), Literal::negative(2)])?
 //!     .build();
-//! assert_eq!(formula.judge()?.matched(), [1, 2]);
+//! assert_eq!(formula.judge(&[])?.matched(), [1, 2]);
 //!
 //! let mut lines = Vec::new();
 //! for model in formula.models() {
@@ -31,6 +32,11 @@
 //! }
 //! lines.sort();
 //! assert_eq!(lines, ["001", "100", "101", "110", "111"]);
+//!
+//! // Switch 1 is known to be off.
+//! let models: Result<Vec<_>, _> = formula.models_under(&[Assumption::negative(1)]).collect();
+//! let lines: Vec<String> = models?.iter().map(|model| model.digits(3).to_string()).collect();
+//! assert_eq!(lines, ["001"]);
 //! # Ok(())
 //! # }
 //! ```
@@ -40,6 +46,7 @@
 
 mod acts;
 mod assignment;
+mod assumption;
 mod builder;
 mod checkpoint;
 #[allow(unsafe_code)]
@@ -55,6 +62,7 @@ pub use acts::{
     Answer, JudgeError, Listed, Matching, Size, Walked,
 };
 pub use assignment::{Assignment, Digits};
+pub use assumption::Assumption;
 pub use builder::{BuildError, FormulaBuilder, Literal};
 pub use checkpoint::{Checkpoint, ParseCheckpointError};
 pub use formula::Formula;

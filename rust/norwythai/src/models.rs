@@ -2,6 +2,7 @@
 
 use crate::acts::{list, Answer};
 use crate::assignment::Assignment;
+use crate::assumption::Assumption;
 use crate::checkpoint::Checkpoint;
 use crate::refusal::Refusal;
 use std::iter::FusedIterator;
@@ -9,9 +10,9 @@ use std::iter::FusedIterator;
 /// The most models that are listed at once. A list call tests its checkpoint, which takes as long as many models.
 const MOST_AT_ONCE: usize = 256;
 
-/// The models of an encoded formula, in the order of the walk. It may be stopped anywhere: its [`checkpoint`](Models::checkpoint)
-/// says where, and [`resume`](Models::resume) goes on from there. After a refusal, which comes first if it comes, and after the
-/// end it gives nothing more.
+/// The models of an encoded formula, in the order of the walk: all, or those that keep some assumptions. It may be stopped anywhere:
+/// its [`checkpoint`](Models::checkpoint) says where, and [`resume`](Models::resume) goes on from there, or under the same assumptions
+/// [`resume_under`](Models::resume_under). After a refusal, which comes first if it comes, and after the end it gives nothing more.
 ///
 /// ```
 /// use norwythai::{Checkpoint, Models};
@@ -28,10 +29,28 @@ const MOST_AT_ONCE: usize = 256;
 /// assert_eq!(rest, [0b10, 0b01, 0b11]);
 /// # Ok::<(), Box<dyn std::error::Error>>(())
 /// ```
+///
+/// With a variable that is known to be true:
+///
+/// ```
+/// use norwythai::{Assumption, Models};
+///
+/// let input = [1, 2, 5];
+/// let known = [Assumption::positive(2)];
+/// let mut models = Models::under(&input, &known);
+/// assert_eq!(models.next().unwrap()?.bits(), 0b10);
+///
+/// // The checkpoint doesn't hold what is assumed: keep that beside it.
+/// let mut rest = Models::resume_under(&input, &known, models.checkpoint());
+/// assert_eq!(rest.next().unwrap()?.bits(), 0b11);
+/// assert!(rest.next().is_none());
+/// # Ok::<(), norwythai::Refusal>(())
+/// ```
 #[must_use = "models are listed only when they are asked for"]
 #[derive(Clone, Debug)]
 pub struct Models<'a> {
     input: &'a [u8],
+    assumptions: Vec<Assumption>,
     /// Where the page begins.
     before: Checkpoint,
     /// Where the page ends: at its last model, or with the walk.
@@ -52,8 +71,23 @@ impl<'a> Models<'a> {
 
     /// The models that come after the checkpoint.
     pub fn resume(input: &'a [u8], checkpoint: Checkpoint) -> Self {
+        Models::resume_under(input, &[], checkpoint)
+    }
+
+    /// The models that keep the assumptions.
+    pub fn under(input: &'a [u8], assumptions: &[Assumption]) -> Self {
+        Models::resume_under(input, assumptions, Checkpoint::start())
+    }
+
+    /// The models that keep the assumptions and come after the checkpoint.
+    pub fn resume_under(
+        input: &'a [u8],
+        assumptions: &[Assumption],
+        checkpoint: Checkpoint,
+    ) -> Self {
         Models {
             input,
+            assumptions: assumptions.to_vec(),
             before: checkpoint,
             after: checkpoint,
             page: Vec::new(),
@@ -69,8 +103,9 @@ impl<'a> Models<'a> {
         }
         // Within the page: go there again.
         let mut checkpoint = self.before;
-        let listed = list(self.input, &mut checkpoint, &mut vec![0; self.given])
-            .expect("this page was listed before");
+        let mut models = vec![0; self.given];
+        let listed = list(self.input, &self.assumptions, &mut checkpoint, &mut models);
+        let listed = listed.expect("this page was listed before");
         debug_assert_eq!(listed.written, self.given);
         checkpoint
     }
@@ -83,7 +118,7 @@ impl<'a> Models<'a> {
         self.last = true;
         self.page.clear();
         let mut page = vec![0; wanted];
-        let listed = list(self.input, &mut self.after, &mut page)?;
+        let listed = list(self.input, &self.assumptions, &mut self.after, &mut page)?;
         page.truncate(listed.written);
         self.page = page;
         self.last = listed.answer == Answer::Ended;

@@ -1,9 +1,10 @@
 //! The C functions as they are, for callers that bring their own buffers.
 //!
-//! Each returns 0 if it has written its results (start: the checkpoint), and 1 if the results are not 6 numbers or the checkpoint
-//! is not 50 bytes: then no byte of any buffer has changed. A refusal is an answer: the function returns 0. The results are the
-//! answer (0 model, yes, matched or written; 1 spent or no; 2 ended; 3 refused), a model, the refusal's number and place, and two
-//! counts; include/norwythai.h has them all.
+//! Each returns 0 if it has written its results (start: the checkpoint), and 1 if the results are not 6 numbers, the checkpoint is
+//! not 50 bytes or the assumptions are an odd number of bytes: then no byte of any buffer has changed. A refusal is an answer: the
+//! function returns 0. The results are the answer (0 model, yes, matched or written; 1 spent or no; 2 ended; 3 refused), a model, the
+//! refusal's number and place, and two counts; include/norwythai.h has them all. Assumptions are two bytes each: the variable, and 0
+//! for false or any other byte for true.
 //!
 //! # Safety
 //!
@@ -27,11 +28,13 @@ extern "C" {
         results_length: usize,
     ) -> u32;
 
-    /// [`judge_into`](crate::judge_into): reads the input; writes the buffer and the results.
+    /// [`judge_into`](crate::judge_into): reads the input and the assumptions; writes the buffer and the results.
     #[must_use = "1 says that nothing was written"]
     pub fn norwythai_judge(
         input: *const u8,
         input_length: usize,
+        assumptions: *const u8,
+        assumptions_length: usize,
         buffer: *mut u8,
         buffer_length: usize,
         results: *mut u64,
@@ -42,11 +45,13 @@ extern "C" {
     #[must_use = "1 says that nothing was written"]
     pub fn norwythai_start(checkpoint: *mut u8, checkpoint_length: usize) -> u32;
 
-    /// [`walk`](crate::walk): reads the input and the checkpoint; writes the checkpoint and the results.
+    /// [`walk`](crate::walk): reads the input, the assumptions and the checkpoint; writes the checkpoint and the results.
     #[must_use = "1 says that nothing was written"]
     pub fn norwythai_walk(
         input: *const u8,
         input_length: usize,
+        assumptions: *const u8,
+        assumptions_length: usize,
         checkpoint: *mut u8,
         checkpoint_length: usize,
         budget: u32,
@@ -54,11 +59,13 @@ extern "C" {
         results_length: usize,
     ) -> u32;
 
-    /// [`list`](crate::list): reads the input and the checkpoint; writes the checkpoint, the models and the results.
+    /// [`list`](crate::list): reads the input, the assumptions and the checkpoint; writes the checkpoint, the models and the results.
     #[must_use = "1 says that nothing was written"]
     pub fn norwythai_list(
         input: *const u8,
         input_length: usize,
+        assumptions: *const u8,
+        assumptions_length: usize,
         checkpoint: *mut u8,
         checkpoint_length: usize,
         models: *mut u64,

@@ -3,7 +3,7 @@
 use std::error::Error;
 use std::fmt;
 
-/// Why an act is refused. Each case has a number, 1 to 15, and a place.
+/// Why an act is refused. Each case has a number, 1 to 16, and a place.
 ///
 /// A place is an offset, counted from 0, in the encoded formula or in the DIMACS text that the act was given, where the case says
 /// nothing else. The sentences that a refusal displays speak of sheets, rules, switches, set-ups and markers, as clubs do.
@@ -61,12 +61,13 @@ pub enum Refusal {
         /// That byte.
         place: usize,
     },
-    /// 10: the clauses can't be matched with variables.
+    /// 10: what remains of the clauses can't be matched with variables.
     Unmatched {
-        /// The number of the violator's clauses, which is the refusal's place. They name one variable fewer.
+        /// The number of the violator's clauses, which is the refusal's place. They name one variable fewer, assumed ones not
+        /// counted.
         clauses: usize,
     },
-    /// 11: the walk of this formula never has this checkpoint.
+    /// 11: the walk of this formula under these assumptions never has this checkpoint.
     ForeignCheckpoint,
     /// 12: the assignment has a variable true that the formula doesn't have.
     StrayVariable {
@@ -87,6 +88,11 @@ pub enum Refusal {
     ClauseCountDiffers {
         /// The first byte of the number of clauses in the p line.
         place: usize,
+    },
+    /// 16: an assumption's variable is 0 or above the number of variables, or an earlier one has assumed it, with either value.
+    BadAssumption {
+        /// The index of the first such assumption, counted from 0, which is the refusal's place.
+        index: usize,
     },
 }
 
@@ -109,11 +115,12 @@ impl Refusal {
             (13, place) => Refusal::BadOpening { place },
             (14, place) => Refusal::BadWord { place },
             (15, place) => Refusal::ClauseCountDiffers { place },
+            (16, index) => Refusal::BadAssumption { index },
             _ => return None,
         })
     }
 
-    /// Its number, 1 to 15.
+    /// Its number, 1 to 16.
     pub fn number(&self) -> u8 {
         match self {
             Refusal::ShortBuffer => 1,
@@ -131,6 +138,7 @@ impl Refusal {
             Refusal::BadOpening { .. } => 13,
             Refusal::BadWord { .. } => 14,
             Refusal::ClauseCountDiffers { .. } => 15,
+            Refusal::BadAssumption { .. } => 16,
         }
     }
 
@@ -150,6 +158,7 @@ impl Refusal {
             | Refusal::BadWord { place }
             | Refusal::ClauseCountDiffers { place } => place,
             Refusal::Unmatched { clauses } => clauses,
+            Refusal::BadAssumption { index } => index,
             Refusal::ShortBuffer | Refusal::ForeignCheckpoint => 0,
         }
     }
@@ -193,16 +202,16 @@ impl fmt::Display for Refusal {
             ),
             Refusal::Unmatched { clauses: 1 } => write!(
                 f,
-                "the rules can't be paired with switches: a rule names no switch"
+                "the rules can't be paired with switches: a rule names no switch, fixed ones not counted"
             ),
             Refusal::Unmatched { clauses } => write!(
                 f,
-                "the rules can't be paired with switches: {clauses} of them name only {} altogether",
+                "the rules can't be paired with switches: {clauses} of them name only {} altogether, fixed ones not counted",
                 clauses.saturating_sub(1)
             ),
             Refusal::ForeignCheckpoint => write!(
                 f,
-                "the marker belongs to another sheet, or was changed: the walk of this sheet never has it"
+                "the marker belongs to another sheet or to other fixed settings, or was changed: this walk never has it"
             ),
             Refusal::StrayVariable { .. } => {
                 write!(f, "the set-up has a switch on that the kit doesn't have")
@@ -219,6 +228,10 @@ impl fmt::Display for Refusal {
             Refusal::ClauseCountDiffers { place } => write!(
                 f,
                 "the text has more or fewer rules than its p line says, at byte {place} (counted from 0)"
+            ),
+            Refusal::BadAssumption { index } => write!(
+                f,
+                "fixed setting {index} (counted from 0) is of a switch that the kit doesn't have, or that is fixed before it"
             ),
         }
     }
