@@ -18,6 +18,9 @@ enum { PAGE_MOST = 1000 };
 /* What stands where in the results. */
 enum { ANSWER = 0, NUMBER = 2, PLACE = 3, VARIABLES = 4, WRITTEN = 4 };
 
+/* No assumptions: an address of no bytes, since the library takes no null pointer. */
+static const uint8_t NOTHING[1] = {0};
+
 static int fail(const char *why) {
     fprintf(stderr, "pages: %s\n", why);
     return EXIT_FAILURE;
@@ -73,7 +76,7 @@ static int print_pages(const uint8_t *input, size_t length, size_t size) {
     uint64_t results[NORWYTHAI_RESULTS];
 
     /* Whether the formula is matched, and how many variables it has. */
-    if (norwythai_judge(input, length, buffer, NORWYTHAI_BUFFER, results, NORWYTHAI_RESULTS) != 0) {
+    if (norwythai_judge(input, length, NOTHING, 0, buffer, NORWYTHAI_BUFFER, results, NORWYTHAI_RESULTS) != 0) {
         return fail("an array has the wrong length");
     }
     if (results[ANSWER] != NORWYTHAI_MATCHED) {
@@ -86,7 +89,8 @@ static int print_pages(const uint8_t *input, size_t length, size_t size) {
     }
     for (unsigned long page = 1;; page++) {
         /* The checkpoint is all that goes from one page to the next: it may be kept, sent and brought back in between. */
-        if (norwythai_list(input, length, checkpoint, NORWYTHAI_CHECKPOINT, models, size, results, NORWYTHAI_RESULTS) != 0) {
+        if (norwythai_list(input, length, NOTHING, 0, checkpoint, NORWYTHAI_CHECKPOINT, models, size, results,
+                           NORWYTHAI_RESULTS) != 0) {
             return fail("an array has the wrong length");
         }
         if (results[ANSWER] == NORWYTHAI_REFUSED) {

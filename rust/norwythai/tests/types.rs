@@ -1,8 +1,8 @@
 //! The crate's own types: texts, errors and the builder.
 
 use norwythai::{
-    check, from_dimacs, judge, to_dimacs, Assignment, BuildError, Checkpoint, Formula,
-    FormulaBuilder, JudgeError, Literal, ParseCheckpointError, Refusal, FORMULA_BUFFER,
+    check, from_dimacs, judge, to_dimacs, Answer, Assignment, Assumption, BuildError, Checkpoint,
+    Formula, FormulaBuilder, JudgeError, Literal, ParseCheckpointError, Refusal, FORMULA_BUFFER,
     TEXT_BUFFER,
 };
 
@@ -52,7 +52,7 @@ fn other_texts_are_no_checkpoints() {
 #[test]
 fn refusals_have_numbers_places_and_sentences() {
     let mut sentences = Vec::new();
-    for number in 1..=15 {
+    for number in 1..=16 {
         let place = if matches!(number, 1 | 11) { 0 } else { 31 };
         let refusal = Refusal::from_parts(number, place).unwrap();
         assert_eq!(
@@ -67,25 +67,90 @@ fn refusals_have_numbers_places_and_sentences() {
         sentences.push(sentence);
     }
     assert_eq!(Refusal::from_parts(0, 0), None);
-    assert_eq!(Refusal::from_parts(16, 0), None);
+    assert_eq!(Refusal::from_parts(17, 0), None);
     assert_eq!(Refusal::from_parts(1, 1), None);
     assert_eq!(Refusal::from_parts(11, 1), None);
 }
 
 #[test]
 fn sentences_name_the_rules_that_cannot_be_paired() {
-    let error = judge(&[1, 2, 2, 1, 4, 2, 2, 4, 3, 2, 4, 5]).unwrap_err();
+    let error = judge(&[1, 2, 2, 1, 4, 2, 2, 4, 3, 2, 4, 5], &[]).unwrap_err();
     assert_eq!(
         error.to_string(),
-        "the rules can't be paired with switches: 2 of them name only 1 altogether (rules 2, 3)"
+        "the rules can't be paired with switches: 2 of them name only 1 altogether, fixed ones not counted (rules 2, 3)"
     );
-    let error = judge(&[1, 1, 4, 5]).unwrap_err();
+    let error = judge(&[1, 1, 4, 5], &[]).unwrap_err();
     assert_eq!(
         error.to_string(),
-        "the rules can't be paired with switches: a rule names no switch (rule 1)"
+        "the rules can't be paired with switches: a rule names no switch, fixed ones not counted (rule 1)"
     );
-    let error = judge(&[]).unwrap_err();
+    let error = judge(&[], &[]).unwrap_err();
     assert_eq!(error, JudgeError::Refused(Refusal::Truncated { place: 0 }));
+}
+
+#[test]
+fn assumptions_are_literals() {
+    let assumption = Assumption {
+        variable: 7,
+        value: false,
+    };
+    assert_eq!(Assumption::negative(7), assumption);
+    assert_eq!(Assumption::from(Literal::negative(7)), assumption);
+    assert_eq!(
+        Assumption::positive(7),
+        Assumption::from(Literal::positive(7))
+    );
+}
+
+#[test]
+fn every_act_of_a_formula_takes_assumptions() {
+    // Of three switches, 1 or 2 is on, and 1 or 3.
+    let formula = Formula::from_dimacs(b"p cnf 3 2\n1 2 0\n1 3 0\n").unwrap();
+    let off = [Assumption::negative(1)];
+    assert_eq!(formula.judge(&off).unwrap().matched(), [2, 3]);
+    assert_eq!(
+        formula.judge(&[Assumption::positive(1)]).unwrap().matched(),
+        [0, 0]
+    );
+
+    let only = Assignment::from_bits(0b110);
+    let mut checkpoint = Checkpoint::start();
+    let walked = formula.walk(&off, &mut checkpoint, 96).unwrap();
+    assert_eq!((walked.answer, walked.steps), (Answer::Model(only), 2));
+    let mut models = [0; 2];
+    let mut from = Checkpoint::start();
+    let listed = formula.list(&off, &mut from, &mut models).unwrap();
+    assert_eq!((listed.answer, listed.written), (Answer::Ended, 1));
+    assert_eq!(models, [0b110, 0]);
+
+    assert!(formula.models_under(&off).eq([Ok(only)]));
+    assert_eq!(formula.models_under_from(&off, checkpoint).count(), 0);
+    assert_eq!(formula.models_under(&[]).count(), formula.models().count());
+    // No trail has an assumed variable.
+    let other = [Assumption::positive(3)];
+    let refusal = formula.models_under_from(&other, checkpoint).next();
+    assert_eq!(refusal, Some(Err(Refusal::ForeignCheckpoint)));
+}
+
+#[test]
+fn a_bad_assumption_has_its_index() {
+    let formula = Formula::from(vec![1, 2, 5]);
+    let (first, second) = (Assumption::positive(1), Assumption::negative(2));
+    let bad = [0, 1, 2, 3, 255].map(Assumption::positive);
+    for again in bad {
+        let list = [first, second, again];
+        let refusal = Refusal::BadAssumption { index: 2 };
+        let judged = formula.judge(&list).unwrap_err();
+        assert_eq!(judged, JudgeError::Refused(refusal));
+        let mut checkpoint = Checkpoint::from_bytes([9; 50]);
+        assert_eq!(formula.walk(&list, &mut checkpoint, 1), Err(refusal));
+        assert_eq!(formula.list(&list, &mut checkpoint, &mut []), Err(refusal));
+        assert_eq!(checkpoint.as_bytes(), &[9; 50]);
+        assert_eq!(
+            refusal.to_string(),
+            "fixed setting 2 (counted from 0) is of a switch that the kit doesn't have, or that is fixed before it"
+        );
+    }
 }
 
 #[test]
@@ -180,7 +245,7 @@ fn a_literal_that_comes_again_is_written_once() {
 fn a_literal_that_comes_again_is_read_and_counts_once() {
     let once = Formula::from(vec![1, 2, 3, 2, 2, 1, 4, 5]);
     let again = Formula::from(vec![1, 2, 3, 2, 3, 2, 2, 1, 3, 2, 4, 5]);
-    assert_eq!(again.judge(), once.judge());
+    assert_eq!(again.judge(&[]), once.judge(&[]));
     assert_eq!(again.check(Assignment::from_bits(0b10)), Ok(false));
     assert_eq!(again.check(Assignment::from_bits(0b11)), Ok(true));
     assert!(again.models().eq(once.models()));

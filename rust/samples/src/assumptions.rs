@@ -66,17 +66,31 @@ fn put_bad(random: &mut Random, list: &mut Vec<Assumption>, variables: usize) {
     list.insert(at, (variable, random.percent(50)));
 }
 
+/// Values that make clauses true, as many as it takes for all or nearly so.
+fn some_covering(random: &mut Random, input: &[u8]) -> Vec<Assumption> {
+    let mut values = some_satisfying(random, input);
+    let without = random.below(values.len().min(3) + 1);
+    values.truncate(values.len() - without);
+    values
+}
+
 /// Assumptions of some, most or all variables, at times with bad ones among them.
 pub fn some_assumptions(random: &mut Random, input: &[u8]) -> Vec<Assumption> {
     let variables = variables_of(input);
-    let count = match random.below(12) {
-        0..=5 => random.between(1, variables.min(4)),
-        6 | 7 => random.between(1, variables),
-        8 => variables - 1,
-        9 | 10 => variables,
-        _ => 0,
+    let mut list = match random.below(16) {
+        0..=6 => {
+            let count = random.between(1, variables.min(4));
+            some_good(random, input, count)
+        }
+        7 | 8 => {
+            let count = random.between(1, variables);
+            some_good(random, input, count)
+        }
+        9 => some_good(random, input, variables - 1),
+        10 | 11 => some_good(random, input, variables),
+        12..=14 => some_covering(random, input),
+        _ => Vec::new(),
     };
-    let mut list = some_good(random, input, count);
     if random.percent(20) {
         for _ in 0..random.between(1, 2) {
             put_bad(random, &mut list, variables);

@@ -145,6 +145,29 @@ pub fn some_matched_formula(random: &mut Random, is_matched: fn(&[u8]) -> bool) 
     }
 }
 
+/// More clauses than variables, so that they are unmatched, each with a literal of one of a few variables that stand with one sign only:
+/// assumptions of these satisfy all.
+fn covered_parts(random: &mut Random) -> (usize, Clauses) {
+    let n = some_variables(random);
+    let few = random.between(1, n.min(5));
+    let variables = random.some_of(n, n);
+    let (cover, others) = variables.split_at(few);
+    let cover: Vec<i8> = cover.iter().map(|v| random.signed(*v)).collect();
+    let count = random.between(n + 1, 96);
+    let clauses = (0..count).map(|_| {
+        let mut clause = vec![random.pick(&cover)];
+        for _ in 0..random.below(4).min(others.len()) {
+            let variable = random.pick(others);
+            let literal = random.signed(variable);
+            if !clause.contains(&-literal) {
+                clause.push(literal);
+            }
+        }
+        clause
+    });
+    (n, clauses.collect())
+}
+
 /// 96 or 97 clauses, or a number of variables at a limit or past it.
 pub(crate) fn parts_at_a_limit(random: &mut Random) -> (usize, Clauses) {
     let n = random.pick(&[1, 2, 48]);
@@ -210,12 +233,13 @@ fn noise(random: &mut Random) -> Vec<u8> {
 
 /// Any input: most are matched formulas, as the caller finds out.
 pub fn some_input(random: &mut Random, is_matched: fn(&[u8]) -> bool) -> Vec<u8> {
-    match random.below(20) {
+    match random.below(21) {
         0..=11 => some_matched_formula(random, is_matched),
         12 | 13 => some_formula(random),
         14 => encode_parts(contradictory_parts(random)),
         15 | 16 => damaged(random),
         17 | 18 => encode_parts(parts_at_a_limit(random)),
+        19 => encode_parts(covered_parts(random)),
         _ => noise(random),
     }
 }

@@ -1,5 +1,6 @@
 //! Each act, through the crate and through its C function, compared with the reference.
 
+use crate::assumed::Assumed;
 use crate::raw;
 use crate::tally::{Conversions, Tally};
 use norwythai::{Answer, Checkpoint, JudgeError, Refusal};
@@ -57,51 +58,58 @@ pub fn compare_check(tally: &mut Tally, input: &[u8], assignment: u64) {
     match expected {
         Ok(true) => tally.yes += 1,
         Ok(false) => tally.no += 1,
-        Err(refusal) => tally.refused(refusal),
+        Err(refusal) => tally.refused(&Assumed::default(), refusal),
     }
 }
 
-pub fn compare_judge(tally: &mut Tally, input: &[u8], length: usize, fill: u8) {
+pub fn compare_judge(tally: &mut Tally, input: &[u8], assumed: &Assumed, length: usize, fill: u8) {
+    let context = || format!("{input:02x?} {:?}", assumed.bytes);
     let mut expected_buffer = vec![fill; length];
-    let expected = reference::judge(input, &mut expected_buffer);
+    let expected = reference::judge(input, &assumed.reference, &mut expected_buffer);
     let mut buffer = vec![fill; length];
-    let found = norwythai::judge_into(input, &mut buffer);
+    let found = norwythai::judge_into(input, &assumed.list, &mut buffer);
     assert_eq!(
         found.map(|size| (usize::from(size.variables), size.clauses)),
         expected
             .map(|size| (size.variables, size.clauses))
             .map_err(refusal_of),
-        "{input:02x?}"
+        "{}",
+        context()
     );
-    assert_eq!(buffer, expected_buffer, "{input:02x?}");
+    assert_eq!(buffer, expected_buffer, "{}", context());
 
     let mut buffer = vec![fill; length];
     let mut results = [UNWRITTEN; 6];
-    assert_eq!(raw::judge(input, &mut buffer, &mut results), 0);
-    assert_eq!(buffer, expected_buffer, "{input:02x?}");
+    let returned = raw::judge(input, &assumed.bytes, &mut buffer, &mut results);
+    assert_eq!(returned, 0);
+    assert_eq!(buffer, expected_buffer, "{}", context());
     let expected_results = match expected {
         Ok(size) => [0, 0, 0, 0, size.variables as u64, size.clauses as u64],
         Err(refusal) => refused_results(refusal),
     };
-    assert_eq!(results, expected_results, "{input:02x?}");
+    assert_eq!(results, expected_results, "{}", context());
 
     if length >= 96 {
-        compare_owned_judge(input, expected, &expected_buffer);
+        compare_owned_judge(input, assumed, expected, &expected_buffer);
     }
     tally.judges += 1;
     match expected {
         Ok(_) => tally.matched += 1,
-        Err(refusal) => tally.refused(refusal),
+        Err(refusal) => tally.refused(assumed, refusal),
     }
+    tally
+        .assuming
+        .judged(input, assumed, expected, &expected_buffer);
 }
 
 /// The form of judge that lends its own buffer.
 fn compare_owned_judge(
     input: &[u8],
+    assumed: &Assumed,
     expected: Result<reference::Size, reference::Refusal>,
     buffer: &[u8],
 ) {
-    match (norwythai::judge(input), expected) {
+    match (norwythai::judge(input, &assumed.list), expected) {
         (Ok(matching), Ok(size)) => {
             assert_eq!(usize::from(matching.variables()), size.variables);
             assert_eq!(matching.matched(), &buffer[..size.clauses], "{input:02x?}");
@@ -121,14 +129,16 @@ fn compare_owned_judge(
 pub fn compare_walk(
     tally: &mut Tally,
     input: &[u8],
+    assumed: &Assumed,
     given: &reference::Checkpoint,
     budget: u32,
 ) -> Option<reference::Checkpoint> {
-    let expected = reference::walk(input, given, budget);
+    let context = || format!("{input:02x?} {:?} {given:02x?} {budget}", assumed.bytes);
+    let expected = reference::walk(input, &assumed.reference, given, budget);
     let returned = expected.map_or(*given, |walked| walked.checkpoint);
 
     let mut checkpoint = Checkpoint::from_bytes(*given);
-    let found = norwythai::walk(input, &mut checkpoint, budget);
+    let found = norwythai::walk(input, &assumed.list, &mut checkpoint, budget);
     assert_eq!(
         found.map(|walked| (walked.answer, walked.steps, walked.expansions)),
         expected
@@ -139,30 +149,31 @@ pub fn compare_walk(
                 progress.expansions
             ))
             .map_err(refusal_of),
-        "{input:02x?} {given:02x?} {budget}"
+        "{}",
+        context()
     );
-    assert_eq!(
-        checkpoint.as_bytes(),
-        &returned,
-        "{input:02x?} {given:02x?} {budget}"
-    );
+    assert_eq!(checkpoint.as_bytes(), &returned, "{}", context());
 
     let mut bytes = *given;
     let mut results = [UNWRITTEN; 6];
-    assert_eq!(raw::walk(input, &mut bytes, budget, &mut results), 0);
-    assert_eq!(bytes, returned, "{input:02x?} {given:02x?} {budget}");
+    assert_eq!(
+        raw::walk(input, &assumed.bytes, &mut bytes, budget, &mut results),
+        0
+    );
+    assert_eq!(bytes, returned, "{}", context());
     let expected_results = match expected {
         Ok(reference::Walked { progress, .. }) => {
             answer_results(progress.answer, progress.steps.into(), progress.expansions)
         }
         Err(refusal) => refused_results(refusal),
     };
-    assert_eq!(
-        results, expected_results,
-        "{input:02x?} {given:02x?} {budget}"
-    );
+    assert_eq!(results, expected_results, "{}", context());
 
     tally.walks += 1;
+    let progress = expected.map(|walked| walked.progress);
+    tally
+        .assuming
+        .walked(input, assumed, given, budget, progress);
     match expected {
         Ok(reference::Walked { progress, .. }) => {
             tally.answered(progress.answer);
@@ -170,7 +181,7 @@ pub fn compare_walk(
             Some(returned)
         }
         Err(refusal) => {
-            tally.refused(refusal);
+            tally.refused(assumed, refusal);
             None
         }
     }
@@ -182,15 +193,23 @@ pub fn compare_chain(
     tally: &mut Tally,
     random: &mut Random,
     input: &[u8],
+    assumed: &Assumed,
 ) -> Vec<reference::Checkpoint> {
     let formula = reference::decode(input).unwrap();
-    let mut walker = reference::Walker::start(&formula).unwrap();
+    let mut walker = reference::Walker::start(&formula, &assumed.reference).unwrap();
     let mut checkpoint = Checkpoint::start();
     let mut pool = vec![*checkpoint.as_bytes()];
-    for _ in 0..random.between(1, 16) {
+    for _ in 0..random.between(1, 12) {
         let budget = some_budget(random);
         let expected = walker.advance(budget);
-        let found = norwythai::walk(input, &mut checkpoint, budget).unwrap();
+        let found = norwythai::walk(input, &assumed.list, &mut checkpoint, budget).unwrap();
+        let context = || {
+            format!(
+                "{input:02x?} {:?} {:02x?} {budget}",
+                assumed.bytes,
+                pool.last()
+            )
+        };
         assert_eq!(
             (found.answer, found.steps, found.expansions),
             (
@@ -198,14 +217,10 @@ pub fn compare_chain(
                 expected.steps,
                 expected.expansions
             ),
-            "{input:02x?} {:02x?} {budget}",
-            pool.last()
+            "{}",
+            context()
         );
-        assert_eq!(
-            checkpoint.as_bytes(),
-            &walker.checkpoint(),
-            "{input:02x?} {budget}"
-        );
+        assert_eq!(checkpoint.as_bytes(), &walker.checkpoint(), "{}", context());
         pool.push(*checkpoint.as_bytes());
         tally.chain_calls += 1;
         tally.answered(expected.answer);
@@ -217,60 +232,54 @@ pub fn compare_chain(
 pub fn compare_list(
     tally: &mut Tally,
     input: &[u8],
+    assumed: &Assumed,
     given: &reference::Checkpoint,
     length: usize,
 ) -> Option<reference::Checkpoint> {
+    let context = || format!("{input:02x?} {:?} {given:02x?} {length}", assumed.bytes);
     let mut expected_models = vec![UNWRITTEN; length];
-    let expected = reference::list(input, given, &mut expected_models);
+    let expected = reference::list(input, &assumed.reference, given, &mut expected_models);
     let returned = expected.map_or(*given, |listed| listed.checkpoint);
 
     let mut checkpoint = Checkpoint::from_bytes(*given);
     let mut models = vec![UNWRITTEN; length];
-    let found = norwythai::list(input, &mut checkpoint, &mut models);
+    let found = norwythai::list(input, &assumed.list, &mut checkpoint, &mut models);
     assert_eq!(
         found.map(|listed| (listed.answer, listed.written)),
         expected
             .map(|listed| (answer_of(listed.answer), listed.written))
             .map_err(refusal_of),
-        "{input:02x?} {given:02x?} {length}"
+        "{}",
+        context()
     );
-    assert_eq!(
-        models, expected_models,
-        "{input:02x?} {given:02x?} {length}"
-    );
-    assert_eq!(
-        checkpoint.as_bytes(),
-        &returned,
-        "{input:02x?} {given:02x?} {length}"
-    );
+    assert_eq!(models, expected_models, "{}", context());
+    assert_eq!(checkpoint.as_bytes(), &returned, "{}", context());
 
     let mut bytes = *given;
     let mut models = vec![UNWRITTEN; length];
     let mut results = [UNWRITTEN; 6];
-    assert_eq!(raw::list(input, &mut bytes, &mut models, &mut results), 0);
     assert_eq!(
-        models, expected_models,
-        "{input:02x?} {given:02x?} {length}"
+        raw::list(input, &assumed.bytes, &mut bytes, &mut models, &mut results),
+        0
     );
-    assert_eq!(bytes, returned, "{input:02x?} {given:02x?} {length}");
+    assert_eq!(models, expected_models, "{}", context());
+    assert_eq!(bytes, returned, "{}", context());
     let expected_results = match expected {
         Ok(listed) => answer_results(listed.answer, listed.written as u64, 0),
         Err(refusal) => refused_results(refusal),
     };
-    assert_eq!(
-        results, expected_results,
-        "{input:02x?} {given:02x?} {length}"
-    );
+    assert_eq!(results, expected_results, "{}", context());
 
     tally.lists += 1;
     match expected {
         Ok(listed) => {
             tally.answered(listed.answer);
             tally.listed += listed.written;
+            tally.assuming.listed(input, assumed, given, length, listed);
             Some(returned)
         }
         Err(refusal) => {
-            tally.refused(refusal);
+            tally.refused(assumed, refusal);
             None
         }
     }
@@ -373,32 +382,48 @@ pub fn compare_round_trip(tally: &mut Tally, input: &[u8]) {
     tally.round_trips += 1;
 }
 
+/// Judge with arrays of which one has a wrong length: it returns 1 and writes nothing.
+fn reject_judge(input: &[u8], assumptions: &[u8], fill: u8, results_length: usize) {
+    let mut buffer = [fill; 100];
+    let mut results = vec![UNWRITTEN; results_length];
+    let returned = raw::judge(input, assumptions, &mut buffer, &mut results);
+    assert_eq!((returned, buffer), (1, [fill; 100]));
+    assert_eq!(results, vec![UNWRITTEN; results_length]);
+}
+
+/// Walk and list likewise.
+fn reject_walks(input: &[u8], assumptions: &[u8], given: &[u8], results_length: usize) {
+    let mut checkpoint = given.to_vec();
+    let mut results = vec![UNWRITTEN; results_length];
+    let returned = raw::walk(input, assumptions, &mut checkpoint, 96, &mut results);
+    assert_eq!((returned, &checkpoint[..]), (1, given));
+    assert_eq!(results, vec![UNWRITTEN; results_length]);
+
+    let mut models = [UNWRITTEN; 3];
+    let returned = raw::list(
+        input,
+        assumptions,
+        &mut checkpoint,
+        &mut models,
+        &mut results,
+    );
+    assert_eq!((returned, &checkpoint[..]), (1, given));
+    assert_eq!(results, vec![UNWRITTEN; results_length]);
+    assert_eq!(models, [UNWRITTEN; 3]);
+}
+
 /// The C functions with arrays of wrong lengths: they return 1 and write nothing.
 pub fn compare_wrong_lengths(tally: &mut Tally, random: &mut Random, input: &[u8]) {
     let fill = random.byte();
     let good = reference::start_checkpoint();
+    let assumptions = Assumed::some(random, input).bytes;
     for results_length in [0, 1, 5, 7, 12, random.below(6)] {
         let unwritten = vec![UNWRITTEN; results_length];
         let mut results = unwritten.clone();
         assert_eq!(raw::check(input, 0, &mut results), 1);
         assert_eq!(results, unwritten);
-
-        let mut buffer = [fill; 100];
-        assert_eq!(raw::judge(input, &mut buffer, &mut results), 1);
-        assert_eq!((&results, buffer), (&unwritten, [fill; 100]));
-
-        let mut checkpoint = good;
-        assert_eq!(raw::walk(input, &mut checkpoint, 96, &mut results), 1);
-        assert_eq!((&results, checkpoint), (&unwritten, good));
-
-        let mut models = [UNWRITTEN; 3];
-        assert_eq!(
-            raw::list(input, &mut checkpoint, &mut models, &mut results),
-            1
-        );
-        assert_eq!((&results, checkpoint), (&unwritten, good));
-        assert_eq!(models, [UNWRITTEN; 3]);
-
+        reject_judge(input, &assumptions, fill, results_length);
+        reject_walks(input, &assumptions, &good, results_length);
         FROM_DIMACS.compare_wrong_length(b"p cnf 2 1\n1 0\n", fill, &unwritten);
         TO_DIMACS.compare_wrong_length(input, fill, &unwritten);
         tally.wrong_lengths += 6;
@@ -408,18 +433,14 @@ pub fn compare_wrong_lengths(tally: &mut Tally, random: &mut Random, input: &[u8
         let mut checkpoint = given.clone();
         assert_eq!(raw::start(&mut checkpoint), 1);
         assert_eq!(checkpoint, given);
-
-        let mut results = [UNWRITTEN; 6];
-        assert_eq!(raw::walk(input, &mut checkpoint, 96, &mut results), 1);
-        assert_eq!((results, &checkpoint), ([UNWRITTEN; 6], &given));
-
-        let mut models = [UNWRITTEN; 3];
-        assert_eq!(
-            raw::list(input, &mut checkpoint, &mut models, &mut results),
-            1
-        );
-        assert_eq!((results, &checkpoint), ([UNWRITTEN; 6], &given));
-        assert_eq!(models, [UNWRITTEN; 3]);
+        reject_walks(input, &assumptions, &given, 6);
         tally.wrong_lengths += 3;
+    }
+    // An assumption without its value, behind good or bad ones.
+    for odd in [&assumptions[..], &[], &[1, 1], &[0; 100]] {
+        let odd = [odd, &[random.below(3) as u8]].concat();
+        reject_judge(input, &odd, fill, 6);
+        reject_walks(input, &odd, &good, 6);
+        tally.odd_lengths += 3;
     }
 }

@@ -3,6 +3,7 @@
 //! The inputs are the same in every run. NORWYTHAI_CALLS is how many calls are made, at least 100,000.
 
 mod acts;
+mod assumed;
 mod raw;
 mod tally;
 
@@ -10,7 +11,8 @@ use acts::{
     answer_of, compare_chain, compare_check, compare_judge, compare_list, compare_round_trip,
     compare_start, compare_walk, compare_wrong_lengths, FROM_DIMACS, TO_DIMACS,
 };
-use norwythai::{Answer, Checkpoint, Models, Refusal};
+use assumed::Assumed;
+use norwythai::{Answer, Assumption, Checkpoint, Models, Refusal};
 use norwythai_reference as reference;
 use norwythai_samples::{
     some_assignment, some_budget, some_checkpoint, some_input, some_matched_formula, some_text,
@@ -20,40 +22,69 @@ use tally::Tally;
 
 const FEWEST_CALLS: usize = 100_000;
 
-fn is_matched(input: &[u8]) -> bool {
-    reference::judge(input, &mut [0; 96]).is_ok()
+fn is_matched_under(input: &[u8], assumptions: &[reference::Assumption]) -> bool {
+    reference::judge(input, assumptions, &mut [0; 96]).is_ok()
 }
 
-/// All acts on one input, with checkpoints of its own walk and, at times, those of the walk before.
+fn is_matched(input: &[u8]) -> bool {
+    is_matched_under(input, &[])
+}
+
+/// Judge, walk and list on one input under assumptions, with checkpoints of their own walk and, at times, those of a walk of another
+/// input or under another list.
+fn compare_assuming(
+    tally: &mut Tally,
+    random: &mut Random,
+    input: &[u8],
+    assumed: &Assumed,
+    others: &[reference::Checkpoint],
+) -> Vec<reference::Checkpoint> {
+    for _ in 0..3 {
+        let length = random.pick(&[0, 1, 95, 96, 96, 96, 96, 97, 200]);
+        let fill = random.byte();
+        compare_judge(tally, input, assumed, length, fill);
+    }
+    let mut pool = Vec::new();
+    if is_matched_under(input, &assumed.reference) {
+        pool = compare_chain(tally, random, input, assumed);
+        for _ in 0..others.len().min(3) {
+            let given = random.pick(others);
+            let taken = compare_walk(tally, input, assumed, &given, some_budget(random));
+            tally.assuming.walked_on(assumed, &given, taken.is_some());
+        }
+    }
+    for _ in 0..10 {
+        let given = some_checkpoint(random, &pool);
+        let budget = some_budget(random);
+        pool.extend(compare_walk(tally, input, assumed, &given, budget));
+    }
+    for call in 0..4 {
+        let given = if call < 2 {
+            reference::start_checkpoint()
+        } else {
+            some_checkpoint(random, &pool)
+        };
+        let length = random.pick(&[0, 1, 2, 3, 10, 40]);
+        pool.extend(compare_list(tally, input, assumed, &given, length));
+    }
+    pool
+}
+
+/// All acts on one input, without assumptions and under two lists. Gives the checkpoints of the walk without.
 fn compare_input(
     tally: &mut Tally,
     random: &mut Random,
     input: &[u8],
     others: &[reference::Checkpoint],
 ) -> Vec<reference::Checkpoint> {
-    for _ in 0..8 {
+    for _ in 0..12 {
         let assignment = some_assignment(random, input);
         compare_check(tally, input, assignment);
     }
-    for _ in 0..4 {
-        let length = random.pick(&[0, 1, 95, 96, 96, 96, 96, 97, 200]);
-        let fill = random.byte();
-        compare_judge(tally, input, length, fill);
-    }
-    let mut pool = Vec::new();
-    if is_matched(input) {
-        pool = compare_chain(tally, random, input);
-    }
-    for _ in 0..16 {
-        let known = if random.percent(5) { others } else { &pool };
-        let given = some_checkpoint(random, known);
-        let budget = some_budget(random);
-        pool.extend(compare_walk(tally, input, &given, budget));
-    }
-    for _ in 0..4 {
-        let given = some_checkpoint(random, &pool);
-        let length = random.pick(&[0, 1, 2, 3, 10, 40]);
-        pool.extend(compare_list(tally, input, &given, length));
+    let pool = compare_assuming(tally, random, input, &Assumed::default(), others);
+    for _ in 0..2 {
+        let assumed = Assumed::some(random, input);
+        compare_assuming(tally, random, input, &assumed, &pool);
     }
     pool
 }
@@ -102,29 +133,43 @@ fn every_act_answers_as_the_reference() {
     tally.require_enough();
 }
 
-/// The models by a trial of all assignments.
-fn all_models(input: &[u8]) -> Vec<u64> {
+/// The models that keep the assumptions, by a trial of all assignments.
+fn all_models(input: &[u8], assumed: &Assumed) -> Vec<u64> {
     let formula = reference::decode(input).unwrap();
     (0..1 << formula.variables())
-        .filter(|assignment| formula.is_model(*assignment))
+        .filter(|assignment| formula.is_model(*assignment) && assumed.kept_by(*assignment))
         .collect()
+}
+
+/// A list under which the formula is matched; often the empty one.
+fn some_accepted(random: &mut Random, input: &[u8]) -> Assumed {
+    let assumed = Assumed::some(random, input);
+    if is_matched_under(input, &assumed.reference) {
+        assumed
+    } else {
+        Assumed::default()
+    }
 }
 
 #[test]
 fn list_and_models_give_exactly_all_models() {
     let mut random = Random::new(1);
     let (mut formulas, mut models, mut resumed) = (0, 0, 0);
-    while formulas < 400 {
+    // Lists under assumptions, and those of them where nothing is left to assign.
+    let (mut assuming, mut full) = (0, 0);
+    while formulas < 800 {
         let input = some_matched_formula(&mut random, is_matched);
         if input[1] > 10 {
             continue;
         }
-        let all = all_models(&input);
+        let assumed = some_accepted(&mut random, &input);
+        let all = all_models(&input, &assumed);
 
         let mut page = vec![0; 1 << input[1]];
         let length = all.len() + random.below(page.len() - all.len() + 1);
         let mut checkpoint = Checkpoint::start();
-        let listed = norwythai::list(&input, &mut checkpoint, &mut page[..length]).unwrap();
+        let room = &mut page[..length];
+        let listed = norwythai::list(&input, &assumed.list, &mut checkpoint, room).unwrap();
         assert_eq!(listed.written, all.len(), "{input:02x?}");
         let listing = page[..listed.written].to_vec();
         page.truncate(listed.written);
@@ -133,24 +178,46 @@ fn list_and_models_give_exactly_all_models() {
 
         // The iterator, stopped now and then, kept as text and taken up again.
         let mut found = Vec::new();
-        let mut walk = Models::new(&input);
+        let mut walk = Models::under(&input, &assumed.list);
         while let Some(model) = walk.next() {
             found.push(model.unwrap().bits());
             if random.percent(20) {
                 let text = walk.checkpoint().to_string();
-                walk = Models::resume(&input, text.parse().unwrap());
+                walk = Models::resume_under(&input, &assumed.list, text.parse().unwrap());
                 resumed += 1;
             }
         }
         assert_eq!(found, listing, "{input:02x?}");
         assert!(walk.next().is_none());
         assert_eq!(walk.checkpoint().as_bytes()[0], 4, "{input:02x?}");
-        assert_eq!(Models::resume(&input, walk.checkpoint()).count(), 0);
+        let mut ended = Models::resume_under(&input, &assumed.list, walk.checkpoint());
+        assert!(ended.next().is_none());
         formulas += 1;
         models += all.len();
+        assuming += usize::from(!assumed.is_empty());
+        full += usize::from(assumed.left_to_assign(&input) == Some(0));
     }
     println!("{formulas} formulas, {models} models, taken up again {resumed} times");
+    println!("{assuming} under assumptions, {full} with nothing left to assign");
     assert!(models > 5_000 && resumed > 1_000);
+    assert!(assuming > 200 && full > 50);
+}
+
+#[test]
+fn without_assumptions_the_iterator_is_the_same() {
+    let mut random = Random::new(2);
+    for _ in 0..100 {
+        let input = some_matched_formula(&mut random, is_matched);
+        let mut models = Models::new(&input);
+        assert!(models
+            .by_ref()
+            .take(20)
+            .eq(Models::under(&input, &[]).take(20)));
+        let from = models.checkpoint();
+        assert!(Models::resume(&input, from)
+            .take(20)
+            .eq(Models::resume_under(&input, &[], from).take(20)));
+    }
 }
 
 #[test]
@@ -159,9 +226,10 @@ fn the_iterator_has_the_checkpoint_of_each_model() {
     let mut compared = 0;
     for _ in 0..60 {
         let input = some_matched_formula(&mut random, is_matched);
+        let assumed = some_accepted(&mut random, &input);
         let formula = reference::decode(&input).unwrap();
-        let mut walker = reference::Walker::start(&formula).unwrap();
-        let mut models = Models::new(&input);
+        let mut walker = reference::Walker::start(&formula, &assumed.reference).unwrap();
+        let mut models = Models::under(&input, &assumed.list);
         assert_eq!(models.checkpoint().as_bytes(), &walker.checkpoint());
         for _ in 0..300 {
             let expected = walker.advance(96).answer;
@@ -193,4 +261,11 @@ fn a_refusal_is_the_only_item_of_the_iterator() {
     assert_eq!(models.next(), Some(Err(Refusal::ForeignCheckpoint)));
     assert_eq!(models.next(), None);
     assert_eq!(models.checkpoint(), foreign);
+
+    let twice = [Assumption::positive(2); 2];
+    let mut models = Models::under(&[1, 2, 5], &twice);
+    let refusal = Refusal::BadAssumption { index: 1 };
+    assert_eq!(models.next(), Some(Err(refusal)));
+    assert_eq!(models.next(), None);
+    assert_eq!(models.checkpoint(), Checkpoint::start());
 }

@@ -85,16 +85,32 @@ fn write(function: Writer, input: &[u8], buffer: &mut [u8], results: &mut [u64])
     returned
 }
 
-pub fn judge(input: &[u8], buffer: &mut [u8], results: &mut [u64]) -> u32 {
-    write(norwythai_judge, input, buffer, results)
-}
-
 pub fn from_dimacs(text: &[u8], buffer: &mut [u8], results: &mut [u64]) -> u32 {
     write(norwythai_from_dimacs, text, buffer, results)
 }
 
 pub fn to_dimacs(input: &[u8], buffer: &mut [u8], results: &mut [u64]) -> u32 {
     write(norwythai_to_dimacs, input, buffer, results)
+}
+
+pub fn judge(input: &[u8], assumptions: &[u8], buffer: &mut [u8], results: &mut [u64]) -> u32 {
+    let (mut lent, mut written) = (bytes(buffer), numbers(results));
+    // SAFETY: the pointers are good for the lengths, and the arrays do not overlap.
+    let returned = unsafe {
+        norwythai_judge(
+            input.as_ptr(),
+            input.len(),
+            assumptions.as_ptr(),
+            assumptions.len(),
+            lent.pointer(),
+            lent.length(),
+            written.pointer(),
+            written.length(),
+        )
+    };
+    lent.take(buffer);
+    written.take(results);
+    returned
 }
 
 pub fn start(checkpoint: &mut [u8]) -> u32 {
@@ -105,13 +121,21 @@ pub fn start(checkpoint: &mut [u8]) -> u32 {
     returned
 }
 
-pub fn walk(input: &[u8], checkpoint: &mut [u8], budget: u32, results: &mut [u64]) -> u32 {
+pub fn walk(
+    input: &[u8],
+    assumptions: &[u8],
+    checkpoint: &mut [u8],
+    budget: u32,
+    results: &mut [u64],
+) -> u32 {
     let (mut lent, mut written) = (bytes(checkpoint), numbers(results));
     // SAFETY: the pointers are good for the lengths, and the arrays do not overlap.
     let returned = unsafe {
         norwythai_walk(
             input.as_ptr(),
             input.len(),
+            assumptions.as_ptr(),
+            assumptions.len(),
             lent.pointer(),
             lent.length(),
             budget,
@@ -124,13 +148,21 @@ pub fn walk(input: &[u8], checkpoint: &mut [u8], budget: u32, results: &mut [u64
     returned
 }
 
-pub fn list(input: &[u8], checkpoint: &mut [u8], models: &mut [u64], results: &mut [u64]) -> u32 {
+pub fn list(
+    input: &[u8],
+    assumptions: &[u8],
+    checkpoint: &mut [u8],
+    models: &mut [u64],
+    results: &mut [u64],
+) -> u32 {
     let (mut lent, mut page, mut written) = (bytes(checkpoint), numbers(models), numbers(results));
     // SAFETY: the pointers are good for the lengths, and the arrays do not overlap.
     let returned = unsafe {
         norwythai_list(
             input.as_ptr(),
             input.len(),
+            assumptions.as_ptr(),
+            assumptions.len(),
             lent.pointer(),
             lent.length(),
             page.pointer(),

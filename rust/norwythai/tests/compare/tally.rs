@@ -1,10 +1,13 @@
 //! What a run has seen.
 
-use norwythai_reference::{decode, Answer, Refusal};
+use crate::assumed::Assumed;
+use crate::is_matched;
+use norwythai_reference::{decode, Answer, Checkpoint, Listed, Progress, Refusal, Size};
+use std::collections::BTreeMap;
 use std::fmt;
 
 /// Refusals by their numbers.
-type Refusals = [usize; 16];
+type Refusals = [usize; 17];
 
 /// The calls of an act between formulas and texts.
 #[derive(Default)]
@@ -60,6 +63,223 @@ fn write_refusals(f: &mut fmt::Formatter, refusals: &Refusals) -> fmt::Result {
     Ok(())
 }
 
+/// What must be seen under assumptions, and of how many calls under them once at least.
+const WANTED: [(&str, usize); 27] = [
+    ("judge: a clause is satisfied", 100),
+    ("judge: only the assumptions make it matched", 2_000),
+    ("judge: more than 48 clauses are matched", 3_000),
+    ("judge: only the assumptions make it unmatched", 200),
+    ("judge: they leave a clause empty", 500),
+    ("bad: variable 0", 1_000),
+    ("bad: a variable above n", 1_000),
+    ("bad: assumed before with the same value", 1_000),
+    ("bad: assumed before with the other value", 1_000),
+    ("bad: the first of the list", 1_000),
+    ("bad: behind good ones", 1_000),
+    ("bad: in a list of more than 255", 2_000),
+    ("walk: from within", 100),
+    ("walk: with trials", 500),
+    ("walk: on a formula of more than 48 clauses", 2_000),
+    ("walk: a checkpoint of another list is taken", 2_000),
+    ("walk: a checkpoint of another list is foreign", 500),
+    ("walk: an assumed variable in the trail is foreign", 500),
+    ("walk: mode 1 at length 0 is foreign", 500),
+    ("all assumed: the model on budget 0", 5_000),
+    ("all assumed: the model on another budget", 1_000),
+    ("all assumed: the end behind it on budget 0", 5_000),
+    ("all assumed: the end behind it on another budget", 1_000),
+    ("all assumed: other checkpoints are foreign", 500),
+    ("all assumed: a list without room keeps the model", 2_000),
+    ("all assumed: a list without room ends behind it", 10_000),
+    ("all assumed: a list has the model", 500),
+];
+
+/// What was seen of judge, walk and list under a list of assumptions that is not empty.
+#[derive(Default)]
+pub struct Assuming {
+    calls: usize,
+    refusals: Refusals,
+    /// By the words of [`WANTED`].
+    seen: BTreeMap<&'static str, usize>,
+}
+
+impl Assuming {
+    fn see(&mut self, what: &'static str, seen: bool) {
+        *self.seen.entry(what).or_default() += usize::from(seen);
+    }
+
+    pub fn judged(
+        &mut self,
+        input: &[u8],
+        assumed: &Assumed,
+        answer: Result<Size, Refusal>,
+        buffer: &[u8],
+    ) {
+        if assumed.is_empty() {
+            return;
+        }
+        self.calls += 1;
+        match answer {
+            Ok(size) => {
+                let satisfied = buffer[..size.clauses].contains(&0);
+                self.see("judge: a clause is satisfied", satisfied);
+                let alone = !is_matched(input);
+                self.see("judge: only the assumptions make it matched", alone);
+                let many = size.clauses > 48;
+                self.see("judge: more than 48 clauses are matched", many);
+            }
+            Err(Refusal { number: 10, place }) => {
+                let alone = is_matched(input);
+                self.see("judge: only the assumptions make it unmatched", alone);
+                self.see("judge: they leave a clause empty", alone && place == 1);
+            }
+            Err(Refusal { number: 16, place }) => self.saw_bad(input, assumed, place),
+            Err(_) => {}
+        }
+    }
+
+    fn saw_bad(&mut self, input: &[u8], assumed: &Assumed, place: usize) {
+        let bad = assumed.list[place];
+        let same = assumed.list[..place].contains(&bad);
+        let kind = match bad.variable {
+            0 => "bad: variable 0",
+            variable if variable > input[1] => "bad: a variable above n",
+            _ if same => "bad: assumed before with the same value",
+            _ => "bad: assumed before with the other value",
+        };
+        self.see(kind, true);
+        self.see("bad: the first of the list", place == 0);
+        self.see("bad: behind good ones", place > 0);
+        let long = assumed.list.len() > 255;
+        self.see("bad: in a list of more than 255", long);
+    }
+
+    pub fn walked(
+        &mut self,
+        input: &[u8],
+        assumed: &Assumed,
+        given: &Checkpoint,
+        budget: u32,
+        walked: Result<Progress, Refusal>,
+    ) {
+        if assumed.is_empty() {
+            return;
+        }
+        self.calls += 1;
+        let foreign = match walked {
+            Ok(_) => false,
+            Err(Refusal { number: 11, .. }) => true,
+            Err(_) => return,
+        };
+        if assumed.left_to_assign(input) == Some(0) {
+            let answer = walked.map(|progress| progress.answer);
+            self.walked_without_steps(given, budget, answer);
+            return;
+        }
+        if let Ok(progress) = walked {
+            self.see("walk: from within", given[1] > 0);
+            self.see("walk: with trials", progress.expansions > 0);
+            let many = decode(input).is_ok_and(|formula| formula.clauses().len() > 48);
+            self.see("walk: on a formula of more than 48 clauses", many);
+        }
+        let length = usize::from(given[1]).min(48);
+        let mut trail = given[2..2 + length].iter();
+        let assumed_in_trail = trail.any(|byte| assumed.has(byte & 127));
+        assert!(foreign || !assumed_in_trail);
+        self.see(
+            "walk: an assumed variable in the trail is foreign",
+            assumed_in_trail && given[0] < 4,
+        );
+        let behind_nothing = *given == checkpoint(1);
+        assert!(foreign || !behind_nothing);
+        self.see("walk: mode 1 at length 0 is foreign", behind_nothing);
+    }
+
+    fn walked_without_steps(
+        &mut self,
+        given: &Checkpoint,
+        budget: u32,
+        answer: Result<Answer, Refusal>,
+    ) {
+        let what = match answer {
+            Ok(Answer::Model(_)) if budget == 0 => "all assumed: the model on budget 0",
+            Ok(Answer::Model(_)) => "all assumed: the model on another budget",
+            Ok(Answer::Spent) => panic!("a walk without steps is spent"),
+            Ok(Answer::Ended) if *given == checkpoint(4) => return,
+            Ok(Answer::Ended) if budget == 0 => "all assumed: the end behind it on budget 0",
+            Ok(Answer::Ended) => "all assumed: the end behind it on another budget",
+            Err(_) => "all assumed: other checkpoints are foreign",
+        };
+        self.see(what, true);
+    }
+
+    /// A walk call with a checkpoint that was made under another list, be it the empty one; the start is every list's.
+    pub fn walked_on(&mut self, assumed: &Assumed, given: &Checkpoint, taken: bool) {
+        if !assumed.is_empty() && given[0] != 0 && given[0] != 4 {
+            self.see("walk: a checkpoint of another list is taken", taken);
+            self.see("walk: a checkpoint of another list is foreign", !taken);
+        }
+    }
+
+    pub fn listed(
+        &mut self,
+        input: &[u8],
+        assumed: &Assumed,
+        given: &Checkpoint,
+        room: usize,
+        listed: Listed,
+    ) {
+        if assumed.is_empty() {
+            return;
+        }
+        self.calls += 1;
+        if assumed.left_to_assign(input) != Some(0) {
+            return;
+        }
+        if *given == checkpoint(0) && room == 0 {
+            let kept = listed.answer == Answer::Spent && listed.checkpoint == *given;
+            self.see("all assumed: a list without room keeps the model", kept);
+        } else if *given == checkpoint(0) {
+            self.see("all assumed: a list has the model", listed.written == 1);
+        } else if *given == checkpoint(1) && room == 0 {
+            let ended = listed.answer == Answer::Ended && listed.checkpoint == checkpoint(4);
+            self.see("all assumed: a list without room ends behind it", ended);
+        }
+    }
+
+    /// Fails if something was seen too seldom.
+    fn require_enough(&self) {
+        for (what, of) in WANTED {
+            let seen = self.seen.get(what).copied().unwrap_or(0);
+            assert!(seen > self.calls / of, "{what}: only {seen}");
+        }
+        assert_eq!(self.seen.len(), WANTED.len());
+        for number in (1..=11).chain([16]) {
+            let seen = self.refusals[number];
+            assert!(seen > self.calls / 5_000, "refusal {number}: only {seen}");
+        }
+    }
+}
+
+impl fmt::Display for Assuming {
+    fn fmt(&self, f: &mut fmt::Formatter) -> fmt::Result {
+        write!(f, "under assumptions: {} (refused", self.calls)?;
+        write_refusals(f, &self.refusals)?;
+        write!(f, ")")?;
+        for (what, seen) in &self.seen {
+            write!(f, "\n  {what}: {seen}")?;
+        }
+        Ok(())
+    }
+}
+
+/// The checkpoint of this mode at length 0.
+fn checkpoint(mode: u8) -> Checkpoint {
+    let mut checkpoint = [0; 50];
+    checkpoint[0] = mode;
+    checkpoint
+}
+
 /// How often what was seen, so that a run that tests little fails.
 #[derive(Default)]
 pub struct Tally {
@@ -74,6 +294,8 @@ pub struct Tally {
     /// Formulas that were written and read again.
     pub round_trips: usize,
     pub wrong_lengths: usize,
+    /// Calls with an odd number of bytes of assumptions.
+    pub odd_lengths: usize,
     /// Answers of check.
     pub yes: usize,
     pub no: usize,
@@ -89,6 +311,7 @@ pub struct Tally {
     pub listed: usize,
     /// Refusals of all acts but those two.
     refusals: Refusals,
+    pub assuming: Assuming,
     /// Readable inputs in which a literal comes again in its clause, and those that are longer than the printing program takes.
     repeats: usize,
     long: usize,
@@ -105,6 +328,7 @@ impl Tally {
             + self.from_dimacs.calls()
             + self.to_dimacs.calls()
             + self.wrong_lengths
+            + self.odd_lengths
     }
 
     pub fn input(&mut self, input: &[u8]) {
@@ -117,8 +341,10 @@ impl Tally {
         self.long += usize::from(input.len() > 16_384);
     }
 
-    pub fn refused(&mut self, refusal: Refusal) {
-        self.refusals[usize::from(refusal.number)] += 1;
+    pub fn refused(&mut self, assumed: &Assumed, refusal: Refusal) {
+        let number = usize::from(refusal.number);
+        self.refusals[number] += 1;
+        self.assuming.refusals[number] += usize::from(!assumed.is_empty());
     }
 
     pub fn answered(&mut self, answer: Answer) {
@@ -143,15 +369,16 @@ impl Tally {
             ("to_dimacs", self.to_dimacs.calls(), calls / 50),
             ("round trips", self.round_trips, calls / 100),
             ("wrong lengths", self.wrong_lengths, calls / 100),
+            ("odd lengths", self.odd_lengths, calls / 200),
             ("yes", self.yes, calls / 100),
             ("no", self.no, calls / 100),
             ("matched", self.matched, calls / 100),
             ("model", self.models, calls / 20),
             ("spent", self.spent, calls / 20),
             ("ended", self.ended, calls / 100),
-            ("with trials", self.with_trials, calls / 50),
+            ("with trials", self.with_trials, calls / 100),
             ("models listed", self.listed, calls / 20),
-            ("inputs with repeats", self.repeats, calls / 200),
+            ("inputs with repeats", self.repeats, calls / 300),
             ("long inputs", self.long, calls / 50_000),
         ];
         for (what, seen, wanted) in least {
@@ -160,6 +387,7 @@ impl Tally {
         for (number, seen) in self.refusals[..=12].iter().enumerate().skip(1) {
             assert!(*seen >= calls / 2000, "refusal {number}: only {seen}");
         }
+        self.assuming.require_enough();
         let reading = [1, 2, 5, 6, 7, 8, 13, 14, 15];
         self.from_dimacs.require_enough("from_dimacs", &reading);
         let writing = [1, 2, 3, 4, 5, 6, 7, 8, 9];
@@ -186,7 +414,11 @@ impl fmt::Display for Tally {
         writeln!(f, "from_dimacs: {}", self.from_dimacs)?;
         writeln!(f, "to_dimacs: {}", self.to_dimacs)?;
         writeln!(f, "written and read again: {}", self.round_trips)?;
-        writeln!(f, "wrong lengths: {}", self.wrong_lengths)?;
+        writeln!(
+            f,
+            "wrong lengths: {}, and {} odd ones of assumptions",
+            self.wrong_lengths, self.odd_lengths
+        )?;
         writeln!(
             f,
             "answers of walk and list: model {}, spent {}, ended {}; walks with trials: {}",
@@ -198,6 +430,7 @@ impl fmt::Display for Tally {
             self.repeats, self.long
         )?;
         write!(f, "refusals of the other acts:")?;
-        write_refusals(f, &self.refusals)
+        write_refusals(f, &self.refusals)?;
+        write!(f, "\n{}", self.assuming)
     }
 }

@@ -42,51 +42,119 @@ static int test_check(void) {
 }
 
 static int test_judge(void) {
+    const uint8_t byte = 0;
     uint8_t buffer[NORWYTHAI_BUFFER];
     uint64_t results[NORWYTHAI_RESULTS];
 
-    REQUIRE(norwythai_judge(INPUT, sizeof INPUT, buffer, sizeof buffer, results, NORWYTHAI_RESULTS) == 0);
+    REQUIRE(norwythai_judge(INPUT, sizeof INPUT, &byte, 0, buffer, sizeof buffer, results, NORWYTHAI_RESULTS) == 0);
     REQUIRE(results[0] == NORWYTHAI_MATCHED && results[4] == 2 && results[5] == 2);
     REQUIRE(buffer[0] == 1 && buffer[1] == 2);
-    REQUIRE(norwythai_judge(UNMATCHED, sizeof UNMATCHED, buffer, sizeof buffer, results, NORWYTHAI_RESULTS) == 0);
+    REQUIRE(norwythai_judge(UNMATCHED, sizeof UNMATCHED, &byte, 0, buffer, sizeof buffer, results, NORWYTHAI_RESULTS) == 0);
     REQUIRE(results[0] == NORWYTHAI_REFUSED && results[2] == 10 && results[3] == 2);
-    REQUIRE(norwythai_judge(INPUT, sizeof INPUT, buffer, 0, results, NORWYTHAI_RESULTS) == 0);
+    REQUIRE(norwythai_judge(INPUT, sizeof INPUT, &byte, 0, buffer, 0, results, NORWYTHAI_RESULTS) == 0);
     REQUIRE(results[0] == NORWYTHAI_REFUSED && results[2] == 1);
     return 0;
 }
 
+/* Variable 1 true and false, both true, and variable 2 twice. Any byte but 0 is true. */
+static const uint8_t FIRST_TRUE[] = {1, 1};
+static const uint8_t FIRST_FALSE[] = {1, 0};
+static const uint8_t BOTH_TRUE[] = {2, 255, 1, 2};
+static const uint8_t TWICE[] = {2, 1, 2, 1};
+
+static int test_judge_under_assumptions(void) {
+    uint8_t buffer[NORWYTHAI_BUFFER];
+    uint64_t results[NORWYTHAI_RESULTS];
+
+    memset(buffer, 7, sizeof buffer);
+    REQUIRE(norwythai_judge(INPUT, sizeof INPUT, TWICE, 4, buffer, sizeof buffer, results, NORWYTHAI_RESULTS) == 0);
+    REQUIRE(results[0] == NORWYTHAI_REFUSED && results[2] == 16 && results[3] == 1);
+    REQUIRE(buffer[0] == 7 && buffer[1] == 7);
+    REQUIRE(norwythai_judge(INPUT, sizeof INPUT, FIRST_TRUE, 2, buffer, sizeof buffer, results, NORWYTHAI_RESULTS) == 0);
+    REQUIRE(results[0] == NORWYTHAI_MATCHED && results[4] == 2 && results[5] == 2);
+    REQUIRE(buffer[0] == 0 && buffer[1] == 2 && buffer[2] == 7);
+    REQUIRE(norwythai_judge(INPUT, sizeof INPUT, FIRST_FALSE, 2, buffer, sizeof buffer, results, NORWYTHAI_RESULTS) == 0);
+    REQUIRE(results[0] == NORWYTHAI_MATCHED && buffer[0] == 2 && buffer[1] == 0);
+    REQUIRE(norwythai_judge(INPUT, sizeof INPUT, BOTH_TRUE, 4, buffer, sizeof buffer, results, NORWYTHAI_RESULTS) == 0);
+    REQUIRE(results[0] == NORWYTHAI_REFUSED && results[2] == 10 && results[3] == 1);
+    REQUIRE(buffer[0] == 0 && buffer[1] == 1 && buffer[2] == 7);
+    return 0;
+}
+
 static int test_walk(void) {
+    const uint8_t byte = 0;
     uint8_t checkpoint[NORWYTHAI_CHECKPOINT];
     uint64_t results[NORWYTHAI_RESULTS];
 
     REQUIRE(norwythai_start(checkpoint, sizeof checkpoint) == 0);
-    REQUIRE(norwythai_walk(INPUT, sizeof INPUT, checkpoint, sizeof checkpoint, 1, results, NORWYTHAI_RESULTS) == 0);
+    REQUIRE(norwythai_walk(INPUT, sizeof INPUT, &byte, 0, checkpoint, sizeof checkpoint, 1, results, NORWYTHAI_RESULTS) == 0);
     REQUIRE(results[0] == NORWYTHAI_SPENT && results[4] == 1);
-    REQUIRE(norwythai_walk(INPUT, sizeof INPUT, checkpoint, sizeof checkpoint, 96, results, NORWYTHAI_RESULTS) == 0);
+    REQUIRE(norwythai_walk(INPUT, sizeof INPUT, &byte, 0, checkpoint, sizeof checkpoint, 96, results, NORWYTHAI_RESULTS) == 0);
     REQUIRE(results[0] == NORWYTHAI_MODEL && results[1] == 2 && results[4] == 1);
     checkpoint[0] = 9;
-    REQUIRE(norwythai_walk(INPUT, sizeof INPUT, checkpoint, sizeof checkpoint, 96, results, NORWYTHAI_RESULTS) == 0);
+    REQUIRE(norwythai_walk(INPUT, sizeof INPUT, &byte, 0, checkpoint, sizeof checkpoint, 96, results, NORWYTHAI_RESULTS) == 0);
     REQUIRE(results[0] == NORWYTHAI_REFUSED && results[2] == 11);
     return 0;
 }
 
 static int test_list(void) {
+    const uint8_t byte = 0;
     uint8_t checkpoint[NORWYTHAI_CHECKPOINT], before[NORWYTHAI_CHECKPOINT];
     uint64_t models[3] = {7, 7, 7}, results[NORWYTHAI_RESULTS];
 
     REQUIRE(norwythai_start(checkpoint, sizeof checkpoint) == 0);
-    REQUIRE(norwythai_list(INPUT, sizeof INPUT, checkpoint, sizeof checkpoint, models, 0, results, NORWYTHAI_RESULTS) == 0);
+    REQUIRE(norwythai_list(INPUT, sizeof INPUT, &byte, 0, checkpoint, sizeof checkpoint, models, 0, results, NORWYTHAI_RESULTS) == 0);
     REQUIRE(results[0] == NORWYTHAI_SPENT && results[4] == 0);
-    REQUIRE(norwythai_list(INPUT, sizeof INPUT, checkpoint, sizeof checkpoint, models, 1, results, NORWYTHAI_RESULTS) == 0);
+    REQUIRE(norwythai_list(INPUT, sizeof INPUT, &byte, 0, checkpoint, sizeof checkpoint, models, 1, results, NORWYTHAI_RESULTS) == 0);
     REQUIRE(results[0] == NORWYTHAI_MODEL && results[4] == 1 && models[0] == 2 && models[1] == 7);
-    REQUIRE(norwythai_list(INPUT, sizeof INPUT, checkpoint, sizeof checkpoint, models, 3, results, NORWYTHAI_RESULTS) == 0);
+    REQUIRE(norwythai_list(INPUT, sizeof INPUT, &byte, 0, checkpoint, sizeof checkpoint, models, 3, results, NORWYTHAI_RESULTS) == 0);
     REQUIRE(results[0] == NORWYTHAI_ENDED && results[4] == 1 && models[0] == 1 && models[1] == 7);
 
     checkpoint[0] = 9;
     memcpy(before, checkpoint, sizeof before);
-    REQUIRE(norwythai_list(INPUT, sizeof INPUT, checkpoint, sizeof checkpoint, models, 3, results, NORWYTHAI_RESULTS) == 0);
+    REQUIRE(norwythai_list(INPUT, sizeof INPUT, &byte, 0, checkpoint, sizeof checkpoint, models, 3, results, NORWYTHAI_RESULTS) == 0);
     REQUIRE(results[0] == NORWYTHAI_REFUSED && results[2] == 11 && results[4] == 0);
     REQUIRE(models[0] == 1 && models[1] == 7 && memcmp(before, checkpoint, sizeof before) == 0);
+    return 0;
+}
+
+static int test_walk_under_assumptions(void) {
+    uint8_t checkpoint[NORWYTHAI_CHECKPOINT];
+    uint64_t results[NORWYTHAI_RESULTS];
+
+    /* One variable is left: one step to the model, and one to the end. */
+    REQUIRE(norwythai_start(checkpoint, sizeof checkpoint) == 0);
+    REQUIRE(norwythai_walk(INPUT, sizeof INPUT, FIRST_TRUE, 2, checkpoint, sizeof checkpoint, 96, results, NORWYTHAI_RESULTS) == 0);
+    REQUIRE(results[0] == NORWYTHAI_MODEL && results[1] == 1 && results[4] == 1);
+    REQUIRE(checkpoint[0] == 1 && checkpoint[1] == 1 && checkpoint[2] == 2);
+    REQUIRE(norwythai_walk(INPUT, sizeof INPUT, FIRST_FALSE, 2, checkpoint, sizeof checkpoint, 96, results, NORWYTHAI_RESULTS) == 0);
+    REQUIRE(results[0] == NORWYTHAI_REFUSED && results[2] == 11);
+    REQUIRE(norwythai_walk(INPUT, sizeof INPUT, TWICE, 4, checkpoint, sizeof checkpoint, 96, results, NORWYTHAI_RESULTS) == 0);
+    REQUIRE(results[0] == NORWYTHAI_REFUSED && results[2] == 16 && results[3] == 1);
+    REQUIRE(norwythai_walk(INPUT, sizeof INPUT, FIRST_TRUE, 2, checkpoint, sizeof checkpoint, 96, results, NORWYTHAI_RESULTS) == 0);
+    REQUIRE(results[0] == NORWYTHAI_ENDED && results[4] == 1);
+    return 0;
+}
+
+/* All variables are assumed: one model, and no steps. */
+static int test_all_assumed(void) {
+    static const uint8_t ALL[] = {2, 0, 1, 9};
+    uint8_t checkpoint[NORWYTHAI_CHECKPOINT], start[NORWYTHAI_CHECKPOINT];
+    uint64_t models[2] = {7, 7}, results[NORWYTHAI_RESULTS];
+
+    REQUIRE(norwythai_start(start, sizeof start) == 0);
+    memcpy(checkpoint, start, sizeof start);
+    REQUIRE(norwythai_list(INPUT, sizeof INPUT, ALL, 4, checkpoint, sizeof checkpoint, models, 0, results, NORWYTHAI_RESULTS) == 0);
+    REQUIRE(results[0] == NORWYTHAI_SPENT && results[4] == 0 && memcmp(checkpoint, start, sizeof start) == 0);
+    REQUIRE(norwythai_walk(INPUT, sizeof INPUT, ALL, 4, checkpoint, sizeof checkpoint, 0, results, NORWYTHAI_RESULTS) == 0);
+    REQUIRE(results[0] == NORWYTHAI_MODEL && results[1] == 1 && results[4] == 0 && results[5] == 0);
+    REQUIRE(checkpoint[0] == 1 && memcmp(checkpoint + 1, start + 1, sizeof start - 1) == 0);
+    REQUIRE(norwythai_walk(INPUT, sizeof INPUT, ALL, 4, checkpoint, sizeof checkpoint, 0, results, NORWYTHAI_RESULTS) == 0);
+    REQUIRE(results[0] == NORWYTHAI_ENDED && results[4] == 0 && checkpoint[0] == 4);
+
+    memcpy(checkpoint, start, sizeof start);
+    REQUIRE(norwythai_list(INPUT, sizeof INPUT, ALL, 4, checkpoint, sizeof checkpoint, models, 2, results, NORWYTHAI_RESULTS) == 0);
+    REQUIRE(results[0] == NORWYTHAI_ENDED && results[4] == 1 && models[0] == 1 && models[1] == 7);
     return 0;
 }
 
@@ -136,16 +204,28 @@ static int test_to_dimacs(void) {
     return 0;
 }
 
-/* A length in bytes is not that of the results. */
+/* A length in bytes is not that of the results, and assumptions have an even length. */
 static int test_lengths(void) {
-    uint64_t results[NORWYTHAI_RESULTS] = {7, 7, 7, 7, 7, 7};
+    uint8_t buffer[NORWYTHAI_BUFFER], checkpoint[NORWYTHAI_CHECKPOINT];
+    uint64_t models[1] = {7}, results[NORWYTHAI_RESULTS] = {7, 7, 7, 7, 7, 7};
+    size_t odd;
 
     REQUIRE(sizeof results == 48);
     REQUIRE(norwythai_check(INPUT, sizeof INPUT, 1, results, sizeof results) == 1);
+    REQUIRE(norwythai_start(checkpoint, sizeof checkpoint) == 0);
+    memset(buffer, 7, sizeof buffer);
+    for (odd = 1; odd < 4; odd += 2) {
+        REQUIRE(norwythai_judge(INPUT, sizeof INPUT, TWICE, odd, buffer, sizeof buffer, results, NORWYTHAI_RESULTS) == 1);
+        REQUIRE(norwythai_walk(INPUT, sizeof INPUT, TWICE, odd, checkpoint, sizeof checkpoint, 96, results, NORWYTHAI_RESULTS) == 1);
+        REQUIRE(norwythai_list(INPUT, sizeof INPUT, TWICE, odd, checkpoint, sizeof checkpoint, models, 1, results,
+                               NORWYTHAI_RESULTS) == 1);
+    }
     REQUIRE(results[0] == 7 && results[5] == 7);
+    REQUIRE(buffer[0] == 7 && checkpoint[0] == 0 && models[0] == 7);
     return 0;
 }
 
 int main(void) {
-    return test_check() || test_judge() || test_walk() || test_list() || test_from_dimacs() || test_to_dimacs() || test_lengths();
+    return test_check() || test_judge() || test_judge_under_assumptions() || test_walk() || test_list() ||
+           test_walk_under_assumptions() || test_all_assumed() || test_from_dimacs() || test_to_dimacs() || test_lengths();
 }

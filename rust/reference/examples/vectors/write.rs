@@ -247,9 +247,9 @@ fn assuming_lines(
     known: &mut Vec<Checkpoint>,
 ) -> Vec<String> {
     let mut lines = Vec::new();
-    let calls = if input.len() > LONG { 1 } else { 3 };
+    let calls = if input.len() > LONG { 0 } else { 2 };
     if judge(input, assumptions, &mut [0; 96]).is_ok() {
-        let budgets: Vec<u32> = (0..random.below(3 * calls))
+        let budgets: Vec<u32> = (0..random.below(3 * calls + 1))
             .map(|_| some_budget(random))
             .collect();
         let (chain, checkpoints) = chain_line(from, input, assumptions, &budgets);
@@ -279,17 +279,15 @@ fn act_lines(from: &str, random: &mut Random, input: &[u8]) -> Vec<String> {
     let mut lines = Vec::new();
     let mut known = Vec::new();
     lines.extend(assuming_lines(from, random, input, &[], &mut known));
-    for _ in 0..random.between(1, 2) {
-        let assumptions = some_assumptions(random, input);
-        let assumptions: Vec<Assumption> = assumptions.into_iter().map(Into::into).collect();
-        lines.extend(assuming_lines(
-            from,
-            random,
-            input,
-            &assumptions,
-            &mut known,
-        ));
-    }
+    let assumptions = some_assumptions(random, input);
+    let assumptions: Vec<Assumption> = assumptions.into_iter().map(Into::into).collect();
+    lines.extend(assuming_lines(
+        from,
+        random,
+        input,
+        &assumptions,
+        &mut known,
+    ));
     for _ in 0..if input.len() > LONG { 1 } else { 3 } {
         lines.push(check_line(from, input, some_assignment(random, input)));
     }
@@ -441,7 +439,7 @@ mod tests {
             lines.iter().filter(has_all).count()
         };
         for act in ["judge", "walk"].map(|act| format!("\"act\": \"{act}\"")) {
-            for refusal in ["[2, ", "[10, ", "[16, 0]", "[16, 1]", "[16, 2]"] {
+            for refusal in ["[7, ", "[10, ", "[16, 0]", "[16, 1]", "[16, 2]"] {
                 let refusal = format!("\"refusal\": {refusal}");
                 let seen = count(&[&act, "\"fixings\": [[", &refusal]);
                 assert!(seen > 0, "{act} {refusal}");
