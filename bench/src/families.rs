@@ -1,6 +1,7 @@
 //! The families of formulas: those of data/families.txt, and more that are generated, the same in every run.
 
-use norwythai_reference::{decode, judge, write_text};
+use crate::listers::{Assumptions, Lister, Plain};
+use norwythai_reference::{decode, write_text};
 use norwythai_samples::{encode, stairs, Clauses, Random};
 
 /// The formulas that are kept as data.
@@ -9,13 +10,18 @@ const KEPT: &str = include_str!("../data/families.txt");
 /// How many formulas are generated beside the kept ones of a family.
 const GENERATED: usize = 5;
 
+/// What is added to the names of formulas with half of their variables assumed.
+const HALF_ASSUMED: &str = ", half assumed";
+
 /// The largest number of variables.
 const LARGEST: usize = 48;
 
-/// A matched formula.
+/// A matched formula, with the assumptions of all calls on it.
+#[derive(Clone)]
 pub struct Case {
     pub name: String,
     pub input: Vec<u8>,
+    pub assumptions: Assumptions,
     /// Its number of variables.
     pub variables: usize,
     /// Its number of clauses.
@@ -24,13 +30,48 @@ pub struct Case {
 
 impl Case {
     fn new(name: String, input: Vec<u8>) -> Option<Self> {
-        let size = judge(&input, &mut [0; 96]).ok()?;
+        let assumptions = Assumptions::default();
+        let (variables, clauses) = Plain.judge(&input, &assumptions, &mut [0; 96]).ok()?;
         Some(Case {
             name,
             input,
-            variables: size.variables,
-            clauses: size.clauses,
+            assumptions,
+            variables,
+            clauses,
         })
+    }
+
+    fn is_matched(&self) -> bool {
+        let judged = Plain.judge(&self.input, &self.assumptions, &mut [0; 96]);
+        judged.is_ok()
+    }
+
+    /// How many variables are left to assign.
+    pub fn left_to_assign(&self) -> usize {
+        self.variables - self.assumptions.rust.len()
+    }
+
+    /// The same formula with half of its variables assumed, or as many as can be found: one after the other, in random order, with a
+    /// random value or else the other, so that what remains is matched.
+    pub fn half_assumed(&self) -> Self {
+        let mut case = self.clone();
+        case.name.push_str(HALF_ASSUMED);
+        let mut random = Random::new(self.input.len() as u64);
+        for variable in random.some_of(self.variables, self.variables) {
+            let value = random.percent(50);
+            for value in [value, !value] {
+                let mut more = case.clone();
+                more.assumptions.push(variable as u8, value);
+                if more.is_matched() {
+                    case = more;
+                    break;
+                }
+            }
+            if case.left_to_assign() <= self.variables / 2 {
+                break;
+            }
+        }
+        case
     }
 }
 
@@ -84,6 +125,13 @@ impl Family {
         let mut cases: Vec<Case> = KEPT.lines().filter_map(|line| self.kept(line)).collect();
         cases.extend(self.generated(LARGEST, GENERATED));
         cases
+    }
+
+    /// These formulas with half of their variables assumed, and the title of such.
+    pub fn half_assumed(&self) -> (String, Vec<Case>) {
+        let cases = self.cases();
+        let title = format!("{}{HALF_ASSUMED}", self.title);
+        (title, cases.iter().map(Case::half_assumed).collect())
     }
 
     /// So many generated formulas of so many variables.
@@ -225,5 +273,18 @@ mod tests {
             }
         }
         assert_eq!(kept, 12);
+    }
+
+    #[test]
+    fn half_of_the_variables_are_assumed() {
+        for case in FAMILIES.iter().flat_map(Family::cases) {
+            let half = case.half_assumed();
+            assert!(
+                half.is_matched() && half.left_to_assign() == LARGEST / 2,
+                "{} {}",
+                half.name,
+                half.left_to_assign()
+            );
+        }
     }
 }

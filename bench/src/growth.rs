@@ -24,7 +24,12 @@ struct Point {
 /// The time of a model: that of a list of 1,000, or of all if there are fewer, by their number.
 fn model_times(case: &Case) -> Times {
     let mut models = vec![0; SHORT];
-    let listed = Plain.list(&case.input, &mut START.clone(), &mut models);
+    let listed = Plain.list(
+        &case.input,
+        &case.assumptions,
+        &mut START.clone(),
+        &mut models,
+    );
     let listed = listed.expect("a matched formula");
     list_times(case, &mut models).map(|time| time / listed as f64)
 }

@@ -18,21 +18,48 @@ pub struct Walked {
     pub expansions: u64,
 }
 
+/// A list of assumptions, as the proved library takes it and as the other two do.
+#[derive(Clone, Default)]
+pub struct Assumptions {
+    pub proved: Vec<norwythai::Assumption>,
+    pub rust: Vec<plain::Assumption>,
+}
+
+impl Assumptions {
+    /// One more: the variable, from 1, and its value.
+    pub fn push(&mut self, variable: u8, value: bool) {
+        self.proved.push(norwythai::Assumption { variable, value });
+        self.rust.push((variable, value).into());
+    }
+}
+
 /// The acts, of which each implementation has its own form.
 pub trait Lister {
     /// Whether the assignment is a model.
     fn check(&self, input: &[u8], assignment: u64) -> Result<bool, Refused>;
 
     /// The numbers of variables and clauses of a matched formula; the matching is in the buffer.
-    fn judge(&self, input: &[u8], buffer: &mut [u8; 96]) -> Result<(usize, usize), Refused>;
+    fn judge(
+        &self,
+        input: &[u8],
+        assumptions: &Assumptions,
+        buffer: &mut [u8; 96],
+    ) -> Result<(usize, usize), Refused>;
 
     /// Goes on from the checkpoint, which becomes the next one. The budget brings a model or the end.
-    fn walk(&self, input: &[u8], checkpoint: &mut Bytes, budget: u32) -> Result<Walked, Refused>;
+    fn walk(
+        &self,
+        input: &[u8],
+        assumptions: &Assumptions,
+        checkpoint: &mut Bytes,
+        budget: u32,
+    ) -> Result<Walked, Refused>;
 
     /// Fills the slice with the next models, and gives how many there are.
     fn list(
         &self,
         input: &[u8],
+        assumptions: &Assumptions,
         checkpoint: &mut Bytes,
         models: &mut [u64],
     ) -> Result<usize, Refused>;
@@ -62,16 +89,28 @@ impl Lister for Proved {
         norwythai::check(input, Assignment::from_bits(assignment)).map_err(refused)
     }
 
-    fn judge(&self, input: &[u8], buffer: &mut [u8; 96]) -> Result<(usize, usize), Refused> {
-        match norwythai::judge_into(input, buffer) {
+    fn judge(
+        &self,
+        input: &[u8],
+        assumptions: &Assumptions,
+        buffer: &mut [u8; 96],
+    ) -> Result<(usize, usize), Refused> {
+        match norwythai::judge_into(input, &assumptions.proved, buffer) {
             Ok(size) => Ok((size.variables.into(), size.clauses)),
             Err(refusal) => Err(refused(refusal)),
         }
     }
 
-    fn walk(&self, input: &[u8], bytes: &mut Bytes, budget: u32) -> Result<Walked, Refused> {
+    fn walk(
+        &self,
+        input: &[u8],
+        assumptions: &Assumptions,
+        bytes: &mut Bytes,
+        budget: u32,
+    ) -> Result<Walked, Refused> {
         let mut checkpoint = Checkpoint::from_bytes(*bytes);
-        let walked = norwythai::walk(input, &mut checkpoint, budget).map_err(refused)?;
+        let walked = norwythai::walk(input, &assumptions.proved, &mut checkpoint, budget)
+            .map_err(refused)?;
         *bytes = *checkpoint.as_bytes();
         Ok(Walked {
             model: match walked.answer {
@@ -83,9 +122,16 @@ impl Lister for Proved {
         })
     }
 
-    fn list(&self, input: &[u8], bytes: &mut Bytes, models: &mut [u64]) -> Result<usize, Refused> {
+    fn list(
+        &self,
+        input: &[u8],
+        assumptions: &Assumptions,
+        bytes: &mut Bytes,
+        models: &mut [u64],
+    ) -> Result<usize, Refused> {
         let mut checkpoint = Checkpoint::from_bytes(*bytes);
-        let listed = norwythai::list(input, &mut checkpoint, models).map_err(refused)?;
+        let listed = norwythai::list(input, &assumptions.proved, &mut checkpoint, models)
+            .map_err(refused)?;
         *bytes = *checkpoint.as_bytes();
         Ok(listed.written)
     }
@@ -110,9 +156,10 @@ macro_rules! rust_lister {
             fn judge(
                 &self,
                 input: &[u8],
+                assumptions: &Assumptions,
                 buffer: &mut [u8; 96],
             ) -> Result<(usize, usize), Refused> {
-                match $module::judge(input, buffer) {
+                match $module::judge(input, &assumptions.rust, buffer) {
                     Ok(size) => Ok((size.variables, size.clauses)),
                     Err(refusal) => Err((refusal.number, refusal.place)),
                 }
@@ -121,11 +168,12 @@ macro_rules! rust_lister {
             fn walk(
                 &self,
                 input: &[u8],
+                assumptions: &Assumptions,
                 checkpoint: &mut Bytes,
                 budget: u32,
             ) -> Result<Walked, Refused> {
-                let walked =
-                    $module::walk(input, checkpoint, budget).map_err(|r| (r.number, r.place))?;
+                let walked = $module::walk(input, &assumptions.rust, checkpoint, budget)
+                    .map_err(|r| (r.number, r.place))?;
                 *checkpoint = walked.checkpoint;
                 Ok(Walked {
                     model: match walked.progress.answer {
@@ -140,11 +188,12 @@ macro_rules! rust_lister {
             fn list(
                 &self,
                 input: &[u8],
+                assumptions: &Assumptions,
                 checkpoint: &mut Bytes,
                 models: &mut [u64],
             ) -> Result<usize, Refused> {
-                let listed =
-                    $module::list(input, checkpoint, models).map_err(|r| (r.number, r.place))?;
+                let listed = $module::list(input, &assumptions.rust, checkpoint, models)
+                    .map_err(|r| (r.number, r.place))?;
                 *checkpoint = listed.checkpoint;
                 Ok(listed.written)
             }

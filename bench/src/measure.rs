@@ -106,7 +106,8 @@ pub fn times(mut act: impl FnMut(&dyn Lister)) -> Times {
 /// Lists models from the start. The slice is not cleared before.
 pub fn list(lister: &dyn Lister, case: &Case, models: &mut [u64]) {
     let mut checkpoint = START;
-    let listed = lister.list(black_box(&case.input), &mut checkpoint, models);
+    let (input, assumptions) = black_box((&case.input, &case.assumptions));
+    let listed = lister.list(input, assumptions, &mut checkpoint, models);
     assert!(black_box(listed).is_ok());
     black_box((&checkpoint, &*models));
 }
@@ -114,14 +115,16 @@ pub fn list(lister: &dyn Lister, case: &Case, models: &mut [u64]) {
 /// One walk call from a checkpoint.
 pub fn walk(lister: &dyn Lister, case: &Case, from: &Bytes) {
     let mut checkpoint = *black_box(from);
-    let walked = lister.walk(black_box(&case.input), &mut checkpoint, BUDGET);
+    let (input, assumptions) = black_box((&case.input, &case.assumptions));
+    let walked = lister.walk(input, assumptions, &mut checkpoint, BUDGET);
     assert!(black_box(walked).is_ok());
     black_box(&checkpoint);
 }
 
 /// Judge, with a buffer that is not cleared before.
 pub fn judge(lister: &dyn Lister, case: &Case, buffer: &mut [u8; 96]) {
-    let judged = lister.judge(black_box(&case.input), buffer);
+    let (input, assumptions) = black_box((&case.input, &case.assumptions));
+    let judged = lister.judge(input, assumptions, buffer);
     assert!(black_box(judged).is_ok());
     black_box(&*buffer);
 }
@@ -204,7 +207,7 @@ fn same_models(case: &Case, most: usize) -> (Vec<u64>, Bytes) {
     same("list", &case.name, |lister| {
         let mut models = vec![0; most];
         let mut checkpoint = START;
-        let written = lister.list(&case.input, &mut checkpoint, &mut models);
+        let written = lister.list(&case.input, &case.assumptions, &mut checkpoint, &mut models);
         models.truncate(written.expect("a matched formula"));
         (models, checkpoint)
     })
@@ -216,7 +219,8 @@ pub fn deep_checkpoint(case: &Case) -> Bytes {
     let (_, checkpoint) = same_models(case, models / 2);
     same("walk", &case.name, |lister| {
         let mut next = checkpoint;
-        (lister.walk(&case.input, &mut next, BUDGET), next)
+        let walked = lister.walk(&case.input, &case.assumptions, &mut next, BUDGET);
+        (walked, next)
     })
     .0
     .expect("a checkpoint of the walk");
@@ -226,7 +230,8 @@ pub fn deep_checkpoint(case: &Case) -> Bytes {
 fn require_same_judge(case: &Case) {
     same("judge", &case.name, |lister| {
         let mut buffer = [0; 96];
-        (lister.judge(&case.input, &mut buffer), buffer)
+        let judged = lister.judge(&case.input, &case.assumptions, &mut buffer);
+        (judged, buffer)
     })
     .0
     .expect("a matched formula");
@@ -291,7 +296,7 @@ fn list_name(wanted: usize, least: usize) -> String {
     }
 }
 
-fn list_row(family: &Family, cases: &[Case], wanted: usize) -> Row {
+fn list_row(family: &str, cases: &[Case], wanted: usize) -> Row {
     let mut least = wanted;
     let times = cases
         .iter()
@@ -302,15 +307,15 @@ fn list_row(family: &Family, cases: &[Case], wanted: usize) -> Row {
         })
         .collect();
     Row {
-        family: family.title.to_string(),
+        family: family.to_string(),
         act: list_name(wanted, least),
         times,
     }
 }
 
-fn walk_row(family: &Family, cases: &[Case]) -> Row {
+fn walk_row(family: &str, cases: &[Case]) -> Row {
     Row {
-        family: family.title.to_string(),
+        family: family.to_string(),
         act: "walk, deep".to_string(),
         times: cases
             .iter()
@@ -319,10 +324,10 @@ fn walk_row(family: &Family, cases: &[Case]) -> Row {
     }
 }
 
-fn judge_row(family: &Family, cases: &[Case]) -> Row {
+fn judge_row(family: &str, cases: &[Case]) -> Row {
     cases.iter().for_each(require_same_judge);
     Row {
-        family: family.title.to_string(),
+        family: family.to_string(),
         act: "judge".to_string(),
         times: cases.iter().map(judge_times).collect(),
     }
@@ -349,15 +354,26 @@ const TEXT_FAMILY: &Family = &FAMILIES[1];
 fn family_rows(family: &Family) -> Vec<Row> {
     let cases = family.cases();
     vec![
-        list_row(family, &cases, SHORT),
-        list_row(family, &cases, LONG),
-        walk_row(family, &cases),
-        judge_row(family, &cases),
+        list_row(family.title, &cases, SHORT),
+        list_row(family.title, &cases, LONG),
+        walk_row(family.title, &cases),
+        judge_row(family.title, &cases),
+    ]
+}
+
+/// The rows of the same formulas with half of their variables assumed.
+fn assumed_rows(family: &Family) -> Vec<Row> {
+    let (title, cases) = family.half_assumed();
+    vec![
+        list_row(&title, &cases, SHORT),
+        walk_row(&title, &cases),
+        judge_row(&title, &cases),
     ]
 }
 
 fn all_rows() -> Vec<Row> {
     let mut rows: Vec<Row> = FAMILIES.iter().flat_map(family_rows).collect();
+    rows.extend(FAMILIES.iter().flat_map(assumed_rows));
     rows.push(Row {
         family: "fullest input".to_string(),
         act: "check".to_string(),
@@ -405,14 +421,14 @@ fn print_verdict(rows: &[Row]) {
 /// Prints each formula's times and ratios, and not the means of a family.
 pub fn print_each() {
     for family in FAMILIES {
-        for case in family.cases() {
+        for case in family.cases().into_iter().chain(family.half_assumed().1) {
             let mut models = vec![0; SHORT];
             let acts = [
                 list_times(&case, &mut models),
                 walk_times(&case, &deep_checkpoint(&case)),
                 judge_times(&case),
             ];
-            print!("{:<14}", case.name);
+            print!("{:<28}", case.name);
             for (act, [proved, plain, tuned]) in
                 ["list 1,000", "walk, deep", "judge"].iter().zip(acts)
             {

@@ -5,7 +5,7 @@
 //! is not seen.
 
 use crate::families::{fullest_input, Case, FAMILIES};
-use crate::listers::{Bytes, Lister, Proved};
+use crate::listers::{Assumptions, Bytes, Lister, Proved};
 use crate::measure::{deep_checkpoint, BUDGET, START};
 use crate::table::{count_text, print_table, row};
 use norwythai::raw::{
@@ -115,8 +115,27 @@ fn writer_stack(function: Writer, input: &[u8], room: usize) -> usize {
     })
 }
 
-fn judge_stack(input: &[u8]) -> usize {
-    writer_stack(norwythai_judge, input, 96)
+fn judge_stack(input: &[u8], assumptions: &[u8]) -> usize {
+    let mut results = [0; 6];
+    let mut buffer = [0; 96];
+    stack_of(&mut || {
+        let top = stack_pointer();
+        // SAFETY: the pointers are good for the lengths, and the arrays do not overlap.
+        let returned = unsafe {
+            norwythai_judge(
+                input.as_ptr(),
+                input.len(),
+                assumptions.as_ptr(),
+                assumptions.len(),
+                buffer.as_mut_ptr(),
+                96,
+                results.as_mut_ptr(),
+                6,
+            )
+        };
+        assert_eq!(returned, 0);
+        top
+    })
 }
 
 /// The formula's own text is read.
@@ -140,7 +159,7 @@ fn start_stack() -> usize {
     })
 }
 
-fn walk_stack(input: &[u8], from: &Bytes) -> usize {
+fn walk_stack(input: &[u8], assumptions: &[u8], from: &Bytes) -> usize {
     let mut results = [0; 6];
     let mut checkpoint = *from;
     stack_of(&mut || {
@@ -150,6 +169,8 @@ fn walk_stack(input: &[u8], from: &Bytes) -> usize {
             norwythai_walk(
                 input.as_ptr(),
                 input.len(),
+                assumptions.as_ptr(),
+                assumptions.len(),
                 checkpoint.as_mut_ptr(),
                 50,
                 BUDGET,
@@ -162,7 +183,7 @@ fn walk_stack(input: &[u8], from: &Bytes) -> usize {
     })
 }
 
-fn list_stack(input: &[u8], from: &Bytes) -> usize {
+fn list_stack(input: &[u8], assumptions: &[u8], from: &Bytes) -> usize {
     let mut results = [0; 6];
     let mut checkpoint = *from;
     let mut models = vec![0; LISTED];
@@ -173,6 +194,8 @@ fn list_stack(input: &[u8], from: &Bytes) -> usize {
             norwythai_list(
                 input.as_ptr(),
                 input.len(),
+                assumptions.as_ptr(),
+                assumptions.len(),
                 checkpoint.as_mut_ptr(),
                 50,
                 models.as_mut_ptr(),
@@ -241,12 +264,13 @@ fn falling_ring() -> Vec<u8> {
 
 /// The links of the last clause's chain, by the library: the clauses that are matched otherwise than without it, and itself.
 fn links_of_last(input: &[u8]) -> usize {
-    let mut buffer = [0; 96];
-    let (_, clauses) = Proved.judge(input, &mut buffer).expect("a matched formula");
-    let mut without = [0; 96];
-    Proved
-        .judge(&without_last(input), &mut without)
-        .expect("a matched formula");
+    let judge = |input: &[u8]| {
+        let mut buffer = [0; 96];
+        let judged = Proved.judge(input, &Assumptions::default(), &mut buffer);
+        (judged.expect("a matched formula").1, buffer)
+    };
+    let (clauses, buffer) = judge(input);
+    let (_, without) = judge(&without_last(input));
     (0..clauses).filter(|i| buffer[*i] != without[*i]).count()
 }
 
@@ -257,37 +281,63 @@ fn without_last(input: &[u8]) -> Vec<u8> {
     shorter
 }
 
-/// The matched formulas on which the stack is measured, and their deep checkpoints.
-fn inputs() -> Vec<(Vec<u8>, Bytes)> {
-    let mut inputs: Vec<(Vec<u8>, Bytes)> = FAMILIES
-        .iter()
-        .flat_map(|family| family.cases())
-        .map(|case: Case| {
-            let deep = deep_checkpoint(&case);
-            (case.input, deep)
-        })
+/// A matched formula on which the stack is measured, with assumptions as the functions read them and a checkpoint deep in its walk.
+struct Measured {
+    input: Vec<u8>,
+    assumptions: Vec<u8>,
+    deep: Bytes,
+}
+
+impl Measured {
+    fn of_case(case: &Case) -> Self {
+        let assumptions = case.assumptions.proved.iter();
+        Measured {
+            input: case.input.clone(),
+            assumptions: assumptions
+                .flat_map(|assumption| [assumption.variable, assumption.value.into()])
+                .collect(),
+            deep: deep_checkpoint(case),
+        }
+    }
+
+    fn without_assumptions(input: Vec<u8>) -> Self {
+        Measured {
+            input,
+            assumptions: Vec::new(),
+            deep: START,
+        }
+    }
+}
+
+/// The formulas of all families, without assumptions and with half of their variables assumed, and two chains.
+fn all_measured() -> Vec<Measured> {
+    let cases = FAMILIES.iter().flat_map(|family| family.cases());
+    let assumed = FAMILIES.iter().flat_map(|family| family.half_assumed().1);
+    let mut measured: Vec<Measured> = cases
+        .chain(assumed)
+        .map(|case| Measured::of_case(&case))
         .collect();
-    inputs.push((chain(48), START));
-    inputs.push((falling_ring(), START));
-    inputs
+    measured.extend([chain(48), falling_ring()].map(Measured::without_assumptions));
+    measured
 }
 
 fn print_functions() {
-    let inputs = inputs();
-    let largest = |stack: &dyn Fn(&[u8], &Bytes) -> usize| {
-        inputs
+    let measured = all_measured();
+    let largest = |stack: &dyn Fn(&[u8], &[u8], &Bytes) -> usize| {
+        measured
             .iter()
-            .flat_map(|(input, deep)| [stack(input, &START), stack(input, deep)])
+            .flat_map(|m| [START, m.deep].map(|from| stack(&m.input, &m.assumptions, &from)))
             .max()
-            .expect("there are inputs")
+            .expect("there are formulas")
     };
     let fullest = fullest_input();
     // Also on the fullest input, which is not matched.
     let with_fullest =
-        |stack: fn(&[u8]) -> usize| largest(&|input, _| stack(input)).max(stack(&fullest));
+        |stack: fn(&[u8]) -> usize| largest(&|input, _, _| stack(input)).max(stack(&fullest));
+    let judge = largest(&|input, assumptions, _| judge_stack(input, assumptions));
     let rows = [
         ("norwythai_check", with_fullest(check_stack)),
-        ("norwythai_judge", with_fullest(judge_stack)),
+        ("norwythai_judge", judge.max(judge_stack(&fullest, &[]))),
         ("norwythai_start", start_stack()),
         ("norwythai_walk", largest(&walk_stack)),
         ("norwythai_list", largest(&list_stack)),
@@ -316,13 +366,14 @@ fn print_chains() {
         table.push(row(&[
             &clauses.to_string(),
             &links_of_last(&input).to_string(),
-            &count_text(judge_stack(&input) as u64),
+            &count_text(judge_stack(&input, &[]) as u64),
         ]));
     }
     print_table(&table);
     println!();
     println!("Re-matching calls itself once a link: at most 48 times, since a chain has each variable once.");
-    let grown = judge_stack(&chain(48)) as f64 - judge_stack(&chain(2)) as f64;
+    let [least, most] = [2, 48].map(|links| judge_stack(&chain(links), &[]) as f64);
+    let grown = most - least;
     println!("From 2 links to 48 the stack grows by {grown} bytes.");
 }
 

@@ -1,6 +1,6 @@
 //! How long one waits for the next model, in steps and in expansions, beside the proved bounds.
 
-use crate::families::{Case, Family, FAMILIES};
+use crate::families::{Case, FAMILIES};
 use crate::listers::{Lister, Proved};
 use crate::measure::{BUDGET, START};
 use crate::table::{count_text, print_table, row};
@@ -47,10 +47,10 @@ impl Waits {
     }
 }
 
-/// What is proved for so many variables and clauses: the first model comes after exactly n steps, the others are at most 2 n
-/// apart.
+/// What is proved for so many variables to assign and so many clauses: the first model comes after exactly n steps, the others are at
+/// most 2 n apart.
 fn bounds(case: &Case) -> Waits {
-    let (n, m) = (case.variables as u64, case.clauses as u64);
+    let (n, m) = (case.left_to_assign() as u64, case.clauses as u64);
     Waits {
         models: 0,
         all_steps: 0,
@@ -98,13 +98,13 @@ fn next_wait(walker: &mut Walker) -> Wait {
 /// The waits of a formula: counted by the reference, whose steps can be made one by one, and asked of the library.
 fn waits_of(case: &Case) -> Waits {
     let formula = decode(&case.input).expect("a formula");
-    let mut walker = Walker::start(&formula).expect("a matched formula");
+    let mut walker = Walker::start(&formula, &case.assumptions.rust).expect("a matched formula");
     let mut checkpoint = START;
     let mut longest = Waits::default();
     for index in 0..MODELS {
         let wait = next_wait(&mut walker);
         if index < ASKED {
-            let walked = Proved.walk(&case.input, &mut checkpoint, BUDGET);
+            let walked = Proved.walk(&case.input, &case.assumptions, &mut checkpoint, BUDGET);
             let walked = walked.expect("a checkpoint of the walk");
             assert_eq!(
                 (walked.model, walked.steps, walked.expansions),
@@ -129,8 +129,7 @@ fn waits_of(case: &Case) -> Waits {
     longest
 }
 
-fn family_row(family: &Family) -> Vec<String> {
-    let cases = family.cases();
+fn waits_row(title: &str, cases: &[Case]) -> Vec<String> {
     let seen = cases
         .iter()
         .map(waits_of)
@@ -141,7 +140,7 @@ fn family_row(family: &Family) -> Vec<String> {
         .fold(Waits::default(), Waits::longer);
     let beside = |seen, bound| format!("{} of {}", count_text(seen), count_text(bound));
     row(&[
-        family.title,
+        title,
         &count_text(seen.models),
         &format!("{:.1}", seen.all_steps as f64 / seen.models as f64),
         &beside(seen.first, bounds.first),
@@ -164,6 +163,12 @@ pub fn print_waits() {
         "between two, expansions (n n m (m + 1))",
         "one choice, expansions (n m (m + 1))",
     ])];
-    table.extend(FAMILIES.iter().map(family_row));
+    for family in &FAMILIES {
+        table.push(waits_row(family.title, &family.cases()));
+    }
+    for family in &FAMILIES {
+        let (title, cases) = family.half_assumed();
+        table.push(waits_row(&title, &cases));
+    }
     print_table(&table);
 }

@@ -1,7 +1,9 @@
 //! Matching clauses with variables (S5; request: pairing), and the act judge.
 
 use norwythai_reference::bits::{bit, lowest, numbers};
-use norwythai_reference::{judge_with, Formula, Refusal, Size, MAX_CLAUSES, MAX_VARIABLES};
+use norwythai_reference::{
+    judge_with, Assumed, Assumption, Formula, Refusal, Size, MAX_CLAUSES, MAX_VARIABLES,
+};
 
 /// A matching that grows clause by clause. What its arrays hold means something only for matched clauses and variables, so
 /// that a new matching costs no clearing.
@@ -110,32 +112,33 @@ impl Matching {
         self.pair(variable, root);
     }
 
-    /// Matches all clauses of a formula, in their order: by clause its variable, or the violator.
-    fn match_formula(&mut self, formula: &Formula) -> Result<&[u8], &[u8]> {
-        let clauses = formula.clauses();
+    /// Matches what remains of a formula's clauses, in their order: by clause its variable, or the violator.
+    fn match_formula(&mut self, formula: &Formula, assumed: Assumed) -> Result<&[u8], &[u8]> {
+        let live = !assumed.variables;
         let mut named = [0; MAX_CLAUSES];
-        for (index, clause) in clauses.iter().enumerate() {
-            named[index] = clause.named();
-        }
         self.clear();
-        if (0..clauses.len()).all(|clause| self.add(&named, !0, clause)) {
-            Ok(&self.variable_of[..clauses.len()])
-        } else {
-            Err(&self.queue[..self.last_taken])
+        for (index, clause) in formula.clauses().iter().enumerate() {
+            named[index] = clause.named();
+            if assumed.remaining(clause).is_some() && !self.add(&named, live, index) {
+                return Err(&self.queue[..self.last_taken]);
+            }
         }
+        Ok(&self.variable_of[..formula.clauses().len()])
     }
 }
 
-/// Refuses an unmatched formula by 10.
-pub(crate) fn require_matched(formula: &Formula) -> Result<(), Refusal> {
+/// Refuses by 10 a formula that is unmatched under the assumptions.
+pub(crate) fn require_matched(formula: &Formula, assumed: Assumed) -> Result<(), Refusal> {
     let mut matching = Matching::new();
-    let matched = matching.match_formula(formula);
+    let matched = matching.match_formula(formula, assumed);
     matched.map_err(|violator| Refusal::new(10, violator.len()))?;
     Ok(())
 }
 
 /// The act judge.
-pub fn judge(input: &[u8], buffer: &mut [u8]) -> Result<Size, Refusal> {
+pub fn judge(input: &[u8], assumptions: &[Assumption], buffer: &mut [u8]) -> Result<Size, Refusal> {
     let matching = &mut Matching::new();
-    judge_with(input, buffer, |formula| matching.match_formula(formula))
+    judge_with(input, assumptions, buffer, |formula, assumed| {
+        matching.match_formula(formula, assumed)
+    })
 }

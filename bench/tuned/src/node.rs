@@ -2,13 +2,18 @@
 
 use crate::matching::Matching;
 use norwythai_reference::bits::{bit, highest, lowest, numbers};
-use norwythai_reference::{Formula, MAX_VARIABLES};
+use norwythai_reference::{Assumed, Clause, Formula, MAX_VARIABLES};
 
-/// A matched formula, with what the walk asks of it at hand. It has no more clauses than variables, so that a set of clauses
-/// is a mask, too.
+/// What remains of a formula's clauses under the assumptions.
+fn remaining(formula: &Formula, assumed: Assumed) -> impl Iterator<Item = Clause> + '_ {
+    let clauses = formula.clauses().iter();
+    clauses.filter_map(move |clause| assumed.remaining(clause))
+}
+
+/// What remains of a formula, which is matched, with what the walk asks of it at hand. It has no more clauses than variables, so that a
+/// set of clauses is a mask, too.
 #[derive(Clone)]
 pub(crate) struct Occurrences {
-    pub variables: usize,
     /// By clause: the variables that it names.
     named: [u64; MAX_VARIABLES],
     /// By variable: the clauses in which it is a positive literal.
@@ -18,14 +23,13 @@ pub(crate) struct Occurrences {
 }
 
 impl Occurrences {
-    pub fn new(formula: &Formula) -> Self {
+    pub fn new(formula: &Formula, assumed: Assumed) -> Self {
         let mut found = Occurrences {
-            variables: formula.variables(),
             named: [0; MAX_VARIABLES],
             positive_in: [0; MAX_VARIABLES],
             negative_in: [0; MAX_VARIABLES],
         };
-        for (index, clause) in formula.clauses().iter().enumerate() {
+        for (index, clause) in remaining(formula, assumed).enumerate() {
             found.named[index] = clause.named();
             for variable in numbers(clause.positive) {
                 found.positive_in[variable] |= bit(index);
@@ -90,15 +94,14 @@ impl Choice {
 }
 
 impl Node {
-    /// The node with nothing assigned.
-    pub fn root(formula: &Formula) -> Self {
+    /// The node with nothing assigned but what is assumed.
+    pub fn root(formula: &Formula, assumed: Assumed) -> Self {
         let mut node = Node {
-            unassigned: bit(formula.variables()) - 1,
-            clauses: bit(formula.clauses().len()) - 1,
-            positive: 0,
-            negative: 0,
+            unassigned: (bit(formula.variables()) - 1) & !assumed.variables,
+            ..Node::default()
         };
-        for clause in formula.clauses() {
+        for clause in remaining(formula, assumed) {
+            node.clauses = node.clauses << 1 | 1;
             node.positive |= clause.positive;
             node.negative |= clause.negative;
         }
