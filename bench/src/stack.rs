@@ -159,7 +159,38 @@ fn start_stack() -> usize {
     })
 }
 
-fn walk_stack(input: &[u8], assumptions: &[u8], from: &Bytes) -> usize {
+/// A matched formula on which the stack is measured, with assumptions as the functions read them and a checkpoint deep in its walk.
+struct Measured {
+    input: Vec<u8>,
+    assumptions: Vec<u8>,
+    deep: Bytes,
+}
+
+impl Measured {
+    fn of_case(case: &Case) -> Self {
+        let assumptions = case.assumptions.proved.iter();
+        Measured {
+            input: case.input.clone(),
+            assumptions: assumptions
+                .flat_map(|assumption| [assumption.variable, assumption.value.into()])
+                .collect(),
+            deep: deep_checkpoint(case),
+        }
+    }
+
+    fn without_assumptions(input: Vec<u8>) -> Self {
+        Measured {
+            input,
+            assumptions: Vec::new(),
+            deep: START,
+        }
+    }
+}
+
+fn walk_stack(measured: &Measured, from: &Bytes) -> usize {
+    let Measured {
+        input, assumptions, ..
+    } = measured;
     let mut results = [0; 6];
     let mut checkpoint = *from;
     stack_of(&mut || {
@@ -183,7 +214,10 @@ fn walk_stack(input: &[u8], assumptions: &[u8], from: &Bytes) -> usize {
     })
 }
 
-fn list_stack(input: &[u8], assumptions: &[u8], from: &Bytes) -> usize {
+fn list_stack(measured: &Measured, from: &Bytes) -> usize {
+    let Measured {
+        input, assumptions, ..
+    } = measured;
     let mut results = [0; 6];
     let mut checkpoint = *from;
     let mut models = vec![0; LISTED];
@@ -281,34 +315,6 @@ fn without_last(input: &[u8]) -> Vec<u8> {
     shorter
 }
 
-/// A matched formula on which the stack is measured, with assumptions as the functions read them and a checkpoint deep in its walk.
-struct Measured {
-    input: Vec<u8>,
-    assumptions: Vec<u8>,
-    deep: Bytes,
-}
-
-impl Measured {
-    fn of_case(case: &Case) -> Self {
-        let assumptions = case.assumptions.proved.iter();
-        Measured {
-            input: case.input.clone(),
-            assumptions: assumptions
-                .flat_map(|assumption| [assumption.variable, assumption.value.into()])
-                .collect(),
-            deep: deep_checkpoint(case),
-        }
-    }
-
-    fn without_assumptions(input: Vec<u8>) -> Self {
-        Measured {
-            input,
-            assumptions: Vec::new(),
-            deep: START,
-        }
-    }
-}
-
 /// The formulas of all families, without assumptions and with half of their variables assumed, and two chains.
 fn all_measured() -> Vec<Measured> {
     let cases = FAMILIES.iter().flat_map(|family| family.cases());
@@ -322,19 +328,20 @@ fn all_measured() -> Vec<Measured> {
 }
 
 fn print_functions() {
-    let measured = all_measured();
-    let largest = |stack: &dyn Fn(&[u8], &[u8], &Bytes) -> usize| {
-        measured
-            .iter()
-            .flat_map(|m| [START, m.deep].map(|from| stack(&m.input, &m.assumptions, &from)))
+    let all = all_measured();
+    let largest = |stack: &dyn Fn(&Measured, &Bytes) -> usize| {
+        all.iter()
+            .flat_map(|measured| [START, measured.deep].map(|from| stack(measured, &from)))
             .max()
             .expect("there are formulas")
     };
     let fullest = fullest_input();
     // Also on the fullest input, which is not matched.
-    let with_fullest =
-        |stack: fn(&[u8]) -> usize| largest(&|input, _, _| stack(input)).max(stack(&fullest));
-    let judge = largest(&|input, assumptions, _| judge_stack(input, assumptions));
+    let with_fullest = |stack: fn(&[u8]) -> usize| {
+        let of_matched = largest(&|measured, _| stack(&measured.input));
+        of_matched.max(stack(&fullest))
+    };
+    let judge = largest(&|measured, _| judge_stack(&measured.input, &measured.assumptions));
     let rows = [
         ("norwythai_check", with_fullest(check_stack)),
         ("norwythai_judge", judge.max(judge_stack(&fullest, &[]))),

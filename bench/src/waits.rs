@@ -97,8 +97,10 @@ fn next_wait(walker: &mut Walker) -> Wait {
 
 /// The waits of a formula: counted by the reference, whose steps can be made one by one, and asked of the library.
 fn waits_of(case: &Case) -> Waits {
-    let formula = decode(&case.input).expect("a formula");
-    let mut walker = Walker::start(&formula, &case.assumptions.rust).expect("a matched formula");
+    let mut formula = decode(&case.input).expect("a formula");
+    let assumed = formula.assume(&case.assumptions.rust);
+    let assumed = assumed.expect("good assumptions");
+    let mut walker = Walker::start(&formula, assumed).expect("a matched formula");
     let mut checkpoint = START;
     let mut longest = Waits::default();
     for index in 0..MODELS {

@@ -2,7 +2,7 @@
 
 use norwythai_reference::bits::{bit, lowest, numbers};
 use norwythai_reference::{
-    judge_with, Assumed, Assumption, Formula, Refusal, Size, MAX_CLAUSES, MAX_VARIABLES,
+    judge_with, Assumption, Formula, Refusal, Size, MAX_CLAUSES, MAX_VARIABLES,
 };
 
 /// A matching that grows clause by clause. What its arrays hold means something only for matched clauses and variables, so
@@ -112,25 +112,26 @@ impl Matching {
         self.pair(variable, root);
     }
 
-    /// Matches what remains of a formula's clauses, in their order: by clause its variable, or the violator.
-    fn match_formula(&mut self, formula: &Formula, assumed: Assumed) -> Result<&[u8], &[u8]> {
-        let live = !assumed.variables;
+    /// Matches all clauses of a formula, in their order: by clause its variable, or the violator.
+    fn match_formula(&mut self, formula: &Formula) -> Result<&[u8], &[u8]> {
+        let clauses = formula.clauses();
         let mut named = [0; MAX_CLAUSES];
-        self.clear();
-        for (index, clause) in formula.clauses().iter().enumerate() {
+        for (index, clause) in clauses.iter().enumerate() {
             named[index] = clause.named();
-            if assumed.remaining(clause).is_some() && !self.add(&named, live, index) {
-                return Err(&self.queue[..self.last_taken]);
-            }
         }
-        Ok(&self.variable_of[..formula.clauses().len()])
+        self.clear();
+        if (0..clauses.len()).all(|clause| self.add(&named, !0, clause)) {
+            Ok(&self.variable_of[..clauses.len()])
+        } else {
+            Err(&self.queue[..self.last_taken])
+        }
     }
 }
 
-/// Refuses by 10 a formula that is unmatched under the assumptions.
-pub(crate) fn require_matched(formula: &Formula, assumed: Assumed) -> Result<(), Refusal> {
+/// Refuses an unmatched formula by 10.
+pub(crate) fn require_matched(formula: &Formula) -> Result<(), Refusal> {
     let mut matching = Matching::new();
-    let matched = matching.match_formula(formula, assumed);
+    let matched = matching.match_formula(formula);
     matched.map_err(|violator| Refusal::new(10, violator.len()))?;
     Ok(())
 }
@@ -138,7 +139,7 @@ pub(crate) fn require_matched(formula: &Formula, assumed: Assumed) -> Result<(),
 /// The act judge.
 pub fn judge(input: &[u8], assumptions: &[Assumption], buffer: &mut [u8]) -> Result<Size, Refusal> {
     let matching = &mut Matching::new();
-    judge_with(input, assumptions, buffer, |formula, assumed| {
-        matching.match_formula(formula, assumed)
+    judge_with(input, assumptions, buffer, |formula| {
+        matching.match_formula(formula)
     })
 }

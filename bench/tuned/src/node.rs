@@ -2,16 +2,10 @@
 
 use crate::matching::Matching;
 use norwythai_reference::bits::{bit, highest, lowest, numbers};
-use norwythai_reference::{Assumed, Clause, Formula, MAX_VARIABLES};
+use norwythai_reference::{Formula, MAX_VARIABLES};
 
-/// What remains of a formula's clauses under the assumptions.
-fn remaining(formula: &Formula, assumed: Assumed) -> impl Iterator<Item = Clause> + '_ {
-    let clauses = formula.clauses().iter();
-    clauses.filter_map(move |clause| assumed.remaining(clause))
-}
-
-/// What remains of a formula, which is matched, with what the walk asks of it at hand. It has no more clauses than variables, so that a
-/// set of clauses is a mask, too.
+/// A matched formula, with what the walk asks of it at hand. It has no more clauses than variables, so that a set of clauses
+/// is a mask, too.
 #[derive(Clone)]
 pub(crate) struct Occurrences {
     /// By clause: the variables that it names.
@@ -23,13 +17,13 @@ pub(crate) struct Occurrences {
 }
 
 impl Occurrences {
-    pub fn new(formula: &Formula, assumed: Assumed) -> Self {
+    pub fn new(formula: &Formula) -> Self {
         let mut found = Occurrences {
             named: [0; MAX_VARIABLES],
             positive_in: [0; MAX_VARIABLES],
             negative_in: [0; MAX_VARIABLES],
         };
-        for (index, clause) in remaining(formula, assumed).enumerate() {
+        for (index, clause) in formula.clauses().iter().enumerate() {
             found.named[index] = clause.named();
             for variable in numbers(clause.positive) {
                 found.positive_in[variable] |= bit(index);
@@ -94,14 +88,15 @@ impl Choice {
 }
 
 impl Node {
-    /// The node with nothing assigned but what is assumed.
-    pub fn root(formula: &Formula, assumed: Assumed) -> Self {
+    /// The node with nothing assigned but what is assumed, which the formula has no more.
+    pub fn root(formula: &Formula, assumed: u64) -> Self {
         let mut node = Node {
-            unassigned: (bit(formula.variables()) - 1) & !assumed.variables,
-            ..Node::default()
+            unassigned: (bit(formula.variables()) - 1) & !assumed,
+            clauses: bit(formula.clauses().len()) - 1,
+            positive: 0,
+            negative: 0,
         };
-        for clause in remaining(formula, assumed) {
-            node.clauses = node.clauses << 1 | 1;
+        for clause in formula.clauses() {
             node.positive |= clause.positive;
             node.negative |= clause.negative;
         }

@@ -1,7 +1,7 @@
 //! Which variable is assigned next (S6; request: which switch is settled next).
 
 use crate::bits::{bit, highest, lowest, numbers};
-use crate::formula::{Clause, MAX_VARIABLES};
+use crate::formula::{Clause, Formula, MAX_VARIABLES};
 use crate::matching::Matching;
 
 /// The variable to assign next, and its open values: those that some model has, beside what is assigned.
@@ -33,24 +33,28 @@ impl Choice {
     }
 }
 
-/// Clauses in the formula's order. Matched ones are no more than variables.
+/// Clauses in the formula's order. A matched formula has no more of them than variables.
 #[derive(Clone)]
-pub(crate) struct Clauses {
+struct Clauses {
     count: usize,
     clauses: [Clause; MAX_VARIABLES],
 }
 
 impl Clauses {
-    /// What remains of some clauses where these variables are assigned: satisfied ones are gone, and assigned variables are gone
+    /// The clauses that remain where these variables are assigned: satisfied ones are gone, and assigned variables are gone
     /// from the others.
-    pub fn remaining(clauses: &[Clause], assigned: u64, assignment: u64) -> Self {
+    fn remaining(formula: &Formula, assigned: u64, assignment: u64) -> Self {
         let mut left = Clauses {
             count: 0,
             clauses: [Clause::default(); MAX_VARIABLES],
         };
-        for clause in clauses {
-            if let Some(remaining) = clause.remaining(assigned, assignment) {
-                left.clauses[left.count] = remaining;
+        let (are_true, are_false) = (assigned & assignment, assigned & !assignment);
+        for clause in formula.clauses() {
+            if clause.positive & are_true | clause.negative & are_false == 0 {
+                left.clauses[left.count] = Clause {
+                    positive: clause.positive & !assigned,
+                    negative: clause.negative & !assigned,
+                };
                 left.count += 1;
             }
         }
@@ -108,8 +112,8 @@ fn strip(clauses: &mut Clauses) -> Noted {
 }
 
 /// The next variable to assign, where these variables are assigned and not all.
-pub(crate) fn choose(clauses: &Clauses, assigned: u64, assignment: u64) -> Choice {
-    let remaining = Clauses::remaining(clauses.as_slice(), assigned, assignment);
+pub(crate) fn choose(formula: &Formula, assigned: u64, assignment: u64) -> Choice {
+    let remaining = Clauses::remaining(formula, assigned, assignment);
     if remaining.count == 0 {
         return Choice::both_open(lowest(!assigned), 0);
     }

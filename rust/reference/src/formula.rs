@@ -45,29 +45,18 @@ impl Clause {
     pub fn holds(&self, assignment: u64) -> bool {
         self.positive & assignment | self.negative & !assignment != 0
     }
-
-    /// What remains of the clause where these variables are assigned: nothing if a literal of theirs is true, and else the literals
-    /// of the others.
-    #[inline]
-    pub fn remaining(&self, assigned: u64, assignment: u64) -> Option<Clause> {
-        let (are_true, are_false) = (assigned & assignment, assigned & !assignment);
-        (self.positive & are_true | self.negative & are_false == 0).then_some(Clause {
-            positive: self.positive & !assigned,
-            negative: self.negative & !assigned,
-        })
-    }
 }
 
-/// A decoded formula. Equal clauses stay separate.
+/// A decoded formula, or what remains of one under assumptions. Equal clauses stay separate.
 #[derive(Clone, Debug)]
 pub struct Formula {
-    variables: usize,
-    count: usize,
-    clauses: [Clause; MAX_CLAUSES],
+    pub(crate) variables: usize,
+    pub(crate) count: usize,
+    pub(crate) clauses: [Clause; MAX_CLAUSES],
 }
 
 impl Formula {
-    /// n, the number of variables: 1 to 48.
+    /// n, the number of variables: 1 to 48. Those that are assumed count, too.
     pub fn variables(&self) -> usize {
         self.variables
     }

@@ -21,7 +21,7 @@ mod matching;
 mod printing;
 mod walking;
 
-pub use assumptions::{assume, Assumed, Assumption};
+pub use assumptions::{Assumed, Assumption};
 pub use dimacs::{from_dimacs, read_text, to_dimacs, write_text, FORMULA_BUFFER, TEXT_BUFFER};
 pub use formula::{check, decode, Clause, Formula, Refusal, MAX_CLAUSES, MAX_VARIABLES};
 pub use matching::{judge, judge_with, Size};

@@ -1,6 +1,6 @@
 //! Matching clauses with variables (S5; request: pairing), and the act judge.
 
-use crate::assumptions::{assume, Assumed, Assumption};
+use crate::assumptions::Assumption;
 use crate::bits::{bit, numbers};
 use crate::formula::{decode, Formula, Refusal, MAX_CLAUSES, MAX_VARIABLES};
 
@@ -96,34 +96,31 @@ impl Matching {
         }
     }
 
-    /// Matches what remains of a formula's clauses, in their order: by clause its variable, which means something for the clauses
-    /// that remain, or, if that cannot be, the violator: the clauses that the failed search took off its queue (S5.5; request: the
-    /// marked rules).
-    fn match_formula(&mut self, formula: &Formula, assumed: Assumed) -> Result<&[u8], &[u8]> {
+    /// Matches all clauses of a formula, in their order: by clause its variable, or, if that cannot be, the violator: the clauses
+    /// that the failed search took off its queue (S5.5; request: the marked rules).
+    fn match_formula(&mut self, formula: &Formula) -> Result<&[u8], &[u8]> {
         let mut named = [0; MAX_CLAUSES];
-        self.matched = 0;
-        for (index, clause) in formula.clauses().iter().enumerate() {
-            let Some(remaining) = assumed.remaining(clause) else {
-                continue;
-            };
-            named[index] = remaining.named();
-            if !self.add(&named, index) {
-                return Err(&self.queue[..self.taken]);
-            }
+        for (set, clause) in named.iter_mut().zip(formula.clauses()) {
+            *set = clause.named();
         }
-        Ok(&self.variable_of[..formula.clauses().len()])
+        let clauses = formula.clauses().len();
+        if self.match_all(&named[..clauses]) {
+            Ok(&self.variable_of[..clauses])
+        } else {
+            Err(&self.queue[..self.taken])
+        }
     }
 }
 
-/// Refuses by 10 a formula that is unmatched under the assumptions.
-pub(crate) fn require_matched(formula: &Formula, assumed: Assumed) -> Result<(), Refusal> {
-    match Matching::new().match_formula(formula, assumed) {
+/// Refuses an unmatched formula by 10.
+pub(crate) fn require_matched(formula: &Formula) -> Result<(), Refusal> {
+    match Matching::new().match_formula(formula) {
         Ok(_) => Ok(()),
         Err(violator) => Err(Refusal::new(10, violator.len())),
     }
 }
 
-/// What judge says of a matched formula.
+/// What judge says of a matched formula; assumed variables and satisfied clauses count, too.
 #[derive(Clone, Copy, Debug, PartialEq, Eq)]
 pub struct Size {
     /// n, the number of variables.
@@ -137,41 +134,37 @@ pub struct Size {
 /// they are.
 pub fn judge(input: &[u8], assumptions: &[Assumption], buffer: &mut [u8]) -> Result<Size, Refusal> {
     let matching = &mut Matching::new();
-    judge_with(input, assumptions, buffer, |formula, assumed| {
-        matching.match_formula(formula, assumed)
+    judge_with(input, assumptions, buffer, |formula| {
+        matching.match_formula(formula)
     })
 }
 
-/// [`judge`] by any way of matching what remains of the formula's clauses: it gives the variable of each clause, both counted from
-/// 0, or the clauses of the violator. What it gives for a clause that an assumption satisfies means nothing.
+/// [`judge`] by any way of matching the clauses that remain: it gives the variable of each clause, both counted from 0, or the
+/// clauses of the violator.
 pub fn judge_with<'a>(
     input: &[u8],
     assumptions: &[Assumption],
     buffer: &mut [u8],
-    match_formula: impl FnOnce(&Formula, Assumed) -> Result<&'a [u8], &'a [u8]>,
+    match_formula: impl FnOnce(&Formula) -> Result<&'a [u8], &'a [u8]>,
 ) -> Result<Size, Refusal> {
     if buffer.len() < MAX_CLAUSES {
         return Err(Refusal::new(1, 0));
     }
-    let formula = decode(input)?;
-    let assumed = assume(&formula, assumptions)?;
-    let clauses = formula.clauses();
-    let written = &mut buffer[..clauses.len()];
-    match match_formula(&formula, assumed) {
+    let mut formula = decode(input)?;
+    let clauses = formula.clauses().len();
+    let assumed = formula.assume(assumptions)?;
+    let written = &mut buffer[..clauses];
+    match match_formula(&formula) {
         Ok(variables) => {
-            for ((byte, clause), variable) in written.iter_mut().zip(clauses).zip(variables) {
-                *byte = assumed.remaining(clause).map_or(0, |_| variable + 1);
-            }
+            assumed.write_row(written, variables.iter().map(|variable| variable + 1));
             Ok(Size {
                 variables: formula.variables(),
-                clauses: clauses.len(),
+                clauses,
             })
         }
         Err(violator) => {
-            written.fill(0);
-            for clause in violator {
-                written[usize::from(*clause)] = 1;
-            }
+            let marks = (0..).map(|clause| violator.contains(&clause).into());
+            assumed.write_row(written, marks);
             Err(Refusal::new(10, violator.len()))
         }
     }

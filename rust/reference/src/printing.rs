@@ -1,5 +1,6 @@
 //! The printed walk.
 
+use crate::assumptions::Assumed;
 use crate::formula::{decode, Refusal};
 use crate::walking::{Answer, Progress, Walker, LIST_BUDGET};
 use std::fmt::Write;
@@ -20,7 +21,7 @@ pub fn print(input: &[u8]) -> String {
 
 fn print_models(input: &[u8]) -> Result<String, Refusal> {
     let formula = decode(input)?;
-    let mut walker = Walker::start(&formula, &[])?;
+    let mut walker = Walker::start(&formula, Assumed::default())?;
     let variables = formula.variables();
     let mut text = format!("switches {} rules {}\n", variables, formula.clauses().len());
     for _ in 0..MOST_MODELS {

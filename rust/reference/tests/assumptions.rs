@@ -2,10 +2,10 @@
 
 use norwythai_reference::bits::{bit, numbers};
 use norwythai_reference::{
-    assume, check, decode, judge, list, start_checkpoint, walk, Answer, Assumption, Checkpoint,
+    check, decode, judge, list, start_checkpoint, walk, Answer, Assumed, Assumption, Checkpoint,
     Formula, Listed, Refusal, Size, Walker, LIST_BUDGET,
 };
-use norwythai_samples::{encode, some_assumptions, some_input, some_matched_formula, Random};
+use norwythai_samples::{encode, some_assumptions, some_input, Random};
 
 /// The specification's example, S12.3: clauses (1, 2) and (not 1, not 2).
 const EXAMPLE: &[u8] = &[1, 2, 2, 1, 2, 2, 4, 3, 1, 3, 2, 4, 5];
@@ -277,18 +277,28 @@ fn list_gives_the_models_that_keep_the_assumptions() {
 }
 
 /// What remains of a formula, as an input, and its variables: those that are not assumed, renumbered in their order.
-fn renumbered(formula: &Formula, assumptions: &[Assumption]) -> (Vec<u8>, Vec<usize>) {
-    let assumed = assume(formula, assumptions).unwrap();
-    let left: Vec<usize> = numbers((bit(formula.variables()) - 1) & !assumed.variables).collect();
-    let number = |variable| left.iter().position(|v| *v == variable).unwrap() as i8 + 1;
+fn renumbered(formula: &Formula, assumptions: &[Assumption]) -> (Vec<u8>, Vec<u8>) {
+    let value_of = |variable: u8| {
+        let assumption = assumptions.iter().find(|a| a.variable == variable);
+        assumption.map(|a| a.value)
+    };
+    let left: Vec<u8> = (1..=formula.variables() as u8)
+        .filter(|variable| value_of(*variable).is_none())
+        .collect();
     let mut clauses = Vec::new();
     for clause in formula.clauses() {
-        let are_true = clause.positive & assumed.assignment;
-        let are_false = clause.negative & assumed.variables & !assumed.assignment;
-        if are_true | are_false == 0 {
-            let positive = numbers(clause.positive & !assumed.variables).map(number);
-            let negative = numbers(clause.negative & !assumed.variables).map(|v| -number(v));
-            clauses.push(positive.chain(negative).collect());
+        let positive = numbers(clause.positive).map(|v| (v as u8 + 1, true));
+        let negative = numbers(clause.negative).map(|v| (v as u8 + 1, false));
+        let literals: Vec<(u8, bool)> = positive.chain(negative).collect();
+        if !literals
+            .iter()
+            .any(|(v, value)| value_of(*v) == Some(*value))
+        {
+            let number = |(v, value): &(u8, bool)| {
+                let number = left.iter().position(|other| other == v)? as i8 + 1;
+                Some(if *value { number } else { -number })
+            };
+            clauses.push(literals.iter().filter_map(number).collect());
         }
     }
     (encode(left.len(), &clauses), left)
@@ -299,26 +309,29 @@ fn a_walk_under_assumptions_is_that_of_what_remains() {
     let mut random = Random::new(2);
     let (mut walks, mut refused, mut with_trials) = (0, 0, 0);
     while walks < 1_000 {
-        let input = some_matched_formula(&mut random, is_matched);
-        let formula = decode(&input).unwrap();
+        let input = some_input(&mut random, is_matched);
         let assumptions = some_list(&mut random, &input);
-        let Ok(assumed) = assume(&formula, &assumptions) else {
+        let Ok(mut formula) = decode(&input) else {
             continue;
         };
-        if assumptions.is_empty() || assumptions.len() == formula.variables() {
+        if assumptions.is_empty() || assumptions.len() >= formula.variables() {
             continue;
         }
         let (smaller, left) = renumbered(&formula, &assumptions);
+        let Ok(assumed) = formula.assume(&assumptions) else {
+            continue;
+        };
         let smaller = decode(&smaller).unwrap();
-        let mut walker = match Walker::start(&formula, &assumptions) {
+        let smaller_walker = Walker::start(&smaller, Assumed::default());
+        let mut walker = match Walker::start(&formula, assumed) {
             Ok(walker) => walker,
             Err(refusal) => {
-                assert_eq!(Walker::start(&smaller, &[]).err(), Some(refusal));
+                assert_eq!(smaller_walker.err(), Some(refusal));
                 refused += 1;
                 continue;
             }
         };
-        let mut smaller_walker = Walker::start(&smaller, &[]).unwrap();
+        let mut smaller_walker = smaller_walker.unwrap();
         for _ in 0..20 {
             let budget = random.pick(&[1, 5, 30, LIST_BUDGET]);
             let (found, expected) = (walker.advance(budget), smaller_walker.advance(budget));
@@ -326,8 +339,8 @@ fn a_walk_under_assumptions_is_that_of_what_remains() {
             assert_eq!(found.expansions, expected.expansions);
             let answer = match expected.answer {
                 Answer::Model(model) => {
-                    let are_true = numbers(model).map(|v| bit(left[v])).sum::<u64>();
-                    Answer::Model(assumed.assignment | are_true)
+                    let are_true = numbers(model).map(|v| bit(usize::from(left[v]) - 1));
+                    Answer::Model(assumed.assignment | are_true.sum::<u64>())
                 }
                 answer => answer,
             };
@@ -335,7 +348,7 @@ fn a_walk_under_assumptions_is_that_of_what_remains() {
             let mut bytes = smaller_walker.checkpoint();
             let length = usize::from(bytes[1]);
             for byte in &mut bytes[2..2 + length] {
-                *byte = *byte & 128 | (left[usize::from(*byte & 127) - 1] + 1) as u8;
+                *byte = *byte & 128 | left[usize::from(*byte & 127) - 1];
             }
             assert_eq!(walker.checkpoint(), bytes);
             with_trials += usize::from(found.expansions > 0);

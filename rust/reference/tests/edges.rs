@@ -1,8 +1,8 @@
 //! The cases at the edges, and a trial of all assignments.
 
 use norwythai_reference::{
-    check, decode, judge, list, print, start_checkpoint, walk, Answer, Refusal, Size, Walker,
-    LIST_BUDGET,
+    check, decode, judge, list, print, start_checkpoint, walk, Answer, Assumed, Refusal, Size,
+    Walker, LIST_BUDGET,
 };
 use norwythai_samples::encode;
 
@@ -300,7 +300,7 @@ fn a_walker_goes_on_where_its_checkpoint_says() {
         .collect();
     let input = encode(12, &clauses);
     let formula = decode(&input).unwrap();
-    let mut walker = Walker::start(&formula, &[]).unwrap();
+    let mut walker = Walker::start(&formula, Assumed::default()).unwrap();
     let mut expansions = 0;
     loop {
         let checkpoint = walker.checkpoint();

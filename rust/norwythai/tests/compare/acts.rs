@@ -195,8 +195,9 @@ pub fn compare_chain(
     input: &[u8],
     assumed: &Assumed,
 ) -> Vec<reference::Checkpoint> {
-    let formula = reference::decode(input).unwrap();
-    let mut walker = reference::Walker::start(&formula, &assumed.reference).unwrap();
+    let mut formula = reference::decode(input).unwrap();
+    let masks = formula.assume(&assumed.reference).unwrap();
+    let mut walker = reference::Walker::start(&formula, masks).unwrap();
     let mut checkpoint = Checkpoint::start();
     let mut pool = vec![*checkpoint.as_bytes()];
     for _ in 0..random.between(1, 12) {

@@ -34,9 +34,9 @@ impl Assumed {
 
     /// How many variables of a readable input are not assumed; none if the list is bad.
     pub fn left_to_assign(&self, input: &[u8]) -> Option<usize> {
-        let formula = reference::decode(input).ok()?;
-        let assumed = reference::assume(&formula, &self.reference).ok()?;
-        Some(assumed.left_to_assign(&formula))
+        let mut formula = reference::decode(input).ok()?;
+        let masks = formula.assume(&self.reference).ok()?;
+        Some(masks.left_to_assign(&formula))
     }
 
     /// Whether the list has the variable of this number.

@@ -227,8 +227,9 @@ fn the_iterator_has_the_checkpoint_of_each_model() {
     for _ in 0..60 {
         let input = some_matched_formula(&mut random, is_matched);
         let assumed = some_accepted(&mut random, &input);
-        let formula = reference::decode(&input).unwrap();
-        let mut walker = reference::Walker::start(&formula, &assumed.reference).unwrap();
+        let mut formula = reference::decode(&input).unwrap();
+        let masks = formula.assume(&assumed.reference).unwrap();
+        let mut walker = reference::Walker::start(&formula, masks).unwrap();
         let mut models = Models::under(&input, &assumed.list);
         assert_eq!(models.checkpoint().as_bytes(), &walker.checkpoint());
         for _ in 0..300 {

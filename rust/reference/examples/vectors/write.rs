@@ -153,8 +153,9 @@ fn chain_line(
 
 /// The whole walk of a formula that is matched under the assumptions, if it has few models.
 fn listing_line(from: &str, input: &[u8], assumptions: &[Assumption]) -> Option<String> {
-    let formula = decode(input).ok()?;
-    let mut walker = Walker::start(&formula, assumptions).ok()?;
+    let mut formula = decode(input).ok()?;
+    let assumed = formula.assume(assumptions).ok()?;
+    let mut walker = Walker::start(&formula, assumed).ok()?;
     let mut models = Vec::new();
     loop {
         let Progress {
