@@ -151,6 +151,17 @@ fn a_bad_assumption_has_its_index() {
             "fixed setting 2 (counted from 0) is of a switch that the kit doesn't have, or that is fixed before it"
         );
     }
+
+    // A list may have any length, but then some variable stands in it twice.
+    let largest = Formula::from(vec![1, 48, 5]);
+    let all: Vec<Assumption> = (1..=48).map(Assumption::positive).collect();
+    assert_eq!(largest.models_under(&all).count(), 1);
+    for length in [49, 128, 129, 256, 257, 65_536, 65_537] {
+        let list: Vec<Assumption> = all.iter().copied().cycle().take(length).collect();
+        let refusal = largest.models_under(&list).next();
+        let expected = Refusal::BadAssumption { index: 48 };
+        assert_eq!(refusal, Some(Err(expected)), "{length}");
+    }
 }
 
 #[test]

@@ -96,10 +96,12 @@ pub fn some_assumptions(random: &mut Random, input: &[u8]) -> Vec<Assumption> {
             put_bad(random, &mut list, variables);
         }
         if random.percent(20) {
-            // More than there are variables.
-            let more = variables + random.pick(&[1, 10, 256]);
-            let last = list.len() - 1;
-            list.extend((0..more).map(|i| list[i.min(last)]).collect::<Vec<_>>());
+            // More than there are variables, also just as many as a byte has no room for.
+            let length = random.pick(&[variables + 1, 128, 129, 256, 257]);
+            while list.len() < length {
+                let again = random.pick(&list);
+                list.push(again);
+            }
         }
     }
     list

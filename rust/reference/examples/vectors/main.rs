@@ -4,8 +4,8 @@
 //!     vectors given SEED             writes vectors for the inputs on standard input, in hexadecimal, one a line
 //!     vectors generate SEED COUNT    writes vectors for so many generated inputs
 //!
-//! The seed is for all that is random: the generated inputs, and the assignments, buffers, checkpoints and budgets of the calls. A
-//! comparison fails if some vector differs, or if there are none.
+//! The seed is for all that is random: the generated inputs, and the assumptions, assignments, buffers, checkpoints and budgets of the
+//! calls. A comparison fails if some vector differs, or if there are none.
 
 mod compare;
 mod values;
