@@ -97,6 +97,21 @@ impl Formula<'_> {
     }
 
     /// The models that keep the assumptions.
+    ///
+    /// ```
+    /// use norwythai::{Assumption, Formula};
+    ///
+    /// let formula = Formula::from_dimacs(b"p cnf 3 1\n1 2 0\n")?;
+    /// let known = [Assumption::negative(1)];
+    /// let mut models = formula.models_under(&known);
+    /// assert_eq!(models.next().unwrap()?.digits(3).to_string(), "010");
+    ///
+    /// // Later, under the same assumptions:
+    /// let mut rest = formula.models_under_from(&known, models.checkpoint());
+    /// assert_eq!(rest.next().unwrap()?.digits(3).to_string(), "011");
+    /// assert!(rest.next().is_none());
+    /// # Ok::<(), norwythai::Refusal>(())
+    /// ```
     pub fn models_under(&self, assumptions: &[Assumption]) -> Models<'_> {
         Models::under(&self.0, assumptions)
     }
