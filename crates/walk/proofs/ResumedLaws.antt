@@ -1,4 +1,4 @@
--- A walk call from a checkpoint of 48 bytes is the call that the code makes, and the checkpoint that it returns has 48 bytes.
+-- The checkpoint that a walk call from one of 48 bytes returns has 48 bytes.
 use Prim.Native.Nat.{ℕ}
 use mathlib.Core.List.{List}
 use mathlib.Core.Path.{_≡_, refl, ap, _∙_}
@@ -13,16 +13,10 @@ use Rattle.walk.specs.PlainMachine.{plain-call}
 use Rattle.walk.specs.WalkCall.{walk-call}
 use Rattle.walk.specs.InnerLocate.{Located, at-state, nowhere, located}
 use Rattle.walk.specs.Results.{Result}
-use Rattle.walk.specs.InnerStack.{tree}
-use Rattle.walk.specs.InnerCall.{resumed-call}
-use Rattle.walk.proofs.TaskLaws.{call-is, call-tested, after-bytes}
+use Rattle.walk.proofs.TaskLaws.{call-is, after-bytes}
 use Rattle.walk.proofs.RefusalLaws.{call-declined, call-accepted, accepted-posed}
 
 module _ (s : List ℕ) (us : List Assumption) (c : Checkpoint) (b : ℕ) (whole-bytes : length (c .bytes) ≡ max-variables) where
-  -- on an accepted input
-  pub call-resumed : (n : ℕ) (t : List Literal) (cs : List (List Literal)) (row : List ℕ) → acceptance s us ≡ accepted n t cs row → walk-call s us c b ≡ resumed-call (tree (under n t cs)) c b
-  call-resumed n t cs row e = call-tested s us (under n t cs) (accepted-posed s us n t cs row e) (call-accepted s us n t cs row e) c b whole-bytes
-
   -- the checkpoint that it returns
   pub call-bytes : length (walk-call s us c b .checkpoint .bytes) ≡ max-variables
   call-bytes = by (acceptance s us) refl
