@@ -7,7 +7,8 @@ use lib.ListN.{length, getD, take}
 use Rattle.assumptions.specs.declared.Assumption.{Assumption}
 use Rattle.assumptions.specs.declared.Assumptions.{Assumptions}
 use Rattle.assumptions.specs.Assumed.{assumed}
-use Rattle.assumptions.specs.InnerAssumed.{masks-of, taken, pair-at, pairs-of}
+use Rattle.assumptions.specs.InnerAssumed.{masks-of, taken, pair-at}
+use Rattle.assumptions.specs.Pairs.{pairs-of}
 use Rattle.assumptions.proofs.TakenLaws.{taken-next}
 
 -- there are half as many assumptions as bytes

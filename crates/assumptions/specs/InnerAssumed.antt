@@ -1,7 +1,7 @@
 -- A list of assumptions as the code holds it, in two masks, and what its functions compute.
 use Prim.Native.Nat.{ℕ, _+_, _*_, _-_}
-use mathlib.Core.Bool.{Bool, true, false, not, cond, _||_}
-use mathlib.Core.List.{List, [], _∷_}
+use mathlib.Core.Bool.{Bool, true, false, cond, _||_}
+use mathlib.Core.List.{List}
 use mathlib.Core.Path.{_≡_}
 use lib.Bits.{bitOr}
 use lib.Dec.{eqb, ltb}
@@ -12,6 +12,7 @@ use Rattle.formula.specs.InnerMasked.{clause-of}
 use Rattle.assumptions.specs.declared.Assumption.{Assumption}
 use Rattle.assumptions.specs.declared.Assumptions.{Assumptions}
 use Rattle.assumptions.specs.Assumed.{Assumed, literals, bad, assumed}
+use Rattle.assumptions.specs.Pairs.{pair-of}
 
 -- nothing is assumed
 abbrev pub none-assumed : Assumptions
@@ -51,16 +52,6 @@ stated-in s = cond (ltb (length s) 2) 0 (cond (ltb max-variables (getD s 1 0)) m
 abbrev pub Given : List ℕ → List Assumption → Assumptions → Type 0
 Given s us a = a ≡ masks-of (assumed (stated-in s) us)
 
--- an assumption as two bytes: its variable, and 0 for false or another for true
-abbrev pub pair-of : ℕ → ℕ → Assumption
-pair-of x y = record { variable = x; value = not (eqb y 0) }
-
--- the one with the index i
+-- of a list as bytes, the assumption with the index i
 abbrev pub pair-at : List ℕ → ℕ → Assumption
 pair-at s i = pair-of (getD s (i * 2) 0) (getD s (i * 2 + 1) 0)
-
--- all of them; a lone last byte is none
-unfoldable pub pairs-of : List ℕ → List Assumption
-pairs-of [] = []
-pairs-of (x ∷ []) = []
-pairs-of (x ∷ y ∷ s) = pair-of x y ∷ pairs-of s

@@ -1,3 +1,4 @@
 pub mod Assumed
 pub mod FirstBad
 pub mod InnerAssumed
+pub mod Pairs

@@ -9,7 +9,8 @@ ghost use Prim.Native.Nat.{_+_, _*_, _<_, _≤_};
 ghost use lib.ListN.{length};
 ghost use Rattle.limits.specs.Limits.{max-variables};
 ghost use Rattle.assumptions.specs.Assumed.{assumed};
-ghost use Rattle.assumptions.specs.InnerAssumed.{none-assumed, bad-in, assumed-to, taken, masks-of, stated-in, pair-at, pairs-of};
+ghost use Rattle.assumptions.specs.InnerAssumed.{none-assumed, bad-in, assumed-to, taken, masks-of, stated-in, pair-at};
+ghost use Rattle.assumptions.specs.Pairs.{pairs-of};
 
 // S17.1: an assumption (request: fixing): a variable, from 1, that is taken as given, and its value.
 pub struct Assumption {

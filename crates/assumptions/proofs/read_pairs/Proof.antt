@@ -5,7 +5,8 @@ use native.Mathlib.Omega.{arith}
 use lib.ListN.{length, take}
 use borrow.Author.Needs.{needs}
 use Rattle.assumptions.specs.Assumed.{assumed}
-use Rattle.assumptions.specs.InnerAssumed.{masks-of, pairs-of}
+use Rattle.assumptions.specs.InnerAssumed.{masks-of}
+use Rattle.assumptions.specs.Pairs.{pairs-of}
 use Rattle.assumptions.proofs.PairsLaws.{pairs-length, pairs-next}
 use Rattle.assumptions.proofs.TakenLaws.{taken-none, taken-all}
 use Rattle.assumptions.proofs.read_pairs.Statement.{statement}
