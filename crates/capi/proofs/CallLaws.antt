@@ -1,11 +1,12 @@
 -- What each exported function gives, from what its parts ensure: nothing is written, or the results are.
-use Prim.Native.Nat.{ℕ}
+use Prim.Native.Nat.{ℕ, _%_}
 use mathlib.Core.List.{List}
 use mathlib.Core.Path.{_≡_, sym, ap, _∙_}
 use lib.ListN.{length}
 use borrow.Author.Tests.{eq-eqb, ne-eqb}
 use Rattle.formula.specs.Check as check
 use Rattle.formula.specs.Check.{checked}
+use Rattle.assumptions.specs.Pairs.{pairs-of}
 use Rattle.dimacs.specs.Convert.{ConvertedValues, Conversion}
 use Rattle.matched.specs.Judge as judging
 use Rattle.matched.specs.Judge.{judge}
@@ -16,7 +17,7 @@ use Rattle.enumeration.specs.declared.listing.Listed.{Listed}
 use Rattle.enumeration.specs.declared.calls.Walked.{Walked}
 use Rattle.enumeration.specs.Values.{checkpoint-values, walked-values, listed-values}
 use Rattle.enumeration.specs.Lists.{Delivered, next-models}
-use Rattle.capi.specs.Interface.{results-size, checkpoint-size, check-results, judge-results, conversion-results, walk-results, list-results, checkpoint-bytes, checkpoint-in, check-called, judge-called, conversion-called, start-called, walk-told, walk-called, list-told, list-called}
+use Rattle.capi.specs.Interface.{results-size, checkpoint-size, assumption-size, check-results, judge-results, conversion-results, walk-results, list-results, checkpoint-bytes, checkpoint-in, check-called, judge-called, conversion-called, start-called, walk-told, walk-called, list-told, list-called}
 use Rattle.capi.proofs.ResultsLaws.{beside}
 
 module _ (s results : List ℕ) (a : ℕ) where
@@ -31,20 +32,29 @@ module _ (s results : List ℕ) (a : ℕ) where
   unfolding check-called
   check-written r after h e f = rw (eq-eqb _ _ h, f, e)
 
-module _ (s buffer results : List ℕ) where
+module _ (s assumptions buffer results : List ℕ) where
   pub judge-unwritten :
-      (length results ≡ results-size → ⊥) → judge-called s buffer results ≡ (1, buffer, results)
+      (length assumptions % assumption-size ≡ 0 → ⊥) →
+      judge-called s assumptions buffer results ≡ (1, buffer, results)
   unfolding judge-called
-  judge-unwritten h = rw (ne-eqb _ _ h)
+  judge-unwritten g = rw (ne-eqb _ _ g)
+
+  pub judge-unwritten-2 :
+      length assumptions % assumption-size ≡ 0 →
+      (length results ≡ results-size → ⊥) →
+      judge-called s assumptions buffer results ≡ (1, buffer, results)
+  unfolding judge-called
+  judge-unwritten-2 g h = rw (eq-eqb _ _ g, ne-eqb _ _ h)
 
   pub judge-written :
       (r : judging.JudgementValues) (left after : List ℕ) →
+      length assumptions % assumption-size ≡ 0 →
       length results ≡ results-size →
-      r ≡ judge s buffer .answer →
-      left ≡ judge s buffer .buffer →
-      after ≡ judge-results r → judge-called s buffer results ≡ (0, left, after)
+      r ≡ judge s (pairs-of assumptions) buffer .answer →
+      left ≡ judge s (pairs-of assumptions) buffer .buffer →
+      after ≡ judge-results r → judge-called s assumptions buffer results ≡ (0, left, after)
   unfolding judge-called
-  judge-written r left after h e l f = rw (eq-eqb _ _ h, f, e, l)
+  judge-written r left after g h e l f = rw (eq-eqb _ _ g, eq-eqb _ _ h, f, e, l)
 
 module _ (c : Conversion) (buffer results : List ℕ) where
   pub conversion-unwritten :
@@ -72,76 +82,97 @@ module _ (checkpoint : List ℕ) where
   unfolding start-called
   start-written c after h e f = rw (eq-eqb _ _ h, f, e)
 
-module _ (s checkpoint results : List ℕ) (budget : ℕ) where
+module _ (s assumptions checkpoint results : List ℕ) (budget : ℕ) where
   pub walk-unwritten :
-      (length checkpoint ≡ checkpoint-size → ⊥) →
-      walk-called s checkpoint budget results ≡ (1, checkpoint, results)
+      (length assumptions % assumption-size ≡ 0 → ⊥) →
+      walk-called s assumptions checkpoint budget results ≡ (1, checkpoint, results)
   unfolding walk-called
-  walk-unwritten h = rw (ne-eqb _ _ h)
+  walk-unwritten g = rw (ne-eqb _ _ g)
 
   pub walk-unwritten-2 :
+      length assumptions % assumption-size ≡ 0 →
+      (length checkpoint ≡ checkpoint-size → ⊥) →
+      walk-called s assumptions checkpoint budget results ≡ (1, checkpoint, results)
+  unfolding walk-called
+  walk-unwritten-2 g h = rw (eq-eqb _ _ g, ne-eqb _ _ h)
+
+  pub walk-unwritten-3 :
+      length assumptions % assumption-size ≡ 0 →
       length checkpoint ≡ checkpoint-size →
       (length results ≡ results-size → ⊥) →
-      walk-called s checkpoint budget results ≡ (1, checkpoint, results)
+      walk-called s assumptions checkpoint budget results ≡ (1, checkpoint, results)
   unfolding walk-called
-  walk-unwritten-2 h k = rw (eq-eqb _ _ h, ne-eqb _ _ k)
+  walk-unwritten-3 g h k = rw (eq-eqb _ _ g, eq-eqb _ _ h, ne-eqb _ _ k)
 
-  -- both lengths are right
+  -- all lengths are right
   pub walk-called-is :
+      length assumptions % assumption-size ≡ 0 →
       length checkpoint ≡ checkpoint-size →
       length results ≡ results-size →
-      walk-called s checkpoint budget results ≡ walk-told (walk-call s (checkpoint-in checkpoint) budget)
+      walk-called s assumptions checkpoint budget results ≡ walk-told (walk-call s (pairs-of assumptions) (checkpoint-in checkpoint) budget)
   unfolding walk-called
-  walk-called-is h k = rw (eq-eqb _ _ h, eq-eqb _ _ k)
+  walk-called-is g h k = rw (eq-eqb _ _ g, eq-eqb _ _ h, eq-eqb _ _ k)
 
   pub walk-written :
       (from : Checkpoint) (w : Walked) (left after : List ℕ) →
+      length assumptions % assumption-size ≡ 0 →
       length checkpoint ≡ checkpoint-size →
       length results ≡ results-size →
       from ≡ checkpoint-in checkpoint →
-      walked-values w ≡ walk-call s from budget →
+      walked-values w ≡ walk-call s (pairs-of assumptions) from budget →
       left ≡ checkpoint-bytes (checkpoint-values (w .checkpoint)) →
       after ≡ walk-results (walked-values w) →
-      walk-called s checkpoint budget results ≡ (0, left, after)
-  walk-written from w left after h k f e l g =
-      rw (walk-called-is h k, ← f, ← e, l, g, beside (w .answer) (w .steps) (w .expansions) (checkpoint-values (w .checkpoint)))
+      walk-called s assumptions checkpoint budget results ≡ (0, left, after)
+  walk-written from w left after g h k f e l r =
+      rw (walk-called-is g h k, ← f, ← e, l, r, beside (w .answer) (w .steps) (w .expansions) (checkpoint-values (w .checkpoint)))
 
-module _ (s checkpoint models results : List ℕ) where
+module _ (s assumptions checkpoint models results : List ℕ) where
   pub list-unwritten :
-      (length checkpoint ≡ checkpoint-size → ⊥) →
-      list-called s checkpoint models results ≡ (1, checkpoint, models, results)
+      (length assumptions % assumption-size ≡ 0 → ⊥) →
+      list-called s assumptions checkpoint models results ≡ (1, checkpoint, models, results)
   unfolding list-called
-  list-unwritten h = rw (ne-eqb _ _ h)
+  list-unwritten g = rw (ne-eqb _ _ g)
 
   pub list-unwritten-2 :
+      length assumptions % assumption-size ≡ 0 →
+      (length checkpoint ≡ checkpoint-size → ⊥) →
+      list-called s assumptions checkpoint models results ≡ (1, checkpoint, models, results)
+  unfolding list-called
+  list-unwritten-2 g h = rw (eq-eqb _ _ g, ne-eqb _ _ h)
+
+  pub list-unwritten-3 :
+      length assumptions % assumption-size ≡ 0 →
       length checkpoint ≡ checkpoint-size →
       (length results ≡ results-size → ⊥) →
-      list-called s checkpoint models results ≡ (1, checkpoint, models, results)
+      list-called s assumptions checkpoint models results ≡ (1, checkpoint, models, results)
   unfolding list-called
-  list-unwritten-2 h k = rw (eq-eqb _ _ h, ne-eqb _ _ k)
+  list-unwritten-3 g h k = rw (eq-eqb _ _ g, eq-eqb _ _ h, ne-eqb _ _ k)
 
-  -- both lengths are right
+  -- all lengths are right
   pub list-called-is :
+      length assumptions % assumption-size ≡ 0 →
       length checkpoint ≡ checkpoint-size →
       length results ≡ results-size →
-      list-called s checkpoint models results ≡ list-told models (next-models s (checkpoint-in checkpoint) (length models))
+      list-called s assumptions checkpoint models results
+      ≡ list-told models (next-models s (pairs-of assumptions) (checkpoint-in checkpoint) (length models))
   unfolding list-called
-  list-called-is h k = rw (eq-eqb _ _ h, eq-eqb _ _ k)
+  list-called-is g h k = rw (eq-eqb _ _ g, eq-eqb _ _ h, eq-eqb _ _ k)
 
   pub list-written :
       (from : Checkpoint) (r : Listed) (left brought after : List ℕ) →
+      length assumptions % assumption-size ≡ 0 →
       length checkpoint ≡ checkpoint-size →
       length results ≡ results-size →
       from ≡ checkpoint-in checkpoint →
-      Delivered (next-models s from (length models)) models brought r →
+      Delivered (next-models s (pairs-of assumptions) from (length models)) models brought r →
       left ≡ checkpoint-bytes (checkpoint-values (r .checkpoint)) →
       after ≡ list-results (r .count) (listed-values r) →
-      list-called s checkpoint models results ≡ (0, left, brought, after)
-  list-written from r left brought after h k f e l g =
-      let x = next-models s from (length models) in
+      list-called s assumptions checkpoint models results ≡ (0, left, brought, after)
+  list-written from r left brought after g h k f e l w =
+      let x = next-models s (pairs-of assumptions) from (length models) in
       let c : x .last .checkpoint ≡ checkpoint-values (r .checkpoint) =
       ap (λ (q : Result). q .checkpoint) (sym (e .last)) ∙ beside (r .answer) 0 0 (checkpoint-values (r .checkpoint)) in
       let p : left ≡ checkpoint-bytes (x .last .checkpoint) = l ∙ ap checkpoint-bytes (sym c) in
       let q : after ≡ list-results (length (x .models)) (x .last) =
-      g ∙ ap (list-results (r .count)) (e .last) ∙ ap (λ (n : ℕ). list-results n (x .last)) (e .count) in
-      rw (list-called-is h k, ← f, p, q, e .written)
+      w ∙ ap (list-results (r .count)) (e .last) ∙ ap (λ (n : ℕ). list-results n (x .last)) (e .count) in
+      rw (list-called-is g h k, ← f, p, q, e .written)

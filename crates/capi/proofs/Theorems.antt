@@ -1,6 +1,6 @@
 -- What holds of the interface: no byte of a checkpoint is lost, a refused call leaves it as it was and brings no model, a refused
 -- conversion leaves its buffer, and calls from the start checkpoint make the walk of demand 3 (S10).
-use Prim.Native.Nat.{ℕ, zero, suc, _≤_}
+use Prim.Native.Nat.{ℕ, zero, suc, _%_, _≤_}
 use mathlib.Core.Bool.{cond}
 use mathlib.Core.List.{List, [], _∷_, map}
 use mathlib.Core.Logic.{⊎-elim}
@@ -12,15 +12,24 @@ use lib.ListN.{length, getD, replicate}
 use Rattle.limits.specs.Limits.{max-variables}
 use Rattle.lists.specs.Over.{over}
 use Rattle.lists.proofs.PaddedLaws.{padded-none}
+use Rattle.formula.specs.Format.{Literal, Encodes}
+use Rattle.assumptions.specs.declared.Assumption.{Assumption}
+use Rattle.assumptions.specs.Assumed.{literal-of}
+use Rattle.assumptions.specs.FirstBad.{NoneBad}
+use Rattle.assumptions.specs.Pairs.{pairs-of}
+use Rattle.splitting.specs.Nodes.{remaining}
+use Rattle.matched.specs.Pairing.{Pairs}
 use Rattle.dimacs.specs.Convert.{Conversion, to-encoded, to-text}
 use Rattle.dimacs.proofs.Demands.{read-untouched, write-untouched}
+use Rattle.walk.specs.Task.{under}
 use Rattle.walk.specs.Checkpoints.{Checkpoint, checkpoint-of, start}
 use Rattle.walk.specs.WalkCall.{walk-call, walk-calls}
 use Rattle.walk.specs.Results.{AnswerKind, says-model, says-spent, says-ended, says-refused, Result}
 use Rattle.walk.proofs.ResumedLaws.{call-bytes}
+use Rattle.walk.proofs.Demands.{Dealt, demand-3}
 use Rattle.enumeration.proofs.RefusedLaws.{refuses-or-goes}
 use Rattle.enumeration.proofs.ListTheorems.{next-refused}
-use Rattle.capi.specs.Interface.{results-size, checkpoint-size, kind-code, walk-results, checkpoint-bytes, checkpoint-in, conversion-called, from-dimacs-called, to-dimacs-called, start-called, walk-told, walk-called, walks-called, list-called}
+use Rattle.capi.specs.Interface.{results-size, checkpoint-size, assumption-size, kind-code, walk-results, checkpoint-bytes, checkpoint-in, conversion-called, from-dimacs-called, to-dimacs-called, start-called, walk-told, walk-called, walks-called, list-called}
 use Rattle.capi.proofs.CallLaws.{start-written, walk-called-is, list-called-is}
 
 -- ---- the bytes of a checkpoint
@@ -48,25 +57,25 @@ kind-refused says-ended e = absurd (omega arith)
 kind-refused says-refused e = refl
 
 -- S3.3: a refused walk call returns the checkpoint that it was given
-refused-kept : (s : List ℕ) (c : Checkpoint) (b : ℕ) → walk-call s c b .kind ≡ says-refused → walk-call s c b .checkpoint ≡ c
-refused-kept s c b h = ⊎-elim (λ w. ap (λ (r : Result). r .checkpoint) (w .1 b)) (λ w. absurd (w .0 b h)) (refuses-or-goes s c)
+refused-kept : (s : List ℕ) (us : List Assumption) (c : Checkpoint) (b : ℕ) → walk-call s us c b .kind ≡ says-refused → walk-call s us c b .checkpoint ≡ c
+refused-kept s us c b h = ⊎-elim (λ w. ap (λ (r : Result). r .checkpoint) (w .1 b)) (λ w. absurd (w .0 b h)) (refuses-or-goes s us c)
 
-module _ (s checkpoint results : List ℕ) (h : length checkpoint ≡ checkpoint-size) (k : length results ≡ results-size) where
+module _ (s assumptions checkpoint results : List ℕ) (g : length assumptions % assumption-size ≡ 0) (h : length checkpoint ≡ checkpoint-size) (k : length results ≡ results-size) where
   -- A refused norwythai_walk leaves the checkpoint's bytes, place 1, as they were; place 2 has the results.
-  pub walk-refused : (b : ℕ) → (let after = walk-called s checkpoint b results in
+  pub walk-refused : (b : ℕ) → (let after = walk-called s assumptions checkpoint b results in
       getD (after .2) 0 0 ≡ kind-code says-refused → after .1 ≡ checkpoint)
   walk-refused b e =
-      let q = walk-called-is s checkpoint results b h k in
+      let q = walk-called-is s assumptions checkpoint results b g h k in
       let r = kind-refused _ (rw q at e) in
-      rw q (ap checkpoint-bytes (refused-kept s (checkpoint-in checkpoint) b r) ∙ written-back checkpoint h)
+      rw q (ap checkpoint-bytes (refused-kept s (pairs-of assumptions) (checkpoint-in checkpoint) b r) ∙ written-back checkpoint h)
 
   -- A refused norwythai_list has written no model: results[4] is 0, and the models, place 2, and the checkpoint's bytes, place 1, are as
   -- they were.
-  pub list-refused : (models : List ℕ) → (let after = list-called s checkpoint models results in
+  pub list-refused : (models : List ℕ) → (let after = list-called s assumptions checkpoint models results in
       getD (after .3) 0 0 ≡ kind-code says-refused → (getD (after .3) 4 0 ≡ 0) × (after .2 ≡ models) × (after .1 ≡ checkpoint))
   list-refused models e =
-      let q = list-called-is s checkpoint models results h k in
-      let w = next-refused s (checkpoint-in checkpoint) (length models) (kind-refused _ (rw q at e)) in
+      let q = list-called-is s assumptions checkpoint models results g h k in
+      let w = next-refused s (pairs-of assumptions) (checkpoint-in checkpoint) (length models) (kind-refused _ (rw q at e)) in
       rw q (ap length (w .0), ap (λ (m : List ℕ). over m models) (w .0), ap checkpoint-bytes (w .1) ∙ written-back checkpoint h)
 
 -- a refused conversion leaves the buffer and has written no byte
@@ -94,26 +103,44 @@ module _ (s buffer results : List ℕ) (k : length results ≡ results-size) whe
 
 -- ---- lists of calls
 
--- from a checkpoint of 48 bytes they are the walk calls
-calls-walked :
-    (s : List ℕ) (c : Checkpoint) (results bs : List ℕ) →
-    length (c .bytes) ≡ max-variables →
-    length results ≡ results-size → walks-called s (checkpoint-bytes c) results bs ≡ map walk-told (walk-calls s c bs)
-unfolding walks-called walk-calls
-calls-walked s c results [] h k = refl
-calls-walked s c results (b ∷ bs) h k =
-    let l : length (checkpoint-bytes c) ≡ checkpoint-size = omega arith in
-    let r = walk-call s c b in
-    rw (walk-called-is s (checkpoint-bytes c) results b l k)
-    (ap (λ (t : List (ℕ × List ℕ × List ℕ)). walk-told r ∷ t) (calls-walked s (r .checkpoint) (walk-results r) bs (call-bytes s c b h) refl))
+module _ (s assumptions : List ℕ) (g : length assumptions % assumption-size ≡ 0) where
+  -- from a checkpoint of 48 bytes they are the walk calls
+  calls-walked :
+      (c : Checkpoint) (results bs : List ℕ) →
+      length (c .bytes) ≡ max-variables →
+      length results ≡ results-size →
+      walks-called s assumptions (checkpoint-bytes c) results bs ≡ map walk-told (walk-calls s (pairs-of assumptions) c bs)
+  unfolding walks-called walk-calls
+  calls-walked c results [] h k = refl
+  calls-walked c results (b ∷ bs) h k =
+      let l : length (checkpoint-bytes c) ≡ checkpoint-size = omega arith in
+      let r = walk-call s (pairs-of assumptions) c b in
+      rw (walk-called-is s assumptions (checkpoint-bytes c) results b g l k)
+      (ap (λ (t : List (ℕ × List ℕ × List ℕ)). walk-told r ∷ t)
+      (calls-walked (r .checkpoint) (walk-results r) bs (call-bytes s (pairs-of assumptions) c b h) refl))
 
--- S10, demand 3, in the interface: after norwythai_start, each norwythai_walk of a list returns 0 and leaves in the results, and as the
--- checkpoint's 50 bytes, the result and the checkpoint of the walk call that demand 3 is about, whatever stood in the buffers before.
-pub walked-from-start :
-    (s checkpoint results bs : List ℕ) →
-    length checkpoint ≡ checkpoint-size →
-    length results ≡ results-size → walks-called s (start-called checkpoint .1) results bs ≡ map walk-told (walk-calls s start bs)
-unfolding start checkpoint-of
-walked-from-start s checkpoint results bs h k =
-    rw (start-written checkpoint start (checkpoint-bytes start) h refl refl)
-    (calls-walked s start results bs (ap length (padded-none max-variables 0)) k)
+  module _ (checkpoint results : List ℕ) (h : length checkpoint ≡ checkpoint-size) (k : length results ≡ results-size) where
+    -- S10, demand 3, in the interface: after norwythai_start, each norwythai_walk of a list, all with the same assumptions, returns 0 and
+    -- leaves in the results, and as the checkpoint's 50 bytes, the result and the checkpoint of the walk call that demand 3 is about,
+    -- whatever stood in the buffers before.
+    pub walked-from-start :
+        (bs : List ℕ) →
+        walks-called s assumptions (start-called checkpoint .1) results bs ≡ map walk-told (walk-calls s (pairs-of assumptions) start bs)
+    unfolding start checkpoint-of
+    walked-from-start bs =
+        rw (start-written checkpoint start (checkpoint-bytes start) h refl refl)
+        (calls-walked start results bs (ap length (padded-none max-variables 0)) k)
+
+    -- So demand 3 holds of them where the input encodes n and cs, none of the assumptions is bad, and vs is a matching of what remains of
+    -- the clauses.
+    pub demand-3-called :
+        (n : ℕ) (cs : List (List Literal)) →
+        Encodes s n cs →
+        NoneBad n (pairs-of assumptions) →
+        (vs : List ℕ) →
+        Pairs (remaining (map literal-of (pairs-of assumptions)) cs) vs →
+        (bs : List ℕ) →
+        (walks-called s assumptions (start-called checkpoint .1) results bs ≡ map walk-told (walk-calls s (pairs-of assumptions) start bs))
+        × Dealt s (pairs-of assumptions) (under n (map literal-of (pairs-of assumptions)) cs) bs
+    demand-3-called n cs encodes good vs pairs bs =
+        (walked-from-start bs, demand-3 s (pairs-of assumptions) n cs encodes good vs pairs bs)

@@ -1,5 +1,5 @@
 -- S13.1: the interface to C.
-use Prim.Native.Nat.{ℕ, _+_}
+use Prim.Native.Nat.{ℕ, _+_, _%_}
 use mathlib.Core.Bool.{Bool, cond, _&&_}
 use mathlib.Core.List.{List, [], _∷_}
 use lib.Dec.{eqb}
@@ -8,6 +8,7 @@ use Rattle.limits.specs.Limits.{max-variables}
 use Rattle.lists.specs.Over.{over}
 use Rattle.formula.specs.Check as check
 use Rattle.formula.specs.Check.{Said, said-yes, said-no, said-neither, checked}
+use Rattle.assumptions.specs.Pairs.{pairs-of}
 use Rattle.dimacs.specs.Convert.{ConvertedValues, Conversion, to-encoded, to-text}
 use Rattle.matched.specs.Judge as judging
 use Rattle.matched.specs.Judge.{judge}
@@ -62,8 +63,13 @@ checkpoint-bytes c = c .mode ∷ c .length ∷ c .bytes
 abbrev pub checkpoint-in : List ℕ → Checkpoint
 checkpoint-in b = record { mode = getD b 0 0; length = getD b 1 0; bytes = drop 2 b }
 
+-- ---- assumptions: two bytes for each, the variable and its value (S17.4)
+
+abbrev pub assumption-size : ℕ
+assumption-size = 2
+
 -- ---- the functions: the number that each returns, then its lent buffers as it leaves them, in the order of its arguments. Each writes
--- only if results and checkpoint have their lengths: else it returns 1, and all stays as it was
+-- only if results and checkpoint have their lengths and that of the assumptions is even: else it returns 1, and all stays as it was
 
 abbrev pub results-sized : List ℕ → Bool
 results-sized results = eqb (length results) results-size
@@ -71,15 +77,18 @@ results-sized results = eqb (length results) results-size
 abbrev pub checkpoint-sized : List ℕ → Bool
 checkpoint-sized checkpoint = eqb (length checkpoint) checkpoint-size
 
+abbrev pub assumptions-sized : List ℕ → Bool
+assumptions-sized assumptions = eqb (length assumptions % assumption-size) 0
+
 -- norwythai_check: the input, the assignment, and the results as they were
 unfoldable pub check-called : List ℕ → ℕ → List ℕ → ℕ × List ℕ
 check-called s a results = cond (results-sized results) (0, check-results (checked s a)) (1, results)
 
--- norwythai_judge: the input, and the pairing buffer and the results as they were
-unfoldable pub judge-called : List ℕ → List ℕ → List ℕ → ℕ × List ℕ × List ℕ
-judge-called s buffer results =
-    let j = judge s buffer in
-    cond (results-sized results) (0, j .buffer, judge-results (j .answer)) (1, buffer, results)
+-- norwythai_judge: the input, the assumptions, and the pairing buffer and the results as they were
+unfoldable pub judge-called : List ℕ → List ℕ → List ℕ → List ℕ → ℕ × List ℕ × List ℕ
+judge-called s assumptions buffer results =
+    let j = judge s (pairs-of assumptions) buffer in
+    cond (assumptions-sized assumptions && results-sized results) (0, j .buffer, judge-results (j .answer)) (1, buffer, results)
 
 -- a conversion of either kind: what it leaves, and the buffer and the results as they were
 unfoldable pub conversion-called : Conversion → List ℕ → List ℕ → ℕ × List ℕ × List ℕ
@@ -102,29 +111,29 @@ start-called checkpoint = cond (checkpoint-sized checkpoint) (0, checkpoint-byte
 abbrev pub walk-told : Result → ℕ × List ℕ × List ℕ
 walk-told r = (0, checkpoint-bytes (r .checkpoint), walk-results r)
 
--- norwythai_walk: the input, the checkpoint as it was, the budget, and the results as they were
-unfoldable pub walk-called : List ℕ → List ℕ → ℕ → List ℕ → ℕ × List ℕ × List ℕ
-walk-called s checkpoint budget results =
-    cond (checkpoint-sized checkpoint && results-sized results)
-    (walk-told (walk-call s (checkpoint-in checkpoint) budget))
+-- norwythai_walk: the input, the assumptions, the checkpoint as it was, the budget, and the results as they were
+unfoldable pub walk-called : List ℕ → List ℕ → List ℕ → ℕ → List ℕ → ℕ × List ℕ × List ℕ
+walk-called s assumptions checkpoint budget results =
+    cond (assumptions-sized assumptions && (checkpoint-sized checkpoint && results-sized results))
+    (walk-told (walk-call s (pairs-of assumptions) (checkpoint-in checkpoint) budget))
     (1, checkpoint, results)
 
--- What a list of such calls returns and writes, budget by budget. All get the same input, and nobody else writes the checkpoint or the
--- results between them.
-unfoldable pub walks-called : List ℕ → List ℕ → List ℕ → List ℕ → List (ℕ × List ℕ × List ℕ)
-walks-called s checkpoint results [] = []
-walks-called s checkpoint results (b ∷ bs) =
-    let r = walk-called s checkpoint b results in
-    r ∷ walks-called s (r .1) (r .2) bs
+-- What a list of such calls returns and writes, budget by budget. All get the same input and the same assumptions, and nobody else writes
+-- the checkpoint or the results between them.
+unfoldable pub walks-called : List ℕ → List ℕ → List ℕ → List ℕ → List ℕ → List (ℕ × List ℕ × List ℕ)
+walks-called s assumptions checkpoint results [] = []
+walks-called s assumptions checkpoint results (b ∷ bs) =
+    let r = walk-called s assumptions checkpoint b results in
+    r ∷ walks-called s assumptions (r .1) (r .2) bs
 
 -- what a list of calls brings, in the buffers: the models stand over the first ones
 abbrev pub list-told : List ℕ → Delivery → ℕ × List ℕ × List ℕ × List ℕ
 list-told models x =
     (0, checkpoint-bytes (x .last .checkpoint), over (x .models) models, list-results (length (x .models)) (x .last))
 
--- norwythai_list: the input, and the checkpoint, the models and the results as they were
-unfoldable pub list-called : List ℕ → List ℕ → List ℕ → List ℕ → ℕ × List ℕ × List ℕ × List ℕ
-list-called s checkpoint models results =
-    cond (checkpoint-sized checkpoint && results-sized results)
-    (list-told models (next-models s (checkpoint-in checkpoint) (length models)))
+-- norwythai_list: the input, the assumptions, and the checkpoint, the models and the results as they were
+unfoldable pub list-called : List ℕ → List ℕ → List ℕ → List ℕ → List ℕ → ℕ × List ℕ × List ℕ × List ℕ
+list-called s assumptions checkpoint models results =
+    cond (assumptions-sized assumptions && (checkpoint-sized checkpoint && results-sized results))
+    (list-told models (next-models s (pairs-of assumptions) (checkpoint-in checkpoint) (length models)))
     (1, checkpoint, models, results)

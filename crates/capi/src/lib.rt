@@ -5,12 +5,15 @@ ghost use mathlib.Core.Path.{_≡_};
 ghost use lib.ListN.{length, drop};
 ghost use Rattle.formula.specs.Check as check;
 ghost use Rattle.formula.specs.Refusals.{table-row};
+ghost use Rattle.assumptions.specs.Pairs.{pairs-of};
+ghost use Rattle.assumptions.specs.InnerAssumed.{Given};
 ghost use Rattle.dimacs.specs.Convert.{converted-values};
 ghost use Rattle.matched.specs.Judge as judging;
 ghost use Rattle.walk.specs.Checkpoints as walk;
 ghost use Rattle.enumeration.specs.Values.{checkpoint-values, answer-values, walked-values, listed-values};
 ghost use Rattle.capi.specs.InnerResults.{numbers};
 ghost use Rattle.capi.specs.Interface.{results-size, check-results, judge-results, conversion-results, walk-results, list-results, checkpoint-size, checkpoint-bytes, checkpoint-in, check-called, judge-called, from-dimacs-called, to-dimacs-called, start-called, walk-called, list-called};
+use assumptions::Assumptions;
 use dimacs::Converted;
 use enumeration::Checkpoint;
 use enumeration::Listed;
@@ -24,6 +27,9 @@ const RESULTS_SIZE: usize = 6;
 
 // A checkpoint is so many bytes: its mode, its length and its trail.
 const CHECKPOINT_SIZE: usize = 2 + limits::MAX_VARIABLES;
+
+// An assumption is so many bytes: its variable and its value.
+const ASSUMPTION_SIZE: usize = 2;
 
 // The results of a call, in the order in which they are written. judge has the numbers of variables and clauses in place of the
 // steps and expansions, a conversion the number of bytes and list that of models in place of the steps.
@@ -161,6 +167,13 @@ fn put_checkpoint(c: Checkpoint, checkpoint: &mut [u8])
     bytes::copy(&trail, &mut checkpoint[2..]);
 }
 
+// What the bytes of a list of assumptions say beside an input.
+fn assumptions_in(input: &[u8], assumptions: &[u8]) -> Assumptions
+    ensures { λ r. ⌜ Given (now (input .entry)) (pairs-of (now (assumptions .entry))) r ⌝ }
+{
+    assumptions::read_pairs(assumptions, assumptions::stated(input))
+}
+
 // S4.3: the act check.
 #[no_mangle]
 pub extern "C" fn norwythai_check(input: &[u8], assignment: u64, results: &mut [u64]) -> u32
@@ -173,16 +186,25 @@ pub extern "C" fn norwythai_check(input: &[u8], assignment: u64, results: &mut [
     0
 }
 
-// S5.7: the act judge.
+// S5.7, S17.2: the act judge.
 #[no_mangle]
-pub extern "C" fn norwythai_judge(input: &[u8], buffer: &mut [u8], results: &mut [u64]) -> u32
-    ensures { λ r. ⌜ judge-called (now (input .entry)) (now (buffer .entry)) (now (results .entry)) ≡ (r, now (buffer .exit), now (results .exit)) ⌝ }
+pub extern "C" fn norwythai_judge(
+    input: &[u8],
+    assumptions: &[u8],
+    buffer: &mut [u8],
+    results: &mut [u64],
+) -> u32
+    ensures { λ r. ⌜ judge-called (now (input .entry)) (now (assumptions .entry)) (now (buffer .entry)) (now (results .entry)) ≡ (r, now (buffer .exit), now (results .exit)) ⌝ }
 {
+    if assumptions.len() % ASSUMPTION_SIZE != 0 {
+        return 1;
+    }
     if results.len() != RESULTS_SIZE {
         return 1;
     }
+    let u = assumptions_in(input, assumptions);
     put_results(
-        judge_results(matched::find_matching(input, buffer)),
+        judge_results(matched::find_matching_under(input, u, buffer)),
         results,
     );
     0
@@ -224,46 +246,56 @@ pub extern "C" fn norwythai_start(checkpoint: &mut [u8]) -> u32
     0
 }
 
-// S8.1: a walk call.
+// S8.1, S17.3: a walk call.
 #[no_mangle]
 pub extern "C" fn norwythai_walk(
     input: &[u8],
+    assumptions: &[u8],
     checkpoint: &mut [u8],
     budget: u32,
     results: &mut [u64],
 ) -> u32
-    ensures { λ r. ⌜ walk-called (now (input .entry)) (now (checkpoint .entry)) budget (now (results .entry)) ≡ (r, now (checkpoint .exit), now (results .exit)) ⌝ }
+    ensures { λ r. ⌜ walk-called (now (input .entry)) (now (assumptions .entry)) (now (checkpoint .entry)) budget (now (results .entry)) ≡ (r, now (checkpoint .exit), now (results .exit)) ⌝ }
 {
+    if assumptions.len() % ASSUMPTION_SIZE != 0 {
+        return 1;
+    }
     if checkpoint.len() != CHECKPOINT_SIZE {
         return 1;
     }
     if results.len() != RESULTS_SIZE {
         return 1;
     }
-    let w = enumeration::walk(input, checkpoint_in(checkpoint), budget);
+    let u = assumptions_in(input, assumptions);
+    let w = enumeration::walk_under(input, u, checkpoint_in(checkpoint), budget);
     let after = w.checkpoint;
     put_checkpoint(after, checkpoint);
     put_results(walk_results(w), results);
     0
 }
 
-// S11: the next models, as many as the slice has room for.
+// S11, S17.3: the next models, as many as the slice has room for.
 #[no_mangle]
 pub extern "C" fn norwythai_list(
     input: &[u8],
+    assumptions: &[u8],
     checkpoint: &mut [u8],
     models: &mut [u64],
     results: &mut [u64],
 ) -> u32
-    ensures { λ r. ⌜ list-called (now (input .entry)) (now (checkpoint .entry)) (now (models .entry)) (now (results .entry)) ≡ (r, now (checkpoint .exit), now (models .exit), now (results .exit)) ⌝ }
+    ensures { λ r. ⌜ list-called (now (input .entry)) (now (assumptions .entry)) (now (checkpoint .entry)) (now (models .entry)) (now (results .entry)) ≡ (r, now (checkpoint .exit), now (models .exit), now (results .exit)) ⌝ }
 {
+    if assumptions.len() % ASSUMPTION_SIZE != 0 {
+        return 1;
+    }
     if checkpoint.len() != CHECKPOINT_SIZE {
         return 1;
     }
     if results.len() != RESULTS_SIZE {
         return 1;
     }
-    let l = enumeration::list(input, checkpoint_in(checkpoint), models);
+    let u = assumptions_in(input, assumptions);
+    let l = enumeration::list_under(input, u, checkpoint_in(checkpoint), models);
     let after = l.checkpoint;
     put_checkpoint(after, checkpoint);
     put_results(list_results(l), results);

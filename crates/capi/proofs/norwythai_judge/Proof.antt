@@ -1,17 +1,27 @@
 -- `norwythai_judge`: nothing is written, or the results of the answer beside the buffer.
 use mathlib.Core.Path.{_∙_}
 use borrow.Author.Needs.{needs}
-use Rattle.capi.proofs.CallLaws.{judge-unwritten, judge-written}
+use Rattle.assumptions.specs.Pairs.{pairs-of}
+use Rattle.capi.proofs.CallLaws.{judge-unwritten, judge-unwritten-2, judge-written}
 use Rattle.capi.proofs.norwythai_judge.Statement.{statement}
 use Rattle.capi.proofs.norwythai_judge.Tie as tie
 
 returns : tie.Need-returns
 returns c =
-    let a = c .before .before .before .before .args in
-    judge-unwritten (a .input .now) (a .buffer .now) (a .results .now) (c .if1 .taken)
+    let a = c .before .before .before .before .before .args in
+    judge-unwritten (a .input .now) (a .assumptions .now) (a .buffer .now) (a .results .now) (c .if1 .taken)
 
-find-matching-requires : tie.Need-find-matching-requires
-find-matching-requires c κs = search needs
+returns-2 : tie.Need-returns-2
+returns-2 c =
+    let a = c .before .before .before .before .before .before .args in
+    judge-unwritten-2 (a .input .now) (a .assumptions .now) (a .buffer .now) (a .results .now) (c .before .if1 .left) (c .if2 .taken)
+
+assumptions-in-requires : tie.Need-assumptions-in-requires
+assumptions-in-requires c κs = search needs
+
+find-matching-under-requires : tie.Need-find-matching-under-requires
+find-matching-under-requires c κs =
+    (pairs-of (c .before .before .before .before .before .before .before .before .args .assumptions .now), c .before .assumptions-in .ensures)
 
 judge-results-requires : tie.Need-judge-results-requires
 judge-results-requires c κs = search needs
@@ -25,14 +35,18 @@ same-length c = search needs
 same-length-2 : tie.Need-same-length-2
 same-length-2 c = search needs
 
-returns-2 : tie.Need-returns-2
-returns-2 c =
+returns-3 : tie.Need-returns-3
+returns-3 c =
     let m = c .before .before .before .before .before .before .before in
-    let e = m .before .before in
-    let a = e .before .before .before .before .args in
-    judge-written (a .input .now) (a .buffer .now) (a .results .now) _ _ _ (e .if1 .left)
-    (m .find-matching .ensures .0)
-    (m .find-matching .ensures .1)
+    let u = m .before .before in
+    let e = u .before in
+    let a = e .before .before .before .before .before .before .args in
+    let f = m .find-matching-under .ensures (pairs-of (a .assumptions .now)) (u .assumptions-in .ensures) in
+    judge-written (a .input .now) (a .assumptions .now) (a .buffer .now) (a .results .now) _ _ _
+    (e .before .if1 .left)
+    (e .if2 .left)
+    (f .0)
+    (f .1)
     (c .before .before .put-results .ensures ∙ c .before .before .before .before .judge-results .ensures)
 
 pub norwythai-judge-spec : {M : Type 1} → statement M
@@ -40,9 +54,11 @@ norwythai-judge-spec =
     tie.close
     (tie.spec
     returns
-    find-matching-requires
+    returns-2
+    assumptions-in-requires
+    find-matching-under-requires
     judge-results-requires
     put-results-requires
     same-length
     same-length-2
-    returns-2)
+    returns-3)

@@ -1,25 +1,39 @@
 -- `norwythai_list`: nothing is written, or the models, the results of the last call and its checkpoint.
 use mathlib.Core.Path.{_∙_}
 use borrow.Author.Needs.{needs}
-use Rattle.capi.proofs.CallLaws.{list-unwritten, list-unwritten-2, list-written}
+use Rattle.assumptions.specs.Pairs.{pairs-of}
+use Rattle.capi.proofs.CallLaws.{list-unwritten, list-unwritten-2, list-unwritten-3, list-written}
 use Rattle.capi.proofs.norwythai_list.Statement.{statement}
 use Rattle.capi.proofs.norwythai_list.Tie as tie
 
 returns : tie.Need-returns
 returns c =
-    let a = c .before .before .before .before .before .args in
-    list-unwritten (a .input .now) (a .checkpoint .now) (a .models .now) (a .results .now) (c .if1 .taken)
+    let a = c .before .before .before .before .before .before .args in
+    list-unwritten (a .input .now) (a .assumptions .now) (a .checkpoint .now) (a .models .now) (a .results .now) (c .if1 .taken)
 
 returns-2 : tie.Need-returns-2
 returns-2 c =
-    let a = c .before .before .before .before .before .before .args in
-    list-unwritten-2 (a .input .now) (a .checkpoint .now) (a .models .now) (a .results .now) (c .before .if1 .left) (c .if2 .taken)
+    let a = c .before .before .before .before .before .before .before .args in
+    list-unwritten-2 (a .input .now) (a .assumptions .now) (a .checkpoint .now) (a .models .now) (a .results .now) (c .before .if1 .left) (c .if2 .taken)
+
+returns-3 : tie.Need-returns-3
+returns-3 c =
+    let a = c .before .before .before .before .before .before .before .before .args in
+    list-unwritten-3 (a .input .now) (a .assumptions .now) (a .checkpoint .now) (a .models .now) (a .results .now)
+    (c .before .before .if1 .left)
+    (c .before .if2 .left)
+    (c .if3 .taken)
+
+assumptions-in-requires : tie.Need-assumptions-in-requires
+assumptions-in-requires c κs = search needs
 
 checkpoint-in-requires : tie.Need-checkpoint-in-requires
 checkpoint-in-requires c κs = search needs
 
-list-requires : tie.Need-list-requires
-list-requires c κs = search needs
+list-under-requires : tie.Need-list-under-requires
+list-under-requires c κs =
+    let u = c .before .before .before in
+    (pairs-of (u .before .before .before .before .before .before .before .before .before .args .assumptions .now), u .assumptions-in .ensures)
 
 put-checkpoint-requires : tie.Need-put-checkpoint-requires
 put-checkpoint-requires c κs = search needs
@@ -39,17 +53,19 @@ same-length-2 c = search needs
 same-length-3 : tie.Need-same-length-3
 same-length-3 c = search needs
 
-returns-3 : tie.Need-returns-3
-returns-3 c =
+returns-4 : tie.Need-returns-4
+returns-4 c =
     let p = c .before .before .before .before .before .before .before in
-    let m = p .before .before .before .before .before in
-    let e = m .before .before .before .before in
-    let a = e .before .before .before .before .before .before .args in
-    list-written (a .input .now) (a .checkpoint .now) (a .models .now) (a .results .now) _ _ _ _ _
-    (e .before .if1 .left)
-    (e .if2 .left)
-    (m .before .before .checkpoint-in .ensures)
-    (m .list .ensures)
+    let w = p .before .before .before .before .before in
+    let u = w .before .before .before .before in
+    let e = u .before in
+    let a = e .before .before .before .before .before .before .before .before .args in
+    list-written (a .input .now) (a .assumptions .now) (a .checkpoint .now) (a .models .now) (a .results .now) _ _ _ _ _
+    (e .before .before .if1 .left)
+    (e .before .if2 .left)
+    (e .if3 .left)
+    (w .before .before .checkpoint-in .ensures)
+    (w .list-under .ensures (pairs-of (a .assumptions .now)) (u .assumptions-in .ensures))
     (p .put-checkpoint .ensures)
     (c .before .before .put-results .ensures ∙ c .before .before .before .before .list-results .ensures)
 
@@ -59,12 +75,14 @@ norwythai-list-spec =
     (tie.spec
     returns
     returns-2
+    returns-3
+    assumptions-in-requires
     checkpoint-in-requires
-    list-requires
+    list-under-requires
     put-checkpoint-requires
     list-results-requires
     put-results-requires
     same-length
     same-length-2
     same-length-3
-    returns-3)
+    returns-4)

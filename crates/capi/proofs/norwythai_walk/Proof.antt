@@ -1,25 +1,39 @@
 -- `norwythai_walk`: nothing is written, or the results of the call and its checkpoint.
 use mathlib.Core.Path.{_∙_}
 use borrow.Author.Needs.{needs}
-use Rattle.capi.proofs.CallLaws.{walk-unwritten, walk-unwritten-2, walk-written}
+use Rattle.assumptions.specs.Pairs.{pairs-of}
+use Rattle.capi.proofs.CallLaws.{walk-unwritten, walk-unwritten-2, walk-unwritten-3, walk-written}
 use Rattle.capi.proofs.norwythai_walk.Statement.{statement}
 use Rattle.capi.proofs.norwythai_walk.Tie as tie
 
 returns : tie.Need-returns
 returns c =
-    let a = c .before .before .before .before .args in
-    walk-unwritten (a .input .now) (a .checkpoint .now) (a .results .now) (a .budget) (c .if1 .taken)
+    let a = c .before .before .before .before .before .args in
+    walk-unwritten (a .input .now) (a .assumptions .now) (a .checkpoint .now) (a .results .now) (a .budget) (c .if1 .taken)
 
 returns-2 : tie.Need-returns-2
 returns-2 c =
-    let a = c .before .before .before .before .before .args in
-    walk-unwritten-2 (a .input .now) (a .checkpoint .now) (a .results .now) (a .budget) (c .before .if1 .left) (c .if2 .taken)
+    let a = c .before .before .before .before .before .before .args in
+    walk-unwritten-2 (a .input .now) (a .assumptions .now) (a .checkpoint .now) (a .results .now) (a .budget) (c .before .if1 .left) (c .if2 .taken)
+
+returns-3 : tie.Need-returns-3
+returns-3 c =
+    let a = c .before .before .before .before .before .before .before .args in
+    walk-unwritten-3 (a .input .now) (a .assumptions .now) (a .checkpoint .now) (a .results .now) (a .budget)
+    (c .before .before .if1 .left)
+    (c .before .if2 .left)
+    (c .if3 .taken)
+
+assumptions-in-requires : tie.Need-assumptions-in-requires
+assumptions-in-requires c κs = search needs
 
 checkpoint-in-requires : tie.Need-checkpoint-in-requires
 checkpoint-in-requires c κs = search needs
 
-walk-requires : tie.Need-walk-requires
-walk-requires c κs = search needs
+walk-under-requires : tie.Need-walk-under-requires
+walk-under-requires c κs =
+    let u = c .before .before in
+    (pairs-of (u .before .before .before .before .before .before .before .before .args .assumptions .now), u .assumptions-in .ensures)
 
 put-checkpoint-requires : tie.Need-put-checkpoint-requires
 put-checkpoint-requires c κs = search needs
@@ -36,17 +50,19 @@ same-length c = search needs
 same-length-2 : tie.Need-same-length-2
 same-length-2 c = search needs
 
-returns-3 : tie.Need-returns-3
-returns-3 c =
+returns-4 : tie.Need-returns-4
+returns-4 c =
     let p = c .before .before .before .before .before .before .before in
     let w = p .before .before .before in
-    let e = w .before .before .before in
-    let a = e .before .before .before .before .before .args in
-    walk-written (a .input .now) (a .checkpoint .now) (a .results .now) (a .budget) _ (w .walk .result) _ _
-    (e .before .if1 .left)
-    (e .if2 .left)
+    let u = w .before .before .before in
+    let e = u .before in
+    let a = e .before .before .before .before .before .before .before .args in
+    walk-written (a .input .now) (a .assumptions .now) (a .checkpoint .now) (a .results .now) (a .budget) _ (w .walk-under .result) _ _
+    (e .before .before .if1 .left)
+    (e .before .if2 .left)
+    (e .if3 .left)
     (w .before .checkpoint-in .ensures)
-    (w .walk .ensures)
+    (w .walk-under .ensures (pairs-of (a .assumptions .now)) (u .assumptions-in .ensures))
     (p .put-checkpoint .ensures)
     (c .before .before .put-results .ensures ∙ c .before .before .before .before .walk-results .ensures)
 
@@ -56,11 +72,13 @@ norwythai-walk-spec =
     (tie.spec
     returns
     returns-2
+    returns-3
+    assumptions-in-requires
     checkpoint-in-requires
-    walk-requires
+    walk-under-requires
     put-checkpoint-requires
     walk-results-requires
     put-results-requires
     same-length
     same-length-2
-    returns-3)
+    returns-4)
