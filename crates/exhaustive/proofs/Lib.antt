@@ -1,3 +1,4 @@
+pub mod AgreeLaws
 pub mod AllModelsLaws
 pub mod ComparisonLaws
 pub mod SetLaws
