@@ -26,12 +26,13 @@ use Rattle.formula.specs.Masked.{variables}
 use Rattle.formula.specs.InnerMasked.{with-literal, with-literals, clause-of, formula-of}
 use Rattle.formula.specs.InnerFits.{clause-variables, FormulaFits}
 use Rattle.formula.proofs.ClauseLaws.{variables-named}
+use Rattle.formula.proofs.Demands.{accepted-only}
 use Rattle.formula.proofs.MaskedLaws.{formula-fits}
 use Rattle.assumptions.specs.declared.Assumption.{Assumption}
 use Rattle.assumptions.specs.declared.Assumptions.{Assumptions}
 use Rattle.assumptions.specs.Assumed.{Assumed, literals, bad, assumed}
 use Rattle.assumptions.specs.InnerAssumed.{masks-of, Given}
-use Rattle.assumptions.proofs.Demands.{stated-readable}
+use Rattle.assumptions.proofs.StatedLaws.{given-encoded}
 use Rattle.matching.specs.declared.Matching.{Matching}
 use Rattle.matching.specs.Result.{packed}
 use Rattle.matching.specs.Search.{Outcome, success, failure, outcome, marks}
@@ -99,7 +100,7 @@ masks-assigned (l ∷ t) p q = by (l .positive) (masks-assigned t (with p (l .va
 
 module _ (s : List ℕ) (us : List Assumption) (u : Assumptions) (given : Given s us u) (n : ℕ) (cs : List (List Literal)) (reads : decode s ≡ readable n cs) where
   given-masks : u ≡ masks-of (assumed n us)
-  given-masks = given ∙ ap (λ (k : ℕ). masks-of (assumed k us)) (stated-readable s n cs reads)
+  given-masks = given-encoded us given (accepted-only s n cs reads)
 
   -- the masks of literals are those of their assignment
   pub given-assignment : (t : List Literal) → assumed n us ≡ literals t → assigned-by u ≡ assignment-of t

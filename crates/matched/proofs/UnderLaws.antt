@@ -6,7 +6,7 @@ use mathlib.Core.Path.{_≡_, refl, _∙_}
 use native.Mathlib.Decide.{decLt}
 use native.Mathlib.Omega.{arith}
 use lib.ListN.{length, getD}
-use Rattle.formula.specs.Format.{Literal, names}
+use Rattle.formula.specs.Format.{Literal}
 use Rattle.formula.specs.Format as format
 use Rattle.splitting.specs.Nodes.{remaining, satisfied-by}
 use Rattle.splitting.proofs.SatisfiedLaws.{less-all-names}

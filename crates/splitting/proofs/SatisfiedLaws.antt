@@ -5,9 +5,8 @@ use mathlib.Core.Bool.{Bool, true, false, cond, not, _||_, or-assoc, or-false}
 use mathlib.Core.List.{List, [], _∷_}
 use lib.Dec.{eqb}
 use borrow.Author.Tests.{eq-eqb, ne-eqb}
-use Rattle.lists.proofs.TestLaws.{and-left, and-right, and-both, bool-clash, or-none}
+use Rattle.lists.proofs.TestLaws.{bool-clash, or-none}
 use Rattle.lists.specs.Every.{Every}
-use Rattle.formula.specs.declared.Clause.{Clause}
 use Rattle.formula.specs.Format.{Literal, names, names-as, distinct, ClauseOver}
 use Rattle.formula.specs.InnerMasked.{clause-of}
 use Rattle.formula.proofs.ClauseLaws.{clause-side, named-as}

@@ -1,5 +1,5 @@
 -- A task with nothing to assign: its walk is the model of the trail before, and the end.
-use Prim.Native.Nat.{ℕ, zero, suc}
+use Prim.Native.Nat.{ℕ}
 use mathlib.Core.List.{List, [], _∷_, _++_}
 use mathlib.Core.Logic.{_⊎_, inl, inr, _↔_}
 use mathlib.Core.Path.{_≡_, refl, sym, ap, _∙_}
@@ -11,7 +11,7 @@ use Rattle.walk.specs.Checkpoints.{Checkpoint, checkpoint-of, start, pas
 use Rattle.walk.specs.PlainMachine.{found, ended, Call, at-once, go-on, plain-call, state-after, Has}
 use Rattle.walk.specs.WalkCall.{walk-call}
 use Rattle.walk.specs.InnerLocate.{task-call}
-use Rattle.walk.specs.Results.{Result, answered, plain-result}
+use Rattle.walk.specs.Results.{answered, plain-result}
 use Rattle.walk.proofs.TaskLaws.{call-plain}
 
 module _ (T : Task) (none : to-assign T ≡ 0) where

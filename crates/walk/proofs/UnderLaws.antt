@@ -1,7 +1,7 @@
 -- The task of a formula under assumptions: the other variables are to be assigned, and the assumptions are the trail before.
-use Prim.Native.Nat.{ℕ, zero, suc, _-_, _+_, _^_, _≤_, _<_}
+use Prim.Native.Nat.{ℕ, zero, suc, _-_, _+_, _≤_}
 use mathlib.Core.Bool.{Bool, true, false, not, _&&_, and-true}
-use mathlib.Core.List.{List, [], List·Memᴰ·not-nil}
+use mathlib.Core.List.{List, []}
 use mathlib.Core.Logic.{inl, inr, _⊎_, _↔_}
 use mathlib.Core.Path.{_≡_, refl, sym, ap, _∙_}
 use native.Mathlib.Omega.{arith}
@@ -9,7 +9,7 @@ use lib.Dec.{ltb}
 use lib.ListN.{length}
 use lib.Pow.{pow-pos}
 use borrow.Author.Tests.{lt-ltb, ltb-false, not-true}
-use Rattle.lists.proofs.TestLaws.{and-left, and-right, and-both, bool-clash}
+use Rattle.lists.proofs.TestLaws.{and-right, bool-clash}
 use Rattle.masks.specs.Mask.{bit, minus, full}
 use Rattle.masks.proofs.BitLaws.{bit-full, bit-minus, bit-none, minus-lt}
 use Rattle.masks.proofs.MembersLaws.{mask-same}
@@ -17,14 +17,14 @@ use Rattle.formula.specs.Format.{Literal, names, ClauseOver, Sized}
 use Rattle.formula.specs.Masked.{variables}
 use Rattle.formula.specs.Models.{Model}
 use Rattle.formula.proofs.ClauseLaws.{variables-bit}
-use Rattle.splitting.specs.Nodes.{remaining, named}
+use Rattle.splitting.specs.Nodes.{remaining}
 use Rattle.splitting.specs.Terms.{Sound, Agrees}
 use Rattle.matching.proofs.Counting.{one-if, count}
 use Rattle.splitting.proofs.CountLaws.{size-count}
 use Rattle.splitting.proofs.NodeLaws.{named-remaining}
 use Rattle.splitting.proofs.TrailLaws.{trail-count}
 use Rattle.splitting.proofs.Theorems.{formula-below}
-use Rattle.walk.specs.Task.{Task, whole, under, to-assign, ModelFor, Posed}
+use Rattle.walk.specs.Task.{whole, under, to-assign, ModelFor, Posed}
 
 module _ (n : ℕ) (t : List Literal) where
   -- the variables below n that t does not name
