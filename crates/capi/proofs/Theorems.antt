@@ -60,7 +60,8 @@ kind-refused says-refused e = refl
 refused-kept : (s : List ℕ) (us : List Assumption) (c : Checkpoint) (b : ℕ) → walk-call s us c b .kind ≡ says-refused → walk-call s us c b .checkpoint ≡ c
 refused-kept s us c b h = ⊎-elim (λ w. ap (λ (r : Result). r .checkpoint) (w .1 b)) (λ w. absurd (w .0 b h)) (refuses-or-goes s us c)
 
-module _ (s assumptions checkpoint results : List ℕ) (g : length assumptions % assumption-size ≡ 0) (h : length checkpoint ≡ checkpoint-size) (k : length results ≡ results-size) where
+module _ (s assumptions checkpoint results : List ℕ) (g : length assumptions % assumption-size ≡ 0)
+    (h : length checkpoint ≡ checkpoint-size) (k : length results ≡ results-size) where
   -- A refused norwythai_walk leaves the checkpoint's bytes, place 1, as they were; place 2 has the results.
   pub walk-refused : (b : ℕ) → (let after = walk-called s assumptions checkpoint b results in
       getD (after .2) 0 0 ≡ kind-code says-refused → after .1 ≡ checkpoint)

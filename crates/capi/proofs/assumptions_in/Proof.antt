@@ -1,5 +1,10 @@
 -- `assumptions_in`: the pairs are read for the number of variables that the input states.
+use Prim.Native.Nat.{ℕ}
+use mathlib.Core.Path.{ap, _∙_}
 use borrow.Author.Needs.{needs}
+use Rattle.assumptions.specs.Assumed.{assumed}
+use Rattle.assumptions.specs.InnerAssumed.{masks-of}
+use Rattle.assumptions.specs.Pairs.{pairs-of}
 use Rattle.assumptions.proofs.StatedLaws.{stated-le}
 use Rattle.capi.proofs.assumptions_in.Statement.{statement}
 use Rattle.capi.proofs.assumptions_in.Tie as tie
@@ -11,7 +16,9 @@ read-pairs-requires : tie.Need-read-pairs-requires
 read-pairs-requires c κs = rw (c .stated .ensures) (stated-le (c .before .before .before .args .input .now))
 
 returns : tie.Need-returns
-returns c = rw (c .read-pairs .ensures, c .before .stated .ensures)
+returns c =
+    let bytes = c .before .before .before .before .args .assumptions .now in
+    c .read-pairs .ensures ∙ ap (λ (n : ℕ). masks-of (assumed n (pairs-of bytes))) (c .before .stated .ensures)
 
 pub assumptions-in-spec : {M : Type 1} → statement M
 assumptions-in-spec = tie.close (tie.spec stated-requires read-pairs-requires returns)
