@@ -20,7 +20,10 @@ use Rattle.matched.specs.Judge.{judge}
 use Rattle.splitting.specs.Nodes.{less, assign, remaining, satisfied-by, occurs, named, first-from, upward-from}
 use Rattle.splitting.specs.Stripping.{pure, not-naming, strip}
 use Rattle.splitting.specs.Choosing.{matching-of, trial, first-passing, candidates, among, listed, last, emptied, last-listed, choice}
-use Rattle.walk.specs.Task.{under}
+use Rattle.walk.specs.Task.{Task, under, Posed}
+use Rattle.walk.specs.Checkpoints.{Checkpoint}
+use Rattle.walk.specs.WalkCall.{walk-call}
+use Rattle.walk.specs.InnerLocate.{task-call}
 use Rattle.walk.specs.Plain.{assignment, node-walk, plain-walk}
 use Rattle.walk.specs.Gaps.{ample-budget}
 use Rattle.walk.specs.PlainMachine.{go-on, plain-call, plain-calls}
@@ -100,9 +103,21 @@ marked-cases = record {
 -- ---- assumptions
 
 -- the example with both variables assumed is accepted, with nothing left to assign
-both-assumed : acceptance example (assume-on 1 ∷ assume-off 2 ∷ []) ≡ accepted 2 (on 1 ∷ off 2 ∷ []) ((on 1 ∷ on 2 ∷ []) ∷ (off 1 ∷ off 2 ∷ []) ∷ []) (0 ∷ 0 ∷ [])
+abbrev both-given : List Assumption
+both-given = assume-on 1 ∷ assume-off 2 ∷ []
+
+abbrev both-task : Task
+both-task = under 2 (on 1 ∷ off 2 ∷ []) ((on 1 ∷ on 2 ∷ []) ∷ (off 1 ∷ off 2 ∷ []) ∷ [])
+
+both-accepted : acceptance example both-given ≡ accepted 2 (both-task .before) (both-task .clauses) (0 ∷ 0 ∷ [])
 unfolding judging
-both-assumed = refl
+both-accepted = refl
+
+both-posed : Posed both-task
+both-posed = accepted-posed example both-given 2 (both-task .before) (both-task .clauses) (0 ∷ 0 ∷ []) both-accepted
+
+both-walks : (c : Checkpoint) (b : ℕ) → walk-call example both-given c b ≡ task-call both-task c b
+both-walks = call-accepted example both-given 2 (both-task .before) (both-task .clauses) (0 ∷ 0 ∷ []) both-accepted
 
 pub assumed-cases : AssumedCases
 unfolding judging walking
@@ -110,8 +125,8 @@ assumed-cases = record {
   one-matching = λ b l. rw (le-ltb (length b) max-clauses l);
   one-walked = walked-plain _ _ _ _ _ _ refl 2;
   both-matching = λ b l. rw (le-ltb (length b) max-clauses l);
-  both-first = λ b. call-first _ refl _ _ (accepted-posed _ _ _ _ _ _ both-assumed) (call-accepted _ _ _ _ _ _ both-assumed) b;
-  both-second = λ b. call-second _ refl _ _ (accepted-posed _ _ _ _ _ _ both-assumed) (call-accepted _ _ _ _ _ _ both-assumed) b;
+  both-first = λ b. call-first both-task refl example both-given both-posed both-walks b;
+  both-second = λ b. call-second both-task refl example both-given both-posed both-walks b;
   both-true = λ b l. rw (le-ltb (length b) max-clauses l);
   above = (λ b l. rw (le-ltb (length b) max-clauses l), λ c b. call-declined _ _ _ _ c b refl);
   again = (λ b l. rw (le-ltb (length b) max-clauses l), λ c b. call-declined _ _ _ _ c b refl);
