@@ -35,7 +35,7 @@
  * counted from 1, and its value, 0 for false and any other byte for true. `assumptions_length` counts bytes; with 0 nothing is assumed.
  * They are applied first: a clause that one of them satisfies is gone, and the others lose the assumed variables. Matching and walking
  * are of what remains, and the models of a walk are those that have the assumed values, which stand among their bits. A variable stands
- * in the list once at most (refusal 16); that refusal's place is all that depends on the order.
+ * in the list once at most (refusal 16). Nothing but that refusal's place depends on the order, which is tested and not proved.
  *
  * A TEXT is DIMACS CNF: lines that start with c are comments, anywhere; the first other line is `p cnf` with the numbers of variables
  * and clauses; then come the literals as numbers, a minus before those that are negative, and 0 at the end of each clause. Line feeds (0A)

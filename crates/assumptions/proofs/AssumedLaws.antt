@@ -1,5 +1,5 @@
 -- What is read of a list of assumptions, against what is told of it: the first bad one, or the literals of all.
-use Prim.Native.Nat.{ℕ, suc, _-_, _^_, _<_, _≤_}
+use Prim.Native.Nat.{ℕ, suc, _-_, _<_, _≤_}
 use mathlib.Core.Bool.{Bool, true, false, cond, _||_}
 use mathlib.Core.List.{List, [], _∷_, _++_, map, map-append, append-nil, List·Memᴰ, List·Memᴰ·head, List·Memᴰ·tail, List·Memᴰ·cases-cons, List·Memᴰ·not-nil}
 use mathlib.Core.Logic.{_⊎_, inl, inr, ⊎-elim}
@@ -7,22 +7,18 @@ use mathlib.Core.Path.{_≡_, refl, sym, _∙_, ap, subst}
 use native.Mathlib.Omega.{arith}
 use lib.Dec.{eqb, ltb}
 use lib.ListN.{length, length-append, length-map}
-use lib.Pow.{pow-pos}
 use lib.Seq.{append-snoc}
 use borrow.Author.Tests.{eqb-true, eqb-false, eq-eqb, ltb-true, ltb-false, lt-ltb}
 use Rattle.lists.specs.Every.{Every}
 use Rattle.lists.proofs.EveryLaws.{every-append}
 use Rattle.lists.proofs.TestLaws.{or-cases, or-none, or-left, or-right, bool-clash}
-use Rattle.masks.specs.InnerMask.{meets}
 use Rattle.formula.specs.Format.{Literal, names, ClauseOver}
-use Rattle.formula.proofs.ClauseLaws.{clause-fits}
 use Rattle.formula.proofs.FormatLaws.{clause-more}
 use Rattle.formula.proofs.LengthLaws.{clause-le}
 use Rattle.formula.proofs.RepeatLaws.{over-none}
 use Rattle.assumptions.specs.declared.Assumption.{Assumption}
 use Rattle.assumptions.specs.Assumed.{Assumed, literals, bad, literal-of, is-bad, assumed-from, assumed}
 use Rattle.assumptions.specs.FirstBad.{Bad, NoneBad, FirstBad}
-use Rattle.assumptions.specs.InnerAssumed.{masks-of}
 use Rattle.assumptions.proofs.SplitLaws.{split-last, split-before}
 
 -- ---- bad, by the test and as told
@@ -159,7 +155,7 @@ first-least f g h =
     let w = split-before (f .before) (f .at) (f .after) (g .before) (g .at) (g .after) (sym (f .split) ∙ g .split) (omega arith) in
     g .none-before (f .before) (f .at) (w .0) (w .1) (f .bad)
 
-pub first-one : {n : ℕ} {us : List Assumption} {i j : ℕ} → FirstBad n us i → FirstBad n us j → i ≡ j
+first-one : {n : ℕ} {us : List Assumption} {i j : ℕ} → FirstBad n us i → FirstBad n us j → i ≡ j
 first-one {n} {us} {i} {j} f g =
     let h = first-least f g in
     let k = first-least g f in
@@ -184,11 +180,11 @@ module _ (n : ℕ) (us : List Assumption) where
   pub literals-all : (t : List Literal) → assumed n us ≡ literals t → t ≡ map literal-of us
   literals-all t e = means-of n us (literals t) e .0
 
-  pub none-literals : NoneBad n us → (t : List Literal) × (assumed n us ≡ literals t)
+  pub none-literals : NoneBad n us → assumed n us ≡ literals (map literal-of us)
   none-literals none = go (assumed n us) refl
     where
-      go : (a : Assumed) → assumed n us ≡ a → (t : List Literal) × (a ≡ literals t)
-      go (literals t) e = (t, refl)
+      go : (a : Assumed) → assumed n us ≡ a → a ≡ literals (map literal-of us)
+      go (literals t) e = ap literals (literals-all t e)
       go (bad i) e = absurd (first-some (bad-first i e) none)
 
   -- the literals are a clause over n variables
@@ -202,19 +198,3 @@ module _ (n : ℕ) (us : List Assumption) where
       go : (a : Assumed) → assumed n us ≡ a → (i : ℕ) × (i ≤ n) × (a ≡ bad i)
       go (literals t) e = absurd (omega (arith, good-le (literals-good t e)))
       go (bad i) e = (i, means-of n us (bad i) e .1, refl)
-
--- ---- the masks fit
-
--- of the literals of a list the masks are of n digits, and have no variable in common
-pub masks-fit : {n : ℕ} {t : List Literal} → ClauseOver n t
-    → (masks-of (literals t) .trues < 2 ^ n) × (masks-of (literals t) .falses < 2 ^ n) × (meets (masks-of (literals t) .trues) (masks-of (literals t) .falses) ≡ false)
-masks-fit o = let f = clause-fits o in (f .below true, f .below false, f .apart)
-
--- those of any list
-pub assumed-fit : (n : ℕ) (us : List Assumption)
-    → (masks-of (assumed n us) .trues < 2 ^ n) × (masks-of (assumed n us) .falses < 2 ^ n)
-assumed-fit n us = go (assumed n us) refl
-  where
-    go : (a : Assumed) → assumed n us ≡ a → (masks-of a .trues < 2 ^ n) × (masks-of a .falses < 2 ^ n)
-    go (literals t) e = let f = masks-fit (literals-clause n us t e) in (f .0, f .1)
-    go (bad i) e = (pow-pos n, pow-pos n)

@@ -16,9 +16,12 @@ bad-exactly n us i = (bad-first n us i, first-bad n us i)
 
 -- S17.1: it has literals exactly where none is bad
 pub literals-exactly : (n : ℕ) (us : List Assumption) → ((t : List Literal) × (assumed n us ≡ literals t)) ↔ NoneBad n us
-literals-exactly n us = (λ w. literals-good n us (w .0) (w .1) .none, none-literals n us)
+literals-exactly n us = (λ w. literals-good n us (w .0) (w .1) .none, λ none. (map literal-of us, none-literals n us none))
 
--- S17.1: they are those of its assumptions, all of them and in their order
+-- S17.1: and then those of its assumptions, all of them and in their order
+pub none-bad-literals : (n : ℕ) (us : List Assumption) → NoneBad n us → assumed n us ≡ literals (map literal-of us)
+none-bad-literals = none-literals
+
 pub literals-are : (n : ℕ) (us : List Assumption) (t : List Literal) → assumed n us ≡ literals t → t ≡ map literal-of us
 literals-are = literals-all
 

@@ -13,7 +13,7 @@ use Rattle.formula.specs.InnerMasked.{with-literals}
 use Rattle.assumptions.specs.declared.Assumption.{Assumption}
 use Rattle.assumptions.specs.declared.Assumptions.{Assumptions}
 use Rattle.assumptions.specs.Assumed.{assumed-from, assumed}
-use Rattle.assumptions.specs.InnerAssumed.{none-assumed, masks-of, stated-in, Given}
+use Rattle.assumptions.specs.InnerAssumed.{none-assumed, masks-of, stated-in, MasksOf}
 
 -- it is at most 48
 pub stated-le : (s : List ℕ) → stated-in s ≤ max-variables
@@ -38,11 +38,11 @@ stated-encoded {s} {n} e = ap stated-in (e .bytes) ∙ stated-second 1 n _ (e .s
 -- ---- the masks of a list beside an input
 
 -- they are those for the number of variables of the formula that the input encodes
-pub given-encoded : {s : List ℕ} {n : ℕ} {cs : List (List Literal)} (us : List Assumption) {a : Assumptions} → Given s us a → Encodes s n cs
+pub given-encoded : {s : List ℕ} {n : ℕ} {cs : List (List Literal)} (us : List Assumption) {a : Assumptions} → MasksOf s us a → Encodes s n cs
     → a ≡ masks-of (assumed n us)
 given-encoded us g e = rw (← stated-encoded e) g
 
 -- of a list without assumptions they are empty
-pub given-none : (s : List ℕ) → Given s [] none-assumed
+pub given-none : (s : List ℕ) → MasksOf s [] none-assumed
 unfolding assumed assumed-from with-literals
 given-none s = refl

@@ -63,7 +63,7 @@ more-from n i t (w ∷ us) u = go (is-bad n t w) (more-from n (suc i) (t ++ (lit
     go true ih = refl
     go false ih = let e : i + suc (length us) ≡ suc i + length us = omega arith in rw e ih
 
-pub assumed-more : (n : ℕ) (us : List Assumption) (u : Assumption) → assumed n (us ++ (u ∷ [])) ≡ one-more n (length us) u (assumed n us)
+assumed-more : (n : ℕ) (us : List Assumption) (u : Assumption) → assumed n (us ++ (u ∷ [])) ≡ one-more n (length us) u (assumed n us)
 unfolding assumed
 assumed-more n us u = let e : 0 + length us ≡ length us = omega arith in more-from n 0 [] us u ∙ rw e
 

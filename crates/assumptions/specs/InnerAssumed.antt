@@ -12,7 +12,7 @@ use Rattle.formula.specs.InnerMasked.{clause-of}
 use Rattle.assumptions.specs.declared.Assumption.{Assumption}
 use Rattle.assumptions.specs.declared.Assumptions.{Assumptions}
 use Rattle.assumptions.specs.Assumed.{Assumed, literals, bad, assumed}
-use Rattle.assumptions.specs.Pairs.{pair-of}
+use Rattle.assumptions.specs.Bytes.{pair-of}
 
 -- nothing is assumed
 abbrev pub none-assumed : Assumptions
@@ -49,8 +49,8 @@ unfoldable pub stated-in : List ℕ → ℕ
 stated-in s = cond (ltb (length s) 2) 0 (cond (ltb max-variables (getD s 1 0)) max-variables (getD s 1 0))
 
 -- the masks a are those of the list us, for the number of variables that the input s states
-abbrev pub Given : List ℕ → List Assumption → Assumptions → Type 0
-Given s us a = a ≡ masks-of (assumed (stated-in s) us)
+abbrev pub MasksOf : List ℕ → List Assumption → Assumptions → Type 0
+MasksOf s us a = a ≡ masks-of (assumed (stated-in s) us)
 
 -- of a list as bytes, the assumption with the index i
 abbrev pub pair-at : List ℕ → ℕ → Assumption

@@ -1,4 +1,4 @@
 pub mod Assumed
 pub mod FirstBad
 pub mod InnerAssumed
-pub mod Pairs
+pub mod Bytes

@@ -10,7 +10,7 @@ ghost use lib.ListN.{length};
 ghost use Rattle.limits.specs.Limits.{max-variables};
 ghost use Rattle.assumptions.specs.Assumed.{assumed};
 ghost use Rattle.assumptions.specs.InnerAssumed.{none-assumed, bad-in, assumed-to, taken, masks-of, stated-in, pair-at};
-ghost use Rattle.assumptions.specs.Pairs.{pairs-of};
+ghost use Rattle.assumptions.specs.Bytes.{of-bytes};
 
 // S17.1: an assumption (request: fixing): a variable, from 1, that is taken as given, and its value.
 pub struct Assumption {
@@ -61,7 +61,7 @@ pub fn none_assumed() -> Assumptions
 }
 
 // The variable s, from 1, can't be assumed: it is 0, above n, or assumed before, with whichever value.
-fn is_bad(r: Assumptions, n: usize, s: usize) -> bool
+fn bad_in(r: Assumptions, n: usize, s: usize) -> bool
     requires { ⌜ n ≤ max-variables ⌝ }
     ensures { λ x. ⌜ x ≡ bad-in n r s ⌝ }
 {
@@ -105,7 +105,7 @@ fn take(r: Assumptions, n: usize, i: usize, u: Assumption) -> Assumptions
         return r;
     }
     let s = wide(u.variable);
-    if is_bad(r, n, s) {
+    if bad_in(r, n, s) {
         return Assumptions {
             trues: 0,
             falses: 0,
@@ -116,7 +116,7 @@ fn take(r: Assumptions, n: usize, i: usize, u: Assumption) -> Assumptions
     assume(r, s - 1, u.value)
 }
 
-// The whole list. A slice of structs: proved by hand.
+// The whole list. A slice of structs: proved by hand, with as few calls as can be.
 pub fn read_assumptions(list: &[Assumption], n: usize) -> Assumptions
     requires { ⌜ n ≤ max-variables ⌝ }
     ensures { λ x. ⌜ x ≡ masks-of (assumed n (now (list .entry))) ⌝ }
@@ -159,7 +159,7 @@ fn take_pair(bytes: &[u8], r: Assumptions, n: usize, i: usize) -> Assumptions
 // The whole list, two bytes an assumption. A lone last byte is not read.
 pub fn read_pairs(bytes: &[u8], n: usize) -> Assumptions
     requires { ⌜ n ≤ max-variables ⌝ }
-    ensures { λ x. ⌜ x ≡ masks-of (assumed n (pairs-of (now (bytes .entry)))) ⌝ }
+    ensures { λ x. ⌜ x ≡ masks-of (assumed n (of-bytes (now (bytes .entry)))) ⌝ }
 {
     let mut r = none_assumed();
     let mut i: usize = 0;

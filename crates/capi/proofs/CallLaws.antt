@@ -6,7 +6,7 @@ use lib.ListN.{length}
 use borrow.Author.Tests.{eq-eqb, ne-eqb}
 use Rattle.formula.specs.Check as check
 use Rattle.formula.specs.Check.{checked}
-use Rattle.assumptions.specs.Pairs.{pairs-of}
+use Rattle.assumptions.specs.Bytes.{of-bytes}
 use Rattle.dimacs.specs.Convert.{ConvertedValues, Conversion}
 use Rattle.matched.specs.Judge as judging
 use Rattle.matched.specs.Judge.{judge}
@@ -50,8 +50,8 @@ module _ (s assumptions buffer results : List ℕ) where
       (r : judging.JudgementValues) (left after : List ℕ) →
       length assumptions % assumption-size ≡ 0 →
       length results ≡ results-size →
-      r ≡ judge s (pairs-of assumptions) buffer .answer →
-      left ≡ judge s (pairs-of assumptions) buffer .buffer →
+      r ≡ judge s (of-bytes assumptions) buffer .answer →
+      left ≡ judge s (of-bytes assumptions) buffer .buffer →
       after ≡ judge-results r → judge-called s assumptions buffer results ≡ (0, left, after)
   unfolding judge-called
   judge-written r left after g h e l f = rw (eq-eqb _ _ g, eq-eqb _ _ h, f, e, l)
@@ -109,7 +109,7 @@ module _ (s assumptions checkpoint results : List ℕ) (budget : ℕ) where
       length assumptions % assumption-size ≡ 0 →
       length checkpoint ≡ checkpoint-size →
       length results ≡ results-size →
-      walk-called s assumptions checkpoint budget results ≡ walk-told (walk-call s (pairs-of assumptions) (checkpoint-in checkpoint) budget)
+      walk-called s assumptions checkpoint budget results ≡ walk-told (walk-call s (of-bytes assumptions) (checkpoint-in checkpoint) budget)
   unfolding walk-called
   walk-called-is g h k = rw (eq-eqb _ _ g, eq-eqb _ _ h, eq-eqb _ _ k)
 
@@ -119,7 +119,7 @@ module _ (s assumptions checkpoint results : List ℕ) (budget : ℕ) where
       length checkpoint ≡ checkpoint-size →
       length results ≡ results-size →
       from ≡ checkpoint-in checkpoint →
-      walked-values w ≡ walk-call s (pairs-of assumptions) from budget →
+      walked-values w ≡ walk-call s (of-bytes assumptions) from budget →
       left ≡ checkpoint-bytes (checkpoint-values (w .checkpoint)) →
       after ≡ walk-results (walked-values w) →
       walk-called s assumptions checkpoint budget results ≡ (0, left, after)
@@ -154,7 +154,7 @@ module _ (s assumptions checkpoint models results : List ℕ) where
       length checkpoint ≡ checkpoint-size →
       length results ≡ results-size →
       list-called s assumptions checkpoint models results
-      ≡ list-told models (next-models s (pairs-of assumptions) (checkpoint-in checkpoint) (length models))
+      ≡ list-told models (next-models s (of-bytes assumptions) (checkpoint-in checkpoint) (length models))
   unfolding list-called
   list-called-is g h k = rw (eq-eqb _ _ g, eq-eqb _ _ h, eq-eqb _ _ k)
 
@@ -164,12 +164,12 @@ module _ (s assumptions checkpoint models results : List ℕ) where
       length checkpoint ≡ checkpoint-size →
       length results ≡ results-size →
       from ≡ checkpoint-in checkpoint →
-      Delivered (next-models s (pairs-of assumptions) from (length models)) models brought r →
+      Delivered (next-models s (of-bytes assumptions) from (length models)) models brought r →
       left ≡ checkpoint-bytes (checkpoint-values (r .checkpoint)) →
       after ≡ list-results (r .count) (listed-values r) →
       list-called s assumptions checkpoint models results ≡ (0, left, brought, after)
   list-written from r left brought after g h k f e l w =
-      let x = next-models s (pairs-of assumptions) from (length models) in
+      let x = next-models s (of-bytes assumptions) from (length models) in
       let c : x .last .checkpoint ≡ checkpoint-values (r .checkpoint) =
       ap (λ (q : Result). q .checkpoint) (sym (e .last)) ∙ beside (r .answer) 0 0 (checkpoint-values (r .checkpoint)) in
       let p : left ≡ checkpoint-bytes (x .last .checkpoint) = l ∙ ap checkpoint-bytes (sym c) in

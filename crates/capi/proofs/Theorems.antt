@@ -16,7 +16,7 @@ use Rattle.formula.specs.Format.{Literal, Encodes}
 use Rattle.assumptions.specs.declared.Assumption.{Assumption}
 use Rattle.assumptions.specs.Assumed.{literal-of}
 use Rattle.assumptions.specs.FirstBad.{NoneBad}
-use Rattle.assumptions.specs.Pairs.{pairs-of}
+use Rattle.assumptions.specs.Bytes.{of-bytes}
 use Rattle.splitting.specs.Nodes.{remaining}
 use Rattle.matched.specs.Pairing.{Pairs}
 use Rattle.dimacs.specs.Convert.{Conversion, to-encoded, to-text}
@@ -25,7 +25,7 @@ use Rattle.walk.specs.Task.{under}
 use Rattle.walk.specs.Checkpoints.{Checkpoint, checkpoint-of, start}
 use Rattle.walk.specs.WalkCall.{walk-call, walk-calls}
 use Rattle.walk.specs.Results.{AnswerKind, says-model, says-spent, says-ended, says-refused, Result}
-use Rattle.walk.proofs.ResumedLaws.{call-bytes}
+use Rattle.walk.proofs.RefusalLaws.{call-bytes}
 use Rattle.walk.proofs.Demands.{Dealt, demand-3}
 use Rattle.enumeration.proofs.RefusedLaws.{refuses-or-goes}
 use Rattle.enumeration.proofs.ListTheorems.{next-refused}
@@ -68,7 +68,7 @@ module _ (s assumptions checkpoint results : List ℕ) (g : length assumptions %
   walk-refused b e =
       let q = walk-called-is s assumptions checkpoint results b g h k in
       let r = kind-refused _ (rw q at e) in
-      rw q (ap checkpoint-bytes (refused-kept s (pairs-of assumptions) (checkpoint-in checkpoint) b r) ∙ written-back checkpoint h)
+      rw q (ap checkpoint-bytes (refused-kept s (of-bytes assumptions) (checkpoint-in checkpoint) b r) ∙ written-back checkpoint h)
 
   -- A refused norwythai_list has written no model: results[4] is 0, and the models, place 2, and the checkpoint's bytes, place 1, are as
   -- they were.
@@ -76,7 +76,7 @@ module _ (s assumptions checkpoint results : List ℕ) (g : length assumptions %
       getD (after .3) 0 0 ≡ kind-code says-refused → (getD (after .3) 4 0 ≡ 0) × (after .2 ≡ models) × (after .1 ≡ checkpoint))
   list-refused models e =
       let q = list-called-is s assumptions checkpoint models results g h k in
-      let w = next-refused s (pairs-of assumptions) (checkpoint-in checkpoint) (length models) (kind-refused _ (rw q at e)) in
+      let w = next-refused s (of-bytes assumptions) (checkpoint-in checkpoint) (length models) (kind-refused _ (rw q at e)) in
       rw q (ap length (w .0), ap (λ (m : List ℕ). over m models) (w .0), ap checkpoint-bytes (w .1) ∙ written-back checkpoint h)
 
 -- a refused conversion leaves the buffer and has written no byte
@@ -110,15 +110,15 @@ module _ (s assumptions : List ℕ) (g : length assumptions % assumption-size �
       (c : Checkpoint) (results bs : List ℕ) →
       length (c .bytes) ≡ max-variables →
       length results ≡ results-size →
-      walks-called s assumptions (checkpoint-bytes c) results bs ≡ map walk-told (walk-calls s (pairs-of assumptions) c bs)
+      walks-called s assumptions (checkpoint-bytes c) results bs ≡ map walk-told (walk-calls s (of-bytes assumptions) c bs)
   unfolding walks-called walk-calls
   calls-walked c results [] h k = refl
   calls-walked c results (b ∷ bs) h k =
       let l : length (checkpoint-bytes c) ≡ checkpoint-size = omega arith in
-      let r = walk-call s (pairs-of assumptions) c b in
+      let r = walk-call s (of-bytes assumptions) c b in
       rw (walk-called-is s assumptions (checkpoint-bytes c) results b g l k)
       (ap (λ (t : List (ℕ × List ℕ × List ℕ)). walk-told r ∷ t)
-      (calls-walked (r .checkpoint) (walk-results r) bs (call-bytes s (pairs-of assumptions) c b h) refl))
+      (calls-walked (r .checkpoint) (walk-results r) bs (call-bytes s (of-bytes assumptions) c b h) refl))
 
   module _ (checkpoint results : List ℕ) (h : length checkpoint ≡ checkpoint-size) (k : length results ≡ results-size) where
     -- S10, demand 3, in the interface: after norwythai_start, each norwythai_walk of a list, all with the same assumptions, returns 0 and
@@ -126,7 +126,7 @@ module _ (s assumptions : List ℕ) (g : length assumptions % assumption-size �
     -- whatever stood in the buffers before.
     pub walked-from-start :
         (bs : List ℕ) →
-        walks-called s assumptions (start-called checkpoint .1) results bs ≡ map walk-told (walk-calls s (pairs-of assumptions) start bs)
+        walks-called s assumptions (start-called checkpoint .1) results bs ≡ map walk-told (walk-calls s (of-bytes assumptions) start bs)
     unfolding start checkpoint-of
     walked-from-start bs =
         rw (start-written checkpoint start (checkpoint-bytes start) h refl refl)
@@ -137,11 +137,11 @@ module _ (s assumptions : List ℕ) (g : length assumptions % assumption-size �
     pub demand-3-called :
         (n : ℕ) (cs : List (List Literal)) →
         Encodes s n cs →
-        NoneBad n (pairs-of assumptions) →
+        NoneBad n (of-bytes assumptions) →
         (vs : List ℕ) →
-        Pairs (remaining (map literal-of (pairs-of assumptions)) cs) vs →
+        Pairs (remaining (map literal-of (of-bytes assumptions)) cs) vs →
         (bs : List ℕ) →
-        (walks-called s assumptions (start-called checkpoint .1) results bs ≡ map walk-told (walk-calls s (pairs-of assumptions) start bs))
-        × Dealt s (pairs-of assumptions) (under n (map literal-of (pairs-of assumptions)) cs) bs
+        (walks-called s assumptions (start-called checkpoint .1) results bs ≡ map walk-told (walk-calls s (of-bytes assumptions) start bs))
+        × Dealt s (of-bytes assumptions) (under n (map literal-of (of-bytes assumptions)) cs) bs
     demand-3-called n cs encodes good vs pairs bs =
-        (walked-from-start bs, demand-3 s (pairs-of assumptions) n cs encodes good vs pairs bs)
+        (walked-from-start bs, demand-3 s (of-bytes assumptions) n cs encodes good vs pairs bs)

@@ -8,7 +8,7 @@ use Rattle.limits.specs.Limits.{max-variables}
 use Rattle.lists.specs.Over.{over}
 use Rattle.formula.specs.Check as check
 use Rattle.formula.specs.Check.{Said, said-yes, said-no, said-neither, checked}
-use Rattle.assumptions.specs.Pairs.{pairs-of}
+use Rattle.assumptions.specs.Bytes.{of-bytes}
 use Rattle.dimacs.specs.Convert.{ConvertedValues, Conversion, to-encoded, to-text}
 use Rattle.matched.specs.Judge as judging
 use Rattle.matched.specs.Judge.{judge}
@@ -87,7 +87,7 @@ check-called s a results = cond (results-sized results) (0, check-results (check
 -- norwythai_judge: the input, the assumptions, and the pairing buffer and the results as they were
 unfoldable pub judge-called : List ℕ → List ℕ → List ℕ → List ℕ → ℕ × List ℕ × List ℕ
 judge-called s assumptions buffer results =
-    let j = judge s (pairs-of assumptions) buffer in
+    let j = judge s (of-bytes assumptions) buffer in
     cond (assumptions-sized assumptions && results-sized results) (0, j .buffer, judge-results (j .answer)) (1, buffer, results)
 
 -- a conversion of either kind: what it leaves, and the buffer and the results as they were
@@ -115,7 +115,7 @@ walk-told r = (0, checkpoint-bytes (r .checkpoint), walk-results r)
 unfoldable pub walk-called : List ℕ → List ℕ → List ℕ → ℕ → List ℕ → ℕ × List ℕ × List ℕ
 walk-called s assumptions checkpoint budget results =
     cond (assumptions-sized assumptions && (checkpoint-sized checkpoint && results-sized results))
-    (walk-told (walk-call s (pairs-of assumptions) (checkpoint-in checkpoint) budget))
+    (walk-told (walk-call s (of-bytes assumptions) (checkpoint-in checkpoint) budget))
     (1, checkpoint, results)
 
 -- What a list of such calls returns and writes, budget by budget. All get the same input and the same assumptions, and nobody else writes
@@ -135,5 +135,5 @@ list-told models x =
 unfoldable pub list-called : List ℕ → List ℕ → List ℕ → List ℕ → List ℕ → ℕ × List ℕ × List ℕ × List ℕ
 list-called s assumptions checkpoint models results =
     cond (assumptions-sized assumptions && (checkpoint-sized checkpoint && results-sized results))
-    (list-told models (next-models s (pairs-of assumptions) (checkpoint-in checkpoint) (length models)))
+    (list-told models (next-models s (of-bytes assumptions) (checkpoint-in checkpoint) (length models)))
     (1, checkpoint, models, results)

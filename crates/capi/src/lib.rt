@@ -5,8 +5,8 @@ ghost use mathlib.Core.Path.{_≡_};
 ghost use lib.ListN.{length, drop};
 ghost use Rattle.formula.specs.Check as check;
 ghost use Rattle.formula.specs.Refusals.{table-row};
-ghost use Rattle.assumptions.specs.Pairs.{pairs-of};
-ghost use Rattle.assumptions.specs.InnerAssumed.{Given};
+ghost use Rattle.assumptions.specs.Bytes.{of-bytes};
+ghost use Rattle.assumptions.specs.InnerAssumed.{MasksOf};
 ghost use Rattle.dimacs.specs.Convert.{converted-values};
 ghost use Rattle.matched.specs.Judge as judging;
 ghost use Rattle.walk.specs.Checkpoints as walk;
@@ -169,7 +169,7 @@ fn put_checkpoint(c: Checkpoint, checkpoint: &mut [u8])
 
 // What the bytes of a list of assumptions say beside an input.
 fn assumptions_in(input: &[u8], assumptions: &[u8]) -> Assumptions
-    ensures { λ r. ⌜ Given (now (input .entry)) (pairs-of (now (assumptions .entry))) r ⌝ }
+    ensures { λ r. ⌜ MasksOf (now (input .entry)) (of-bytes (now (assumptions .entry))) r ⌝ }
 {
     assumptions::read_pairs(assumptions, assumptions::stated(input))
 }

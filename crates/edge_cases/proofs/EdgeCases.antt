@@ -128,8 +128,10 @@ assumed-cases = record {
   both-first = λ b. call-first both-task refl example both-given both-posed both-walks b;
   both-second = λ b. call-second both-task refl example both-given both-posed both-walks b;
   both-true = λ b l. rw (le-ltb (length b) max-clauses l);
+  zero = (λ b l. rw (le-ltb (length b) max-clauses l), λ c b. call-declined _ _ _ _ c b refl);
   above = (λ b l. rw (le-ltb (length b) max-clauses l), λ c b. call-declined _ _ _ _ c b refl);
   again = (λ b l. rw (le-ltb (length b) max-clauses l), λ c b. call-declined _ _ _ _ c b refl);
+  other-value = (λ b l. rw (le-ltb (length b) max-clauses l), λ c b. call-declined _ _ _ _ c b refl);
   free-walked = walked-plain _ _ _ _ _ _ refl 3;
 }
 

@@ -39,9 +39,13 @@ pub record AssumedCases : Type 0 where
   pub both-second : (b : ℕ) → walk-call example (assume-on 1 ∷ assume-off 2 ∷ []) (checkpoint-of 1 []) b ≡ answered ended 0 0 (checkpoint-of 4 [])
   -- with both true nothing is left of clause 2: 10, and it is marked
   pub both-true : UnmatchedUnder example (assume-on 1 ∷ assume-on 2 ∷ []) 1 (0 ∷ 1 ∷ [])
+  -- no variable has the number 0: 16 at 0
+  pub zero : BadAt example (assume-off 0 ∷ []) 0
   -- a variable above n: 16 at 0
   pub above : BadAt example (assume-on 3 ∷ []) 0
-  -- a variable twice, with the same value too: 16 at 1
+  -- a variable twice, with the same value: 16 at 1
   pub again : BadAt example (assume-on 1 ∷ assume-on 1 ∷ []) 1
+  -- and with the other
+  pub other-value : BadAt example (assume-on 1 ∷ assume-off 1 ∷ []) 1
   -- 2 variables and no clause, 2 true: 1 is assigned, the lowest that is not assumed
   pub free-walked : walked-under (1 ∷ 2 ∷ 5 ∷ []) (assume-on 2 ∷ []) 3 ≡ model-at (0 ∷ 1 ∷ []) 1 0 ∷ model-at (1 ∷ 1 ∷ []) 2 0 ∷ end-at 1 0 ∷ []

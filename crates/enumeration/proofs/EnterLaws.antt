@@ -12,7 +12,7 @@ use Rattle.formula.specs.declared.Refusal.the-variants.{ForeignCheckpoint}
 use Rattle.formula.specs.InnerMasked.{formula-of}
 use Rattle.assumptions.specs.declared.Assumption.{Assumption}
 use Rattle.assumptions.specs.declared.Assumptions.{Assumptions}
-use Rattle.assumptions.specs.InnerAssumed.{Given}
+use Rattle.assumptions.specs.InnerAssumed.{MasksOf}
 use Rattle.splitting.specs.declared.Assignment.{Assignment}
 use Rattle.matched.specs.InnerAccept.{assigned-by, Takes, Decides}
 use Rattle.matched.proofs.AcceptLaws.{given-assignment}
@@ -69,7 +69,7 @@ module _ (s : List ℕ) (us : List Assumption) (f : Formula) (z : Scope) (w : Wa
 abbrev pub tree-of : (s : List ℕ) (us : List Assumption) (f : Formula) → Takes s us f → Tree
 tree-of s us f w = tree (under (w .variables) (w .trail) (w .clauses))
 
-module _ (s : List ℕ) (us : List Assumption) (u : Assumptions) (given : Given s us u) (f : Formula) (z : Scope) (e : z ≡ scope-under (f .variables) (assigned-by u)) where
+module _ (s : List ℕ) (us : List Assumption) (u : Assumptions) (given : MasksOf s us u) (f : Formula) (z : Scope) (e : z ≡ scope-under (f .variables) (assigned-by u)) where
   abbrev takes-walked : Takes s us f → WalkedAs s us f z
   takes-walked w = record {
     task = under (w .variables) (w .trail) (w .clauses);

@@ -31,7 +31,7 @@ use Rattle.formula.proofs.MaskedLaws.{formula-fits}
 use Rattle.assumptions.specs.declared.Assumption.{Assumption}
 use Rattle.assumptions.specs.declared.Assumptions.{Assumptions}
 use Rattle.assumptions.specs.Assumed.{Assumed, literals, bad, assumed}
-use Rattle.assumptions.specs.InnerAssumed.{masks-of, Given}
+use Rattle.assumptions.specs.InnerAssumed.{masks-of, MasksOf}
 use Rattle.assumptions.proofs.StatedLaws.{given-encoded}
 use Rattle.matching.specs.declared.Matching.{Matching}
 use Rattle.matching.specs.Result.{packed}
@@ -47,7 +47,7 @@ use Rattle.matched.specs.declared.Row.{Row}
 use Rattle.matched.specs.Acceptance.{Acceptance, accepted, declined, spread, by-outcome, formula-acceptance, acceptance}
 use Rattle.matched.specs.InnerAccept.{raised, assigned-by, refused-row, Represents, Takes, Decides}
 use Rattle.matched.specs.InnerSpread.{bytes-at}
-use Rattle.matched.proofs.AcceptanceLaws.{remaining-sized, accepted-is, unassumed-declined, unreadable-declined}
+use Rattle.matched.proofs.AcceptanceLaws.{remaining-sized, accepted-is, bad-declined, unreadable-declined}
 use Rattle.matched.proofs.PairingLaws.{masks-words}
 use Rattle.matched.proofs.SpreadLaws.{spread-length, spread-bytes}
 
@@ -98,7 +98,7 @@ masks-assigned (l ∷ t) p q = by (l .positive) (masks-assigned t (with p (l .va
     by true x y = x
     by false x y = y
 
-module _ (s : List ℕ) (us : List Assumption) (u : Assumptions) (given : Given s us u) (n : ℕ) (cs : List (List Literal)) (reads : decode s ≡ readable n cs) where
+module _ (s : List ℕ) (us : List Assumption) (u : Assumptions) (given : MasksOf s us u) (n : ℕ) (cs : List (List Literal)) (reads : decode s ≡ readable n cs) where
   given-masks : u ≡ masks-of (assumed n us)
   given-masks = given-encoded us given (accepted-only s n cs reads)
 
@@ -133,10 +133,6 @@ module _ (l : List ℕ) where
       by : Dec (i < length l) → getD (padded max-clauses 0 l) i 0 < k
       by (yes m) = rw (getD-padded max-clauses 0 l i 0 m) (h i m)
       by (no m) = let z : length l ≤ i = omega arith in rw (getD-padded-past max-clauses 0 l i 0 z w) some
-
-  -- zeros follow them
-  table-rest : padded max-clauses 0 l ≡ padded max-clauses 0 (take (length l) (padded max-clauses 0 l))
-  table-rest = ap (padded max-clauses 0) (sym (take-padded max-clauses 0 l))
 
 -- the matching's answers are below 64
 pub answers-small : (f : Formula) → FormulaFits f → (a : Assignment) (m : Matching) → m ≡ matching-at f a → (i : ℕ) → i < max-clauses → getD (m .table) i 0 < 64
@@ -266,7 +262,7 @@ module _ (s : List ℕ) (us : List Assumption) where
   -- one with a bad assumption has no bytes
   pub bad-represents : (n : ℕ) (cs : List (List Literal)) (i : ℕ) → decode s ≡ readable n cs → assumed n us ≡ bad i
       → (f : Formula) → Represents (acceptance s us) f (refused-row (BadAssumption i))
-  bad-represents n cs i e g f = declined-represents (BadAssumption i) (unassumed-declined s us n cs i e g) f
+  bad-represents n cs i e g f = declined-represents (BadAssumption i) (bad-declined s us n cs i e g) f
 
   -- nor has one that was refused
   pub refused-represents : (e : Refusal) → decode s ≡ refused e → (f : Formula) → Represents (acceptance s us) f (refused-row e)

@@ -3,7 +3,7 @@
 use Prim.Native.Nat.{ℕ, suc, _≤_}
 use mathlib.Core.Bool.{true}
 use mathlib.Core.List.{List, [], map}
-use mathlib.Core.Path.{_≡_, refl, ap, _∙_}
+use mathlib.Core.Path.{_≡_, refl}
 use native.Mathlib.Omega.{arith}
 use lib.ListN.{length, length-map}
 use Rattle.limits.specs.Limits.{max-clauses}
@@ -18,7 +18,7 @@ use Rattle.formula.specs.Refusals.{table-row}
 use Rattle.formula.proofs.Demands.{accepted-only, accepted-all, accepted-fits, numbers}
 use Rattle.assumptions.specs.declared.Assumption.{Assumption}
 use Rattle.assumptions.specs.Assumed.{Assumed, literals, bad, literal-of, assumed}
-use Rattle.assumptions.proofs.Demands.{literals-exactly, literals-are, literals-over}
+use Rattle.assumptions.proofs.Demands.{literals-exactly, none-bad-literals, literals-are, literals-over}
 use Rattle.matching.specs.Sets.{union}
 use Rattle.matching.specs.Search.{Outcome, success, failure, outcome, marks}
 use Rattle.matching.proofs.MatchedLaws.{length-marks, marks-le}
@@ -43,10 +43,6 @@ remaining-sized {n} {cs} t z = record {
   clauses = remaining-over n t cs (z .clauses);
 }
 
--- the literals of a list with none bad
-pub assumes-literals : (n : ℕ) (us : List Assumption) → ((t : List Literal) × (assumed n us ≡ literals t)) → assumed n us ≡ literals (map literal-of us)
-assumes-literals n us w = w .1 ∙ ap literals (literals-are n us (w .0) (w .1))
-
 -- what an accepted input is
 pub record AcceptedInput (s : List ℕ) (us : List Assumption) (n : ℕ) (t : List Literal) (cs : List (List Literal)) (row : List ℕ) : Type 0 where
   pub reads : decode s ≡ readable n cs
@@ -67,7 +63,7 @@ pub data Comes (s : List ℕ) (us : List Assumption) : Acceptance → Type 0 whe
   unpaired : (n : ℕ) (t : List Literal) (cs : List (List Literal)) (ms : List ℕ) → decode s ≡ readable n cs → assumed n us ≡ literals t → Violator (remaining t cs) ms
       → ((vs : List ℕ) → Pairs (remaining t cs) vs → ⊥)
       → Comes s us (declined (Unmatched (length (marked ms (remaining t cs)))) (spread t cs ms))
-  unassumed : (n : ℕ) (cs : List (List Literal)) (i : ℕ) → decode s ≡ readable n cs → assumed n us ≡ bad i → Comes s us (declined (BadAssumption i) [])
+  bad-assumed : (n : ℕ) (cs : List (List Literal)) (i : ℕ) → decode s ≡ readable n cs → assumed n us ≡ bad i → Comes s us (declined (BadAssumption i) [])
   unreadable : (r : Refusal) → decode s ≡ refused r → Comes s us (declined r [])
 
 module _ (s : List ℕ) (us : List Assumption) where
@@ -93,7 +89,7 @@ module _ (s : List ℕ) (us : List Assumption) where
 
       under : (n : ℕ) (cs : List (List Literal)) → decode s ≡ readable n cs → (x : Assumed) → assumed n us ≡ x → Comes s us (by-assumed n cs x)
       under n cs reads (literals t) assumes = at n t cs reads assumes (outcome (map variables (remaining t cs))) refl
-      under n cs reads (bad i) assumes = unassumed n cs i reads assumes
+      under n cs reads (bad i) assumes = bad-assumed n cs i reads assumes
 
       by : (d : Decoding) → decode s ≡ d → Comes s us (by-decoding d us)
       by (readable n cs) reads = under n cs reads (assumed n us) refl
@@ -120,7 +116,7 @@ module _ (s : List ℕ) (us : List Assumption) where
             sound = matched-sound k (remaining u ds) (vs, pairs-matches (remaining u ds) vs w);
           })
       by (unpaired k u ds ms reads assumes v none) q = let z : _≡_ {A = ℕ} 0 1 = cc in absurd (omega arith)
-      by (unassumed k ds i reads assumes) q = let z : _≡_ {A = ℕ} 0 1 = cc in absurd (omega arith)
+      by (bad-assumed k ds i reads assumes) q = let z : _≡_ {A = ℕ} 0 1 = cc in absurd (omega arith)
       by (unreadable r e) q = let z : _≡_ {A = ℕ} 0 1 = cc in absurd (omega arith)
 
   -- a readable input whose remaining clauses can be paired is accepted
@@ -139,7 +135,7 @@ module _ (s : List ℕ) (us : List Assumption) where
           let b : ds ≡ cs = cc in
           let d : u ≡ t = cc in
           absurd (none vs (rw (b, d) w))
-      by (unassumed k ds i e f) = let a : k ≡ n = cc in let z : _≡_ {A = ℕ} 0 1 = cc in absurd (omega arith)
+      by (bad-assumed k ds i e f) = let a : k ≡ n = cc in let z : _≡_ {A = ℕ} 0 1 = cc in absurd (omega arith)
       by (unreadable r e) = let z : _≡_ {A = ℕ} 0 1 = cc in absurd (omega arith)
 
   -- so what is accepted is what is pairable
@@ -150,22 +146,19 @@ module _ (s : List ℕ) (us : List Assumption) where
         variables = n;
         clauses = cs;
         encodes = accepted-only s n cs (a .reads);
-        assumes = literals-exactly n us .0 (t, a .assumes);
+        none-bad = literals-exactly n us .0 (t, a .assumes);
         vs = a .vs;
         pairs = rw (← (literals-are n us t (a .assumes))) (a .pairs);
       }
 
-  -- the literals that a pairable input assumes
-  pub pairable-assumes : (w : Pairable s us) → assumed (w .variables) us ≡ literals (map literal-of us)
-  pairable-assumes w = assumes-literals (w .variables) us (literals-exactly (w .variables) us .1 (w .assumes))
-
-  -- none of them twice
+  -- its assumptions have none twice
   pub pairable-once : (w : Pairable s us) → distinct (map literal-of us) ≡ true
-  pairable-once w = literals-over (w .variables) us (map literal-of us) (pairable-assumes w) .once
+  pairable-once w = literals-over (w .variables) us (map literal-of us) (none-bad-literals (w .variables) us (w .none-bad)) .once
 
   pub pairable-accepted : (w : Pairable s us) → (row : List ℕ) × (acceptance s us ≡ accepted (w .variables) (map literal-of us) (w .clauses) row)
   pairable-accepted w =
-      pairs-accepted (w .variables) (map literal-of us) (w .clauses) (w .vs) (accepted-all s (w .variables) (w .clauses) (w .encodes)) (pairable-assumes w) (w .pairs)
+      pairs-accepted (w .variables) (map literal-of us) (w .clauses) (w .vs) (accepted-all s (w .variables) (w .clauses) (w .encodes))
+      (none-bad-literals (w .variables) us (w .none-bad)) (w .pairs)
 
   -- one whose remaining clauses can't is declined by 10, and the marks are a violator
   pub unpaired-declined : (n : ℕ) (t : List Literal) (cs : List (List Literal)) → decode s ≡ readable n cs → assumed n us ≡ literals t → ((vs : List ℕ) → Pairs (remaining t cs) vs → ⊥)
@@ -183,13 +176,13 @@ module _ (s : List ℕ) (us : List Assumption) where
           let b : ds ≡ cs = cc in
           let d : u ≡ t = cc in
           (ms, rw (b, d) at v, rw (b, d))
-      by (unassumed k ds i e f) = let a : k ≡ n = cc in let z : _≡_ {A = ℕ} 0 1 = cc in absurd (omega arith)
+      by (bad-assumed k ds i e f) = let a : k ≡ n = cc in let z : _≡_ {A = ℕ} 0 1 = cc in absurd (omega arith)
       by (unreadable r e) = let z : _≡_ {A = ℕ} 0 1 = cc in absurd (omega arith)
 
   -- a readable one with a bad assumption by 16
-  pub unassumed-declined : (n : ℕ) (cs : List (List Literal)) (i : ℕ) → decode s ≡ readable n cs → assumed n us ≡ bad i → acceptance s us ≡ declined (BadAssumption i) []
+  pub bad-declined : (n : ℕ) (cs : List (List Literal)) (i : ℕ) → decode s ≡ readable n cs → assumed n us ≡ bad i → acceptance s us ≡ declined (BadAssumption i) []
   unfolding acceptance
-  unassumed-declined n cs i e f = rw (e, f)
+  bad-declined n cs i e f = rw (e, f)
 
   -- an unreadable one by the reader's refusal
   pub unreadable-declined : (r : Refusal) → decode s ≡ refused r → acceptance s us ≡ declined r []
@@ -203,7 +196,7 @@ module _ (s : List ℕ) (us : List Assumption) where
       by : {a : Acceptance} → Comes s us a → a ≡ declined r row → 2 ≤ table-row r .number
       by (paired n t cs vs reads assumes w) q = let z : _≡_ {A = ℕ} 0 1 = cc in absurd (omega arith)
       by (unpaired n t cs ms reads assumes v none) q = let e : Unmatched (length (marked ms (remaining t cs))) ≡ r = cc in rw (← e) (omega arith)
-      by (unassumed n cs i reads assumes) q = let e : BadAssumption i ≡ r = cc in rw (← e) (omega arith)
+      by (bad-assumed n cs i reads assumes) q = let e : BadAssumption i ≡ r = cc in rw (← e) (omega arith)
       by (unreadable t reads) q = let e : t ≡ r = cc in rw (← e) (numbers s t reads .0)
 
   -- the bytes fit a table
@@ -213,5 +206,5 @@ module _ (s : List ℕ) (us : List Assumption) where
       by : {a : Acceptance} → Comes s us a → length (row-of a) ≤ max-clauses
       by (paired n t cs vs reads assumes w) = omega (arith, spread-length t cs (map suc vs), accepted-fits s n cs reads .few)
       by (unpaired n t cs ms reads assumes v none) = omega (arith, spread-length t cs ms, accepted-fits s n cs reads .few)
-      by (unassumed n cs i reads assumes) = omega arith
+      by (bad-assumed n cs i reads assumes) = omega arith
       by (unreadable r e) = omega arith

@@ -18,13 +18,13 @@ use Rattle.formula.proofs.Demands.{accepted-only, accepted-all, refused-all}
 use Rattle.assumptions.specs.declared.Assumption.{Assumption}
 use Rattle.assumptions.specs.Assumed.{literal-of}
 use Rattle.assumptions.specs.FirstBad.{NoneBad, FirstBad}
-use Rattle.assumptions.proofs.Demands.{bad-exactly, literals-exactly}
+use Rattle.assumptions.proofs.Demands.{bad-exactly, none-bad-literals}
 use Rattle.splitting.specs.Nodes.{remaining}
 use Rattle.matched.specs.Acceptance.{accepted, spread, acceptance}
 use Rattle.matched.specs.Judge.{Judged, accepted-values, refused-values, judgement-of, judge}
 use Rattle.matched.specs.Pairing.{Pairs, PairsUnder, Pairable, Violator, marked}
 use Rattle.matched.specs.WithoutAssumptions.{plain-acceptance}
-use Rattle.matched.proofs.AcceptanceLaws.{assumes-literals, remaining-sized, accepted-pairable, pairable-accepted, pairable-once, unassumed-declined, unreadable-declined}
+use Rattle.matched.proofs.AcceptanceLaws.{remaining-sized, accepted-pairable, pairable-accepted, pairable-once, bad-declined, unreadable-declined}
 use Rattle.matched.proofs.JudgeLaws.{judge-short, judge-declined, judged-bad, numberless-pairable, pairable-judged, unpaired-judged}
 use Rattle.matched.proofs.PairingLaws.{no-pairs}
 use Rattle.matched.proofs.UnassumedLaws.{unassumed}
@@ -40,18 +40,21 @@ pub unreadable : (s : List ℕ) (us : List Assumption) (b : List ℕ) (r : Refus
     → judge s us b ≡ record { answer = refused-values r; buffer = b }
 unreadable s us b r l w = judge-declined s us b l r [] (unreadable-declined s us r (refused-all s r w))
 
--- S17.1, demand 1: 16 at i is the answer exactly if the input is readable and the assumption with the index i is the first bad one,
+-- S17.1, demand 1: the number is 16 and the place i exactly if the input is readable and the assumption with the index i is the first bad
+-- one,
 pub bad-assumption-exactly : (s : List ℕ) (us : List Assumption) (b : List ℕ) (i : ℕ) → max-clauses ≤ length b
-    → (judge s us b .answer ≡ refused-values (BadAssumption i)) ↔ ((n : ℕ) × (cs : List (List Literal)) × Encodes s n cs × FirstBad n us i)
+    → ((judge s us b .answer .number ≡ 16) × (judge s us b .answer .place ≡ i)) ↔ ((n : ℕ) × (cs : List (List Literal)) × Encodes s n cs × FirstBad n us i)
 bad-assumption-exactly s us b i l = (
-  λ e. let w = judged-bad s us b l i e in (w .0, w .1, accepted-only s (w .0) (w .1) (w .2), bad-exactly (w .0) us i .0 (w .3)),
-  λ w. ap (λ (j : Judged). j .answer) (judge-declined s us b l (BadAssumption i) [] (unassumed-declined s us (w .0) (w .1) i (accepted-all s (w .0) (w .1) (w .2)) (bad-exactly (w .0) us i .1 (w .3)))),
+  λ e. let w = judged-bad s us b l i (e .0) (e .1) in (w .0, w .1, accepted-only s (w .0) (w .1) (w .2), bad-exactly (w .0) us i .0 (w .3)),
+  λ w.
+      let e = judge-declined s us b l (BadAssumption i) [] (bad-declined s us (w .0) (w .1) i (accepted-all s (w .0) (w .1) (w .2)) (bad-exactly (w .0) us i .1 (w .3))) in
+      (ap (λ (j : Judged). j .answer .number) e, ap (λ (j : Judged). j .answer .place) e),
 )
 
--- and then the buffer is untouched
+-- and then all other values are 0, and the buffer is untouched
 pub bad-assumption : (s : List ℕ) (us : List Assumption) (b : List ℕ) (n : ℕ) (cs : List (List Literal)) (i : ℕ) → max-clauses ≤ length b → Encodes s n cs → FirstBad n us i
     → judge s us b ≡ record { answer = refused-values (BadAssumption i); buffer = b }
-bad-assumption s us b n cs i l w f = judge-declined s us b l (BadAssumption i) [] (unassumed-declined s us n cs i (accepted-all s n cs w) (bad-exactly n us i .1 f))
+bad-assumption s us b n cs i l w f = judge-declined s us b l (BadAssumption i) [] (bad-declined s us n cs i (accepted-all s n cs w) (bad-exactly n us i .1 f))
 
 -- S10, demand 2: an input is accepted exactly if it is readable, none of the assumptions is bad and what remains is matched,
 pub acceptance-exactly : (s : List ℕ) (us : List Assumption)
@@ -86,7 +89,7 @@ pub refused-buffer : (s : List ℕ) (us : List Assumption) (b : List ℕ) (n : �
     ((vs : List ℕ) → Pairs (remaining t cs) vs → ⊥)
     → (ms : List ℕ) × Violator (remaining t cs) ms
     × (judge s us b ≡ record { answer = refused-values (Unmatched (length (marked ms (remaining t cs)))); buffer = over (spread t cs ms) b }))
-refused-buffer s us b n cs l w good = unpaired-judged s us b l n (map literal-of us) cs (accepted-all s n cs w) (assumes-literals n us (literals-exactly n us .1 good))
+refused-buffer s us b n cs l w good = unpaired-judged s us b l n (map literal-of us) cs (accepted-all s n cs w) (none-bad-literals n us good)
 
 -- where there is a violator of what remains there is no matching of it
 pub violator-unpaired : (n : ℕ) (t : List Literal) (cs : List (List Literal)) (ms : List ℕ) → Sized n cs → Violator (remaining t cs) ms

@@ -10,11 +10,10 @@ use Rattle.lists.specs.Over.{over}
 use Rattle.formula.specs.declared.Formula.{Formula}
 use Rattle.formula.specs.declared.Outcome.the-variants as outcomes
 use Rattle.formula.specs.declared.Refusal.{Refusal}
-use Rattle.formula.specs.declared.Refusal.the-variants.{ShortBuffer, Unmatched, BadAssumption}
+use Rattle.formula.specs.declared.Refusal.the-variants.{ShortBuffer, Unmatched}
 use Rattle.formula.specs.InnerDecode.{decode}
 use Rattle.formula.specs.Decoding.{readable}
 use Rattle.formula.specs.Format.{Literal}
-use Rattle.formula.specs.Refusals.{table-row}
 use Rattle.formula.proofs.Demands.{numbers}
 use Rattle.assumptions.specs.declared.Assumption.{Assumption}
 use Rattle.assumptions.specs.Assumed.{literals, bad, literal-of, assumed}
@@ -24,7 +23,7 @@ use Rattle.matched.specs.Acceptance.{Acceptance, accepted, declined, spr
 use Rattle.matched.specs.InnerAccept.{Represents}
 use Rattle.matched.specs.Judge.{JudgementValues, Judged, accepted-values, refused-values, judgement-of, judge}
 use Rattle.matched.specs.Pairing.{Pairs, Pairable, Violator, marked}
-use Rattle.matched.proofs.AcceptanceLaws.{Comes, paired, unpaired, unassumed, unreadable, comes, accepted-is, accepted-pairable, pairable-accepted, unpaired-declined, declined-number}
+use Rattle.matched.proofs.AcceptanceLaws.{Comes, paired, unpaired, bad-assumed, unreadable, comes, accepted-is, accepted-pairable, pairable-accepted, unpaired-declined, declined-number}
 
 -- the parts of what judge is
 pub told : {j : Judged} {a : JudgementValues} {row left : List ℕ} → j ≡ record { answer = a; buffer = row } → left ≡ row → (a ≡ j .answer) × (left ≡ j .buffer)
@@ -98,14 +97,13 @@ module _ (s : List ℕ) (us : List Assumption) (b : List ℕ) (l : max-clauses �
   unpaired-judged n t cs e f none = let x = unpaired-declined s us n t cs e f none in (x .0, x .1, judge-declined _ _ (x .2))
 
   -- an input is refused by 16 only where it is readable and an assumption is bad, the first at the place
-  pub judged-bad : (i : ℕ) → judge s us b .answer ≡ refused-values (BadAssumption i) → (n : ℕ) × (cs : List (List Literal)) × (decode s ≡ readable n cs) × (assumed n us ≡ bad i)
-  judged-bad i q = by (comes s us) (ap (λ (j : Judged). j .answer) (sym judge-long) ∙ q)
+  pub judged-bad : (i : ℕ) → judge s us b .answer .number ≡ 16 → judge s us b .answer .place ≡ i
+      → (n : ℕ) × (cs : List (List Literal)) × (decode s ≡ readable n cs) × (assumed n us ≡ bad i)
+  judged-bad i q p = by (comes s us) (ap (λ (j : Judged). j .answer .number) (sym judge-long) ∙ q) (ap (λ (j : Judged). j .answer .place) (sym judge-long) ∙ p)
     where
-      by : {a : Acceptance} → Comes s us a → judgement-of a b .answer ≡ refused-values (BadAssumption i)
+      by : {a : Acceptance} → Comes s us a → judgement-of a b .answer .number ≡ 16 → judgement-of a b .answer .place ≡ i
           → (n : ℕ) × (cs : List (List Literal)) × (decode s ≡ readable n cs) × (assumed n us ≡ bad i)
-      by (paired n t cs vs reads assumes w) e = let z : _≡_ {A = ℕ} 0 16 = ap (λ (v : JudgementValues). v .number) e in absurd (omega arith)
-      by (unpaired n t cs ms reads assumes v none) e = let z : _≡_ {A = ℕ} 10 16 = ap (λ (v : JudgementValues). v .number) e in absurd (omega arith)
-      by (unassumed n cs j reads assumes) e = (n, cs, reads, assumes ∙ ap bad (ap (λ (v : JudgementValues). v .place) e))
-      by (unreadable r reads) e =
-          let z : table-row r .number ≡ 16 = ap (λ (v : JudgementValues). v .number) e in
-          absurd (omega (arith, numbers s r reads .1))
+      by (paired n t cs vs reads assumes w) e p = absurd (omega arith)
+      by (unpaired n t cs ms reads assumes v none) e p = absurd (omega arith)
+      by (bad-assumed n cs j reads assumes) e p = (n, cs, reads, assumes ∙ ap bad p)
+      by (unreadable r reads) e p = absurd (omega (arith, numbers s r reads .1))

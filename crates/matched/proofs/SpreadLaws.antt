@@ -11,6 +11,7 @@ use lib.Seq.{length-take-le, take-suc, getD-drop}
 use Rattle.limits.specs.Limits.{max-clauses}
 use Rattle.lists.specs.Over.{over}
 use Rattle.lists.specs.Padded.{padded}
+use Rattle.lists.proofs.MapLaws.{getD-map-in}
 use Rattle.lists.proofs.OverLaws.{over-set}
 use Rattle.lists.proofs.PaddedLaws.{padded-set, padded-filled, getD-padded}
 use Rattle.lists.proofs.TabulatedLaws.{length-tabulated, tabulated-more, tabulated-of}
@@ -30,7 +31,7 @@ use Rattle.matched.specs.InnerSpread.{open-before, byte-at, bytes-at}
 
 module _ (l more : List ℕ) (i x : ℕ) (e : length l ≡ i) (m : more ≡ l ++ (x ∷ [])) (a : List ℕ) where
   -- in an array of n places
-  pub padded-more : (n d : ℕ) → a ≡ padded n d l → i < n → set a i x ≡ padded n d more
+  padded-more : (n d : ℕ) → a ≡ padded n d l → i < n → set a i x ≡ padded n d more
   padded-more n d q h = rw (q, m, ← e) (padded-set n d l x (omega arith))
 
   -- over a buffer
@@ -44,12 +45,6 @@ module _ (t : List ℕ) (i : ℕ) (h : i < length t) where
 
   pub taken-more : take (i + 1) t ≡ take i t ++ (getD t i 0 ∷ [])
   taken-more = rw (add-one, take-suc t i 0 h)
-
--- a number of a raised list
-pub raised-at : (l : List ℕ) (k i : ℕ) → i < length l → getD (raised k l) i 0 ≡ getD l i 0 + k
-raised-at [] k i h = absurd (omega arith)
-raised-at (x ∷ l) k zero h = refl
-raised-at (x ∷ l) k (suc i) h = raised-at l k i (omega arith)
 
 -- ---- the clauses that are not satisfied, by their places
 
@@ -68,7 +63,7 @@ module _ (a : Assignment) where
       at false false = refl
 
   -- it grows at a clause that is not satisfied
-  pub open-less : (cs : List Clause) (n i : ℕ) → i < n → satisfied-under a (getD cs i no-clause) ≡ false → open-before cs a i < open-before cs a n
+  open-less : (cs : List Clause) (n i : ℕ) → i < n → satisfied-under a (getD cs i no-clause) ≡ false → open-before cs a i < open-before cs a n
   unfolding open-before
   open-less cs zero i h e = absurd (omega arith)
   open-less cs (suc n) i h e = go (decLt i n) (satisfied-under a (getD cs n no-clause)) refl (open-less cs n i)
@@ -164,7 +159,7 @@ module _ (t : List Literal) where
 
   module _ (once : distinct t ≡ true) where
     -- there are as many as clauses remain
-    pub unsatisfied-all : (cs : List (List Literal)) → unsatisfied cs (length cs) ≡ length (remaining t cs)
+    unsatisfied-all : (cs : List (List Literal)) → unsatisfied cs (length cs) ≡ length (remaining t cs)
     unfolding open-before
     unsatisfied-all [] = rw (remaining-none t)
     unsatisfied-all (c ∷ cs) = rw (unsatisfied-cons c cs (length cs), remaining-cons t c cs once) (at (satisfied-by t c) (unsatisfied-all cs))
@@ -215,7 +210,7 @@ module _ (t : List Literal) where
           at i h true q = refl
           at i h false q =
               let m : unsatisfied cs i < length l = rw e (unsatisfied-place cs i h q) in
-              raised-at l k (unsatisfied cs i) m ∙ rw (getD-padded max-clauses 0 l (unsatisfied cs i) 0 m)
+              getD-map-in (λ x. x + k) l (unsatisfied cs i) 0 0 m ∙ rw (getD-padded max-clauses 0 l (unsatisfied cs i) 0 m)
 
           same : (i : ℕ) → i < length cs → getD (spread t cs (raised k l)) i 0 ≡ byte-at array (assignment-of t) (padded max-clauses 0 l) k i
           same i h =

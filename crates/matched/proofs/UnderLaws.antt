@@ -1,11 +1,12 @@
 -- The bytes of an accepted formula under assumptions, told clause by clause.
-use Prim.Native.Nat.{ℕ, zero, suc, _<_}
+use Prim.Native.Nat.{ℕ, suc, _<_}
 use mathlib.Core.Bool.{Bool, true, false}
-use mathlib.Core.List.{List, [], _∷_, map}
+use mathlib.Core.List.{List, [], map}
 use mathlib.Core.Path.{_≡_, refl, _∙_}
 use native.Mathlib.Decide.{decLt}
 use native.Mathlib.Omega.{arith}
 use lib.ListN.{length, getD}
+use Rattle.lists.proofs.MapLaws.{getD-map-in}
 use Rattle.formula.specs.Format.{Literal}
 use Rattle.formula.specs.Format as format
 use Rattle.splitting.specs.Nodes.{remaining, satisfied-by}
@@ -13,12 +14,6 @@ use Rattle.splitting.proofs.SatisfiedLaws.{less-all-names}
 use Rattle.matched.specs.Acceptance.{spread}
 use Rattle.matched.specs.Pairing.{Pairs, PairsUnder}
 use Rattle.matched.proofs.SpreadLaws.{unsatisfied, unsatisfied-less, unsatisfied-place, remaining-at, spread-length, spread-byte}
-
--- a number of a list, each one more
-suc-at : (l : List ℕ) (k : ℕ) → k < length l → getD (map suc l) k 0 ≡ suc (getD l k 0)
-suc-at [] k h = absurd (omega arith)
-suc-at (x ∷ l) zero h = refl
-suc-at (x ∷ l) (suc k) h = suc-at l k (omega arith)
 
 module _ (t : List Literal) (once : format.distinct t ≡ true) (cs : List (List Literal)) (vs : List ℕ) (p : Pairs (remaining t cs) vs) where
   abbrev row : List ℕ
@@ -29,7 +24,7 @@ module _ (t : List Literal) (once : format.distinct t ≡ true) (cs : List (List
 
   -- the byte of a clause that t does not satisfy
   other-byte : (i : ℕ) → i < length cs → satisfied-by t (getD cs i []) ≡ false → getD row i 0 ≡ suc (getD vs (unsatisfied t cs i) 0)
-  other-byte i h e = spread-byte t cs (map suc vs) i h ∙ rw e (suc-at vs (unsatisfied t cs i) (place i h e))
+  other-byte i h e = spread-byte t cs (map suc vs) i h ∙ rw e (getD-map-in suc vs (unsatisfied t cs i) 0 0 (place i h e))
 
   -- and of one that it satisfies
   satisfied-byte : (i : ℕ) → i < length cs → satisfied-by t (getD cs i []) ≡ true → getD row i 0 ≡ 0

@@ -34,7 +34,7 @@ pub record Pairable (s : List ℕ) (us : List Assumption) : Type 0 where
   pub variables : ℕ
   pub clauses : List (List Literal)
   pub encodes : Encodes s variables clauses
-  pub assumes : NoneBad variables us
+  pub none-bad : NoneBad variables us
   pub vs : List ℕ
   pub pairs : Pairs (remaining (map literal-of us) clauses) vs
 

@@ -1,4 +1,4 @@
-// Which inputs are accepted under which assumptions, each with its matching or a violator, and the act judge (S5.6, S5.7, S17.2)
+// Which inputs are accepted, each with its matching or a violator, and the act judge (S5.6, S5.7, S17.2).
 //
 // `accept` says what comes of an input (`acceptance`) to judge, walk, list and print, which have read it; judge writes it into a lent
 // buffer.
@@ -13,7 +13,7 @@ ghost use Rattle.formula.specs.Format.{Literal, Sized, ClauseOver};
 ghost use Rattle.formula.specs.InnerMasked.{formula-of};
 ghost use Rattle.formula.specs.InnerFits.{FormulaFits};
 ghost use Rattle.assumptions.specs.declared.Assumption.{Assumption};
-ghost use Rattle.assumptions.specs.InnerAssumed.{Given};
+ghost use Rattle.assumptions.specs.InnerAssumed.{MasksOf};
 ghost use Rattle.splitting.specs.InnerChoose.{assignment-of};
 ghost use Rattle.matched.specs.Acceptance.{acceptance, formula-acceptance};
 ghost use Rattle.matched.specs.InnerAccept.{ReaderGives, assigned-by, refused-row, Represents};
@@ -108,11 +108,11 @@ fn no_row(refusal: Refusal) -> Row
     }
 }
 
-// S5.6: what comes of an input, by the reader's answer and the assumptions. The formula stays with the caller: to hand it on would be to
+// S5.6, S17.2: what comes of an input, by the reader's answer and the assumptions. The formula stays with the caller: to hand it on would be to
 // copy it.
 pub fn accept(outcome: Outcome, f: Formula, u: Assumptions) -> Row
-    requires { ⌜ ((s : List ℕ) × (us : List Assumption) × ReaderGives s outcome f × Given s us u) ⌝ }
-    ensures { λ r. ⌜ ((s : List ℕ) (us : List Assumption) → ReaderGives s outcome f → Given s us u → Represents (acceptance s us) f r) ⌝ }
+    requires { ⌜ ((s : List ℕ) × (us : List Assumption) × ReaderGives s outcome f × MasksOf s us u) ⌝ }
+    ensures { λ r. ⌜ ((s : List ℕ) (us : List Assumption) → ReaderGives s outcome f → MasksOf s us u → Represents (acceptance s us) f r) ⌝ }
 {
     match outcome {
         Outcome::Refused(refusal) => no_row(refusal),
@@ -140,8 +140,8 @@ fn write(table: [u8; limits::MAX_CLAUSES], n: usize, buffer: &mut [u8])
 // S5.7: the act judge, over the masks of the assumptions: the numbers of variables and clauses and, in the buffer, the matching; or the
 // refusal, with the violator in the buffer if what remains is not matched.
 pub fn find_matching_under(input: &[u8], u: Assumptions, buffer: &mut [u8]) -> Judgement
-    requires { ⌜ ((us : List Assumption) × Given (now input) us u) ⌝ }
-    ensures { λ r. ⌜ ((us : List Assumption) → Given (now (input .entry)) us u
+    requires { ⌜ ((us : List Assumption) × MasksOf (now input) us u) ⌝ }
+    ensures { λ r. ⌜ ((us : List Assumption) → MasksOf (now (input .entry)) us u
         → (judgement-values r ≡ judge (now (input .entry)) us (now (buffer .entry)) .answer)
         × (now (buffer .exit) ≡ judge (now (input .entry)) us (now (buffer .entry)) .buffer)) ⌝ }
 {

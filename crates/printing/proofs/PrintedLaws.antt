@@ -30,7 +30,7 @@ use Rattle.splitting.specs.Nodes.{remaining}
 use Rattle.splitting.proofs.NodeLaws.{length-remaining}
 use Rattle.matched.specs.Acceptance.{Acceptance, accepted, declined, acceptance}
 use Rattle.matched.specs.Pairing.{Pairs, marked}
-use Rattle.matched.proofs.AcceptanceLaws.{AcceptedInput, Comes, paired, unpaired, unassumed, unreadable, comes, accepted-is, pairs-accepted}
+use Rattle.matched.proofs.AcceptanceLaws.{AcceptedInput, Comes, paired, unpaired, bad-assumed, unreadable, comes, accepted-is, pairs-accepted}
 use Rattle.matched.proofs.PairingLaws.{masks-words, pairs-matches}
 use Rattle.walk.specs.Task.{Task, under, to-assign, Posed}
 use Rattle.walk.specs.Checkpoints.{Checkpoint}
@@ -176,7 +176,7 @@ printed-length s h = go (acceptance s []) refl
             let k = selected-few ms (map variables rs) in
             let l = refused-line-length 10 (length (marked ms rs)) (omega arith) (omega (arith, length-map rs variables)) in
             rw (← e) (omega arith)
-        by (unassumed n cs i reads assumes) q = let z : _≡_ {A = ℕ} 0 1 = cc (no-assumptions n) in absurd (omega arith)
+        by (bad-assumed n cs i reads assumes) q = let z : _≡_ {A = ℕ} 0 1 = cc (no-assumptions n) in absurd (omega arith)
         by (unreadable t reads) q = let e : t ≡ r = cc in let l = refused-short s t reads h in rw (← e) (omega arith)
 
     go : (a : Acceptance) → acceptance s [] ≡ a → length (acceptance-lines a) ≤ max-print

@@ -1,14 +1,12 @@
 -- Laws of counting: smaller sets, and sets that miss a number or have them all.
 use Prim.Native.Nat.{ℕ, zero, suc, _^_, _≤_, _<_}
-use mathlib.Core.Path.{_≡_, refl, _∙_}
+use mathlib.Core.Path.{_≡_, refl}
 use mathlib.Core.Bool.{Bool, true, false, not}
 use native.Mathlib.Omega.{arith}
 use lib.Dec.{eqb}
-use lib.Pow.{pow-pos}
-use borrow.Author.Tests.{lt-ltb}
 use Rattle.lists.proofs.TestLaws.{and-left, bool-clash}
-use Rattle.masks.specs.Mask.{bit, full, size}
-use Rattle.masks.proofs.BitLaws.{bit-full, bit-below}
+use Rattle.masks.specs.Mask.{bit, size}
+use Rattle.masks.proofs.BitLaws.{bit-below}
 use Rattle.matching.proofs.MatchedLaws.{count-members}
 use Rattle.matching.proofs.Counting.{count, count-all, count-except, except, except-i, pigeon}
 
@@ -48,15 +46,6 @@ size-count n m fits h =
     let e = count-members m 64 in
     let less = pigeon (bit m) n (bit m) 64 (λ i. i) (λ i l t. (omega arith, t)) (λ i j _ _ _ _ e. e) in
     let more = pigeon (bit m) 64 (bit m) n (λ i. i) (λ i l t. (bit-below n i m h t, t)) (λ i j _ _ _ _ e. e) in
-    omega arith
-
--- all variables below n are n
-pub size-full : (n : ℕ) → n ≤ 64 → size (full n) ≡ n
-size-full n fits =
-    let e = size-count n (full n) fits (let z = pow-pos n in omega arith) in
-    let a = count-all n in
-    let c = count-le (bit (full n)) n in
-    let more = pigeon (λ _. true) n (bit (full n)) n (λ i. i) (λ i l t. (l, bit-full n i ∙ lt-ltb i n l)) (λ i j _ _ _ _ e. e) in
     omega arith
 
 -- nothing counts nothing

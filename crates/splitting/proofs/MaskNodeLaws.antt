@@ -148,7 +148,7 @@ module _ (a : Assignment) (v : ℕ) (b : Bool) (new : bit (assigned a) v ≡ fal
 -- ---- the assignment of a trail
 
 -- the variables of a trail are assigned
-pub assigned-all : (a : Assignment) (t : List Literal) (i : ℕ) → bit (assigned (assign-all a t)) i ≡ bit (assigned a) i || names t i
+assigned-all : (a : Assignment) (t : List Literal) (i : ℕ) → bit (assigned (assign-all a t)) i ≡ bit (assigned a) i || names t i
 unfolding assign-all names
 assigned-all a [] i = sym (or-false (bit (assigned a) i))
 assigned-all a (l ∷ t) i =

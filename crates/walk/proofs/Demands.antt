@@ -1,6 +1,6 @@
 -- S10, demand 3, as one record about any list of walk calls; then what demands 1 and 2 ask of the walk.
 use Prim.Native.Nat.{ℕ, _-_, _≤_, _<_}
-use mathlib.Core.Bool.{Bool, true}
+use mathlib.Core.Bool.{Bool, true, false}
 use mathlib.Core.List.{List, [], _∷_, _++_, map, List·Memᴰ}
 use mathlib.Core.Logic.{_⊎_, _↔_}
 use mathlib.Core.Path.{_≡_, sym, ap, _∙_}
@@ -12,19 +12,19 @@ use Rattle.lists.specs.Every.{Every}
 use Rattle.masks.specs.Mask.{bit}
 use Rattle.formula.specs.declared.Refusal.{Refusal}
 use Rattle.formula.specs.declared.Refusal.the-variants.{Unmatched, ForeignCheckpoint, BadAssumption}
-use Rattle.formula.specs.Format.{Literal, Encodes}
+use Rattle.formula.specs.Format.{Literal, names, Encodes}
 use Rattle.formula.specs.Table.{Refuses}
 use Rattle.formula.specs.Models.{Model}
 use Rattle.formula.proofs.Demands.{accepted-only, accepted-all, refused-all}
 use Rattle.assumptions.specs.declared.Assumption.{Assumption}
-use Rattle.assumptions.specs.Assumed.{literals, literal-of, assumed}
+use Rattle.assumptions.specs.Assumed.{literal-of}
 use Rattle.assumptions.specs.FirstBad.{NoneBad, FirstBad}
-use Rattle.assumptions.proofs.Demands.{bad-exactly, literals-exactly, literals-over}
+use Rattle.assumptions.proofs.Demands.{bad-exactly, none-bad-literals, literals-over}
 use Rattle.matched.specs.Acceptance.{accepted, acceptance}
 use Rattle.matched.specs.Judge.{refused-values, judge}
 use Rattle.matched.specs.Pairing.{Pairs, Pairable}
 use Rattle.matched.specs.WithoutAssumptions.{plain-acceptance}
-use Rattle.matched.proofs.AcceptanceLaws.{assumes-literals, pairs-accepted}
+use Rattle.matched.proofs.AcceptanceLaws.{pairs-accepted}
 use Rattle.splitting.specs.Nodes.{remaining}
 use Rattle.splitting.specs.Terms.{Agrees, opened}
 use Rattle.walk.specs.Task.{Task, whole, under, to-assign, choice-at, ModelFor, Posed}
@@ -34,17 +34,13 @@ use Rattle.walk.specs.PlainMachine.{found, spent, ended, plain-call, pla
 use Rattle.walk.specs.WalkCall.{walk-call, walk-calls, last-checkpoint}
 use Rattle.walk.specs.WithoutAssumptions.{plain-call-on}
 use Rattle.walk.specs.InnerLocate.{task-call}
-use Rattle.walk.specs.Results.{says-model, says-spent, says-ended, says-refused, answered, refusing, plain-result}
+use Rattle.walk.specs.Results.{says-model, says-spent, says-ended, says-refused, Result, answered, refusing, plain-result}
 use Rattle.walk.specs.Gaps.{brought, SaysEnded, gaps, Paced, step-bound, ample-budget}
 use Rattle.walk.specs.Proper.{Proper}
 use Rattle.walk.proofs.TaskLaws as laws
 use Rattle.walk.proofs.NothingLeftLaws as lefts
 use Rattle.walk.proofs.UnderLaws as unders
 use Rattle.walk.proofs.RefusalLaws as refusals
-
--- the literals of assumptions of which none is bad
-assumes : (n : ℕ) (us : List Assumption) → NoneBad n us → assumed n us ≡ literals (map literal-of us)
-assumes n us good = assumes-literals n us (literals-exactly n us .1 good)
 
 -- S10, demand 3: what holds of walk calls that begin at the start checkpoint and each go on from the checkpoint of the one before, all
 -- under the same assumptions: s is the input, us are the assumptions, T is what the walk is over, bs are the budgets; n is `to-assign T`,
@@ -75,7 +71,7 @@ pub record Dealt (s : List ℕ) (us : List Assumption) (T : Task) (bs : List ℕ
 -- The task of a formula under assumptions, of which none is bad: the variables to assign are those that are not assumed,
 pub under-size : (n : ℕ) (us : List Assumption) (cs : List (List Literal)) → n ≤ max-variables → NoneBad n us → to-assign (under n (map literal-of us) cs) ≡ n - length us
 under-size n us cs h good =
-    unders.under-size n (map literal-of us) cs (omega arith) (literals-over n us (map literal-of us) (assumes n us good))
+    unders.under-size n (map literal-of us) cs (omega arith) (literals-over n us (map literal-of us) (none-bad-literals n us good))
     ∙ ap (λ (k : ℕ). n - k) (length-map us literal-of)
 
 -- and what is listed are the formula's models that keep the assumptions.
@@ -109,10 +105,10 @@ module _ (s : List ℕ) (us : List Assumption) (n : ℕ) (cs : List (List Litera
   task = under n (map literal-of us) cs
 
   abbrev row : List ℕ
-  row = pairs-accepted s us n (map literal-of us) cs vs (accepted-all s n cs encodes) (assumes n us good) pairs .0
+  row = pairs-accepted s us n (map literal-of us) cs vs (accepted-all s n cs encodes) (none-bad-literals n us good) pairs .0
 
   accepts : acceptance s us ≡ accepted n (map literal-of us) cs row
-  accepts = pairs-accepted s us n (map literal-of us) cs vs (accepted-all s n cs encodes) (assumes n us good) pairs .1
+  accepts = pairs-accepted s us n (map literal-of us) cs vs (accepted-all s n cs encodes) (none-bad-literals n us good) pairs .1
 
   P : Posed task
   P = refusals.accepted-posed s us n (map literal-of us) cs row accepts
@@ -121,11 +117,12 @@ module _ (s : List ℕ) (us : List Assumption) (n : ℕ) (cs : List (List Litera
   walks = refusals.call-accepted s us n (map literal-of us) cs row accepts
 
   -- S10, demand 3
-  pub demand-3 : (bs : List ℕ) → Dealt s us (under n (map literal-of us) cs) bs
+  pub demand-3 : (bs : List ℕ) → Dealt s us task bs
   demand-3 = dealt s us task P walks
 
-  -- S10, demands 2 and 3: the listing has the models of the formula that keep the assumptions and no others: `exact`, over the formula itself
-  pub listing-exact : (a : ℕ) → List·Memᴰ a (listing (under n (map literal-of us) cs)) ↔ (Model n cs a × Agrees (bit a) (map literal-of us))
+  -- S10, demands 2 and 3: the listing has the models of the formula that keep the assumptions and no others: `exact`, over the formula
+  -- itself
+  pub listing-exact : (a : ℕ) → List·Memᴰ a (listing task) ↔ (Model n cs a × Agrees (bit a) (map literal-of us))
   listing-exact a =
       let e = laws.listing-models s us task P walks a in
       let w = under-models n us cs a in
@@ -162,6 +159,10 @@ module _ (s : List ℕ) (us : List Assumption) (n : ℕ) (cs : List (List Litera
   pub proper : (c : Checkpoint) → Has task c ↔ Proper task c
   proper c = laws.has-proper s us task P walks c
 
+  -- S17.3: an assumed variable is in no trail of the walk, and so in no checkpoint.
+  pub trail-apart : (k v : ℕ) → names (behind task k .trail) v ≡ true → names (map literal-of us) v ≡ false
+  trail-apart = laws.behind-apart s us task P walks
+
   -- S8.2: a call that says spent has made all the steps of its budget
   pub spent-exactly : (bs : List ℕ) (b : ℕ) → walk-call s us (last-checkpoint s us start bs) b .kind ≡ says-spent → walk-call s us (last-checkpoint s us start bs) b .steps ≡ b
   spent-exactly bs b = laws.calls-spent s us task P walks bs b
@@ -178,25 +179,29 @@ module _ (s : List ℕ) (us : List Assumption) (n : ℕ) (cs : List (List Litera
   pub start-zero : length us < n → walk-call s us start 0 ≡ answered spent 0 0 start
   start-zero h = laws.start-zero s us task P walks (let e = under-size n us cs (P .most) good in omega arith)
 
+  -- no call of budget 0 brings a model then
+  pub zero-model : length us < n → (c : Checkpoint) → walk-call s us c 0 .kind ≡ says-model → ⊥
+  zero-model h = laws.zero-brings-none s us task P walks (let e = under-size n us cs (P .most) good in omega arith)
+
   -- S17.5: where all variables are assumed, there is one model, that of the assumptions. On any budget a call from the start checkpoint
   -- hands it out, with no step made, and returns mode 1 and no trail;
   module _ (all : n ≤ length us) where
     none : to-assign task ≡ 0
     none = let e = under-size n us cs (P .most) good in omega arith
 
-    pub left-listing : listing (under n (map literal-of us) cs) ≡ assignment (map literal-of us) ∷ []
-    left-listing = lefts.one-model task none
+    pub none-left-listing : listing task ≡ assignment (map literal-of us) ∷ []
+    none-left-listing = lefts.one-model task none
 
-    pub left-first : (b : ℕ) → walk-call s us start b ≡ answered (found (assignment (map literal-of us))) 0 0 (checkpoint-of 1 [])
-    left-first b = lefts.call-first task none s us P walks b
+    pub none-left-first : (b : ℕ) → walk-call s us start b ≡ answered (found (assignment (map literal-of us))) 0 0 (checkpoint-of 1 [])
+    none-left-first b = lefts.call-first task none s us P walks b
 
     -- a call from there says ended, with no step made, and so does every later one (`from-end`);
-    pub left-second : (b : ℕ) → walk-call s us (checkpoint-of 1 []) b ≡ answered ended 0 0 (checkpoint-of 4 [])
-    left-second b = lefts.call-second task none s us P walks b
+    pub none-left-second : (b : ℕ) → walk-call s us (checkpoint-of 1 []) b ≡ answered ended 0 0 (checkpoint-of 4 [])
+    none-left-second b = lefts.call-second task none s us P walks b
 
     -- and the walk has no checkpoints but these three.
-    pub left-checkpoints : (c : Checkpoint) → Has (under n (map literal-of us) cs) c ↔ ((c ≡ start) ⊎ ((c ≡ checkpoint-of 1 []) ⊎ (c ≡ checkpoint-of 4 [])))
-    left-checkpoints = lefts.three-checkpoints task none
+    pub none-left-checkpoints : (c : Checkpoint) → Has task c ↔ ((c ≡ start) ⊎ ((c ≡ checkpoint-of 1 []) ⊎ (c ≡ checkpoint-of 4 [])))
+    none-left-checkpoints = lefts.three-checkpoints task none
 
 -- S10, demand 2: an input is walked exactly if it is readable, none of the assumptions is bad and what remains is matched: from the start,
 -- on any budget.
@@ -208,15 +213,20 @@ walked-exactly = refusals.walked-exactly
 pub unmatched : (s : List ℕ) (us : List Assumption) (buffer : List ℕ) (n : ℕ) (cs : List (List Literal)) (c : Checkpoint) (b : ℕ) → max-clauses ≤ length buffer
     → Encodes s n cs → NoneBad n us → ((vs : List ℕ) → Pairs (remaining (map literal-of us) cs) vs → ⊥)
     → (k : ℕ) × (judge s us buffer .answer ≡ refused-values (Unmatched k)) × (walk-call s us c b ≡ refusing (Unmatched k) c)
-unmatched s us buffer n cs c b l w good = refusals.call-unmatched s us buffer n (map literal-of us) cs c b l (accepted-all s n cs w) (assumes n us good)
+unmatched s us buffer n cs c b l w good = refusals.call-unmatched s us buffer n (map literal-of us) cs c b l (accepted-all s n cs w) (none-bad-literals n us good)
 
--- S17.1: 16 before 10 and 11: whatever the checkpoint, it is the refusal, at i, exactly if the input is readable and the assumption with the
--- index i is the first bad one; the checkpoint comes back, and all else is 0.
+-- S17.1: a readable input with a bad assumption is refused by 16, at the index of the first; the checkpoint comes back, and all else is 0.
+pub bad-assumption : (s : List ℕ) (us : List Assumption) (n : ℕ) (cs : List (List Literal)) (i : ℕ) (c : Checkpoint) (b : ℕ) → Encodes s n cs → FirstBad n us i
+    → walk-call s us c b ≡ refusing (BadAssumption i) c
+bad-assumption s us n cs i c b w f = refusals.call-bad s us n cs i c b (accepted-all s n cs w) (bad-exactly n us i .1 f)
+
+-- 16 before 10 and 11: whatever the checkpoint and the budget, the number is 16 and the place i exactly if the input is readable and the
+-- assumption with the index i is the first bad one.
 pub bad-assumption-exactly : (s : List ℕ) (us : List Assumption) (c : Checkpoint) (b i : ℕ)
-    → (walk-call s us c b ≡ refusing (BadAssumption i) c) ↔ ((n : ℕ) × (cs : List (List Literal)) × Encodes s n cs × FirstBad n us i)
+    → ((walk-call s us c b .number ≡ 16) × (walk-call s us c b .place ≡ i)) ↔ ((n : ℕ) × (cs : List (List Literal)) × Encodes s n cs × FirstBad n us i)
 bad-assumption-exactly s us c b i = (
-  λ e. let w = refusals.called-bad s us c b i e in (w .0, w .1, accepted-only s (w .0) (w .1) (w .2), bad-exactly (w .0) us i .0 (w .3)),
-  λ w. refusals.call-unassumed s us (w .0) (w .1) i c b (accepted-all s (w .0) (w .1) (w .2)) (bad-exactly (w .0) us i .1 (w .3)),
+  λ e. let w = refusals.called-bad s us c b i (e .0) (e .1) in (w .0, w .1, accepted-only s (w .0) (w .1) (w .2), bad-exactly (w .0) us i .0 (w .3)),
+  λ w. let e = bad-assumption s us (w .0) (w .1) i c b (w .2) (w .3) in (ap (λ (r : Result). r .number) e, ap (λ (r : Result). r .place) e),
 )
 
 -- S3.2: 2 to 9 before the others: an unreadable input gets the reader's refusal, whatever the assumptions.
@@ -224,9 +234,13 @@ pub unreadable : (s : List ℕ) (us : List Assumption) (r : Refusal) (c : Checkp
 unreadable s us r c b w = refusals.call-unreadable s us r c b (refused-all s r w)
 
 -- S17.6: an empty list of assumptions changes nothing: the task is the formula's own, all n variables to assign and none assigned before,
--- and so is its plain walk; and a call is what it is without any.
-pub plain-walk-unassumed : (n : ℕ) (cs : List (List Literal)) → plain-walk (under n [] cs) ≡ plain-walk (whole n cs)
-plain-walk-unassumed n cs = ap plain-walk (unders.under-none n cs)
+pub task-unassumed : (n : ℕ) (cs : List (List Literal)) → under n [] cs ≡ whole n cs
+task-unassumed = unders.under-none
 
+-- so its plain walk is that of the formula's own,
+pub plain-walk-unassumed : (n : ℕ) (cs : List (List Literal)) → plain-walk (under n [] cs) ≡ plain-walk (whole n cs)
+plain-walk-unassumed n cs = ap plain-walk (task-unassumed n cs)
+
+-- and a call is what it is without assumptions.
 pub call-unassumed : (s : List ℕ) (c : Checkpoint) (b : ℕ) → walk-call s [] c b ≡ plain-call-on (plain-acceptance s) c b
 call-unassumed = refusals.called-unassumed

@@ -19,7 +19,6 @@ pub mod ProperLaws
 pub mod TaskLaws
 pub mod NothingLeftLaws
 pub mod RefusalLaws
-pub mod ResumedLaws
 pub mod Demands
 pub mod StoreLaws
 pub mod ReplayLaws

@@ -1,18 +1,17 @@
--- Which inputs are walked at all, under which assumptions: the refusals 2 to 10 and 16.
+-- Which inputs are walked at all, under which assumptions: the refusals 2 to 10 and 16; and that a call returns a checkpoint of 48 bytes.
 use Prim.Native.Nat.{ℕ, _≤_}
 use mathlib.Core.List.{List, [], _∷_, map}
 use mathlib.Core.Logic.{_↔_}
 use mathlib.Core.Path.{_≡_, refl, ap, _∙_}
 use native.Mathlib.Omega.{arith}
 use lib.ListN.{length}
-use Rattle.limits.specs.Limits.{max-clauses}
+use Rattle.limits.specs.Limits.{max-variables, max-clauses}
 use Rattle.formula.specs.declared.Refusal.{Refusal}
 use Rattle.formula.specs.declared.Refusal.the-variants.{Unmatched, BadAssumption}
 use Rattle.formula.specs.InnerDecode.{decode}
 use Rattle.formula.specs.Decoding.{Decoding, readable, refused}
 use Rattle.formula.specs.Format.{Literal}
 use Rattle.formula.specs.Masked.{variables}
-use Rattle.formula.specs.Refusals.{table-row}
 use Rattle.formula.proofs.Demands.{numbers}
 use Rattle.assumptions.specs.declared.Assumption.{Assumption}
 use Rattle.assumptions.specs.Assumed.{literals, bad, literal-of, assumed}
@@ -24,14 +23,15 @@ use Rattle.matched.specs.Pairing.{Pairs, Pairable, marked}
 use Rattle.matched.specs.WithoutAssumptions.{plain-by-outcome, plain-by-decoding, plain-acceptance}
 use Rattle.matched.proofs.Demands.{acceptance-unassumed}
 use Rattle.matched.proofs.JudgeLaws.{judge-declined}
-use Rattle.matched.proofs.AcceptanceLaws.{Comes, paired, unpaired, unassumed, unreadable, comes, accepted-is, accepted-pairable, pairable-accepted, unpaired-declined, unassumed-declined, unreadable-declined}
+use Rattle.matched.proofs.AcceptanceLaws.{Comes, paired, unpaired, bad-assumed, unreadable, comes, accepted-is, accepted-pairable, pairable-accepted, unpaired-declined, bad-declined, unreadable-declined}
 use Rattle.walk.specs.Task.{Task, under, Posed}
 use Rattle.walk.specs.Checkpoints.{Checkpoint, start}
+use Rattle.walk.specs.PlainMachine.{plain-call}
 use Rattle.walk.specs.WalkCall.{call-on, walk-call, walk-calls}
 use Rattle.walk.specs.WithoutAssumptions.{plain-call-on}
 use Rattle.walk.specs.InnerLocate.{Located, at-state, nowhere, located, by-state, task-call}
 use Rattle.walk.specs.Results.{says-refused, Result, refusing}
-use Rattle.walk.proofs.TaskLaws.{calls-unrefused}
+use Rattle.walk.proofs.TaskLaws.{calls-unrefused, call-is, after-bytes}
 use Rattle.walk.proofs.UnderLaws.{under-posed, under-none}
 
 module _ (s : List ℕ) (us : List Assumption) where
@@ -55,9 +55,9 @@ module _ (s : List ℕ) (us : List Assumption) where
   call-unreadable r c b e = call-declined r [] c b (unreadable-declined s us r e)
 
   -- a readable one with a bad assumption gets 16
-  pub call-unassumed : (n : ℕ) (cs : List (List Literal)) (i : ℕ) (c : Checkpoint) (b : ℕ) → decode s ≡ readable n cs → assumed n us ≡ bad i
+  pub call-bad : (n : ℕ) (cs : List (List Literal)) (i : ℕ) (c : Checkpoint) (b : ℕ) → decode s ≡ readable n cs → assumed n us ≡ bad i
       → walk-call s us c b ≡ refusing (BadAssumption i) c
-  call-unassumed n cs i c b e f = call-declined (BadAssumption i) [] c b (unassumed-declined s us n cs i e f)
+  call-bad n cs i c b e f = call-declined (BadAssumption i) [] c b (bad-declined s us n cs i e f)
 
   -- a readable one of which what remains is not matched gets 10 with the number of marks that judge gives
   pub call-unmatched : (buffer : List ℕ) (n : ℕ) (t : List Literal) (cs : List (List Literal)) (c : Checkpoint) (b : ℕ) → max-clauses ≤ length buffer
@@ -90,26 +90,21 @@ module _ (s : List ℕ) (us : List Assumption) where
   walked-exactly b = (unrefused-pairable start b, pairable-unrefused b)
 
   -- a call is refused by 16 only where the input is readable and an assumption is bad, the first at the place
-  pub called-bad : (c : Checkpoint) (b i : ℕ) → walk-call s us c b ≡ refusing (BadAssumption i) c
+  pub called-bad : (c : Checkpoint) (b i : ℕ) → walk-call s us c b .number ≡ 16 → walk-call s us c b .place ≡ i
       → (n : ℕ) × (cs : List (List Literal)) × (decode s ≡ readable n cs) × (assumed n us ≡ bad i)
   unfolding walk-call task-call
-  called-bad c b i q = by (comes s us) q
+  called-bad c b i = by (comes s us)
     where
-      walked : (T : Task) → by-state T c (located T c) b ≡ refusing (BadAssumption i) c → ⊥
-      walked T e = at (located T c) e
-        where
-          at : (x : Located) → by-state T c x b ≡ refusing (BadAssumption i) c → ⊥
-          at (at-state k) e = let z : _≡_ {A = ℕ} 0 16 = ap (λ (r : Result). r .number) e in omega arith
-          at nowhere e = let z : _≡_ {A = ℕ} 11 16 = ap (λ (r : Result). r .number) e in omega arith
+      walked : (T : Task) (x : Located) → by-state T c x b .number ≡ 16 → ⊥
+      walked T (at-state k) e = omega arith
+      walked T nowhere e = omega arith
 
-      by : {a : Acceptance} → Comes s us a → call-on a c b ≡ refusing (BadAssumption i) c
+      by : {a : Acceptance} → Comes s us a → call-on a c b .number ≡ 16 → call-on a c b .place ≡ i
           → (n : ℕ) × (cs : List (List Literal)) × (decode s ≡ readable n cs) × (assumed n us ≡ bad i)
-      by (paired n t cs vs reads assumes w) e = absurd (walked (under n t cs) e)
-      by (unpaired n t cs ms reads assumes v none) e = let z : _≡_ {A = ℕ} 10 16 = ap (λ (r : Result). r .number) e in absurd (omega arith)
-      by (unassumed n cs j reads assumes) e = (n, cs, reads, assumes ∙ ap bad (ap (λ (r : Result). r .place) e))
-      by (unreadable r reads) e =
-          let z : table-row r .number ≡ 16 = ap (λ (x : Result). x .number) e in
-          absurd (omega (arith, numbers s r reads .1))
+      by (paired n t cs vs reads assumes w) e p = absurd (walked (under n t cs) (located (under n t cs) c) e)
+      by (unpaired n t cs ms reads assumes v none) e p = absurd (omega arith)
+      by (bad-assumed n cs j reads assumes) e p = (n, cs, reads, assumes ∙ ap bad p)
+      by (unreadable r reads) e p = absurd (omega (arith, numbers s r reads .1))
 
 -- on an empty list a call is what it is without assumptions
 pub called-unassumed : (s : List ℕ) (c : Checkpoint) (b : ℕ) → walk-call s [] c b ≡ plain-call-on (plain-acceptance s) c b
@@ -123,3 +118,24 @@ called-unassumed s c b = ap (λ (a : Acceptance). call-on a c b) (acceptance-una
     by : (d : Decoding) → call-on (plain-by-decoding d) c b ≡ plain-call-on (plain-by-decoding d) c b
     by (readable n cs) = at n cs (outcome (map variables cs))
     by (refused r) = refl
+
+-- ---- the bytes of a checkpoint
+
+module _ (s : List ℕ) (us : List Assumption) (c : Checkpoint) (b : ℕ) (whole-bytes : length (c .bytes) ≡ max-variables) where
+  -- a call from a checkpoint of 48 bytes returns one of 48 bytes
+  pub call-bytes : length (walk-call s us c b .checkpoint .bytes) ≡ max-variables
+  call-bytes = by (acceptance s us) refl
+    where
+      kept : (r : Result) → walk-call s us c b ≡ r → length (r .checkpoint .bytes) ≡ max-variables → length (walk-call s us c b .checkpoint .bytes) ≡ max-variables
+      kept r e h = ap (λ (x : Result). length (x .checkpoint .bytes)) e ∙ h
+
+      at : (n : ℕ) (t : List Literal) (cs : List (List Literal)) (row : List ℕ) → acceptance s us ≡ accepted n t cs row → (x : Located) → located (under n t cs) c ≡ x
+          → length (walk-call s us c b .checkpoint .bytes) ≡ max-variables
+      at n t cs row a (at-state k) e =
+          kept _ (call-is s us (under n t cs) (accepted-posed s us n t cs row a) (call-accepted s us n t cs row a) c b (at-state k) e)
+          (after-bytes s us (under n t cs) (accepted-posed s us n t cs row a) (call-accepted s us n t cs row a) (plain-call (under n t cs) b k .behind))
+      at n t cs row a nowhere e = kept _ (call-is s us (under n t cs) (accepted-posed s us n t cs row a) (call-accepted s us n t cs row a) c b nowhere e) whole-bytes
+
+      by : (x : Acceptance) → acceptance s us ≡ x → length (walk-call s us c b .checkpoint .bytes) ≡ max-variables
+      by (accepted n t cs row) e = at n t cs row e (located (under n t cs) c) refl
+      by (declined r row) e = kept _ (call-declined s us r row c b e) whole-bytes

@@ -15,7 +15,8 @@ use Rattle.lists.proofs.TestLaws.{bool-clash}
 use Rattle.masks.specs.Mask.{bit}
 use Rattle.masks.proofs.SizeLaws.{size-le}
 use Rattle.formula.specs.declared.Refusal.the-variants.{ForeignCheckpoint}
-use Rattle.formula.specs.Format.{Literal}
+use Rattle.formula.specs.Format.{Literal, names}
+use Rattle.formula.proofs.FormatLaws.{once-apart}
 use Rattle.assumptions.specs.declared.Assumption.{Assumption}
 use Rattle.splitting.specs.Terms as terms
 use Rattle.splitting.specs.Terms.{opened}
@@ -29,11 +30,11 @@ use Rattle.walk.specs.Results.{says-model, says-spent, says-ended, says-
 use Rattle.walk.specs.Gaps.{brought, SaysEnded, gaps, Paced, step-bound, ample-budget}
 use Rattle.walk.specs.Proper.{Proper}
 use Rattle.walk.specs.InnerStack.{Stack, empty, depth, trail-of, tree}
-use Rattle.walk.specs.InnerMachine.{Position, down, over, next, resume}
+use Rattle.walk.specs.InnerMachine.{Position, down, over, Next, nothing, hands, ends, steps, next, halted, onward, resume}
 use Rattle.walk.specs.InnerTest.{stack-of, shown, read, position-of, accepts}
 use Rattle.walk.specs.InnerCall.{resumed-result, call-from}
 use Rattle.walk.proofs.LocateLaws.{located-stands, has-located}
-use Rattle.walk.proofs.RestLaws.{Stops, walk, node, after-node, rest, Replayed, replayed-depth, Reachable, Live}
+use Rattle.walk.proofs.RestLaws.{Pauses, Stops, walk, node, after-node, rest, Replayed, replayed-depth, Reachable, Live}
 use Rattle.walk.proofs.PositionLaws.{behind-of, length-trail}
 use Rattle.walk.proofs.AgreeLaws.{behind-after, At, at-start, at-every, Same, call-same}
 use Rattle.walk.proofs.ListingLaws.{walk-lists, walk-distinct, node-model}
@@ -45,7 +46,7 @@ use Rattle.walk.proofs.MetLaws.{start-stops, down-spent, all-got}
 use Rattle.walk.proofs.AcceptLaws.{stack-replayed, shown-position, call-shown, accepted-stopped, stopped-accepted}
 use Rattle.walk.proofs.ProperLaws.{stop-proper, proper-stop}
 use Rattle.walk.proofs.ByteLaws.{Below}
-use Rattle.walk.proofs.TreeLaws.{walk-same, trail-agrees, agrees-trail, trail-below, live, open-model, model-open, splits, cheap}
+use Rattle.walk.proofs.TreeLaws.{walk-same, trail-over, trail-agrees, agrees-trail, trail-below, live, open-model, model-open, splits, cheap}
 
 module _ (T : Task) where
   -- the mode and the trail behind k entries, and their checkpoint, are those of the position
@@ -346,3 +347,37 @@ module _ (s : List ℕ) (us : List Assumption) (T : Task) (P : Posed T) (walks :
   -- the expansions of one assignment
   pub assignment-cheap : (l : Literal) (e : ℕ) → List·Memᴰ (assigns l e) (plain-walk T) → e ≤ step-bound T
   assignment-cheap l e m = walk-cheap (tree T) (step-bound T) (cheap T P) l e (rw (walk-same T) at m)
+
+  -- a variable of the trail is none of those assigned before
+  pub behind-apart : (k v : ℕ) → names (behind T k .trail) v ≡ true → names (T .before) v ≡ false
+  behind-apart k v h =
+      let x = at-every (tree T) alive k in
+      let t = stack-of (x .0) in
+      let e : behind T k .trail ≡ trail-of t = ap (λ (b : Behind). b .trail) (at-behind T (x .1)) in
+      once-apart (T .before) (trail-of t) v (trail-over T P t (stack-replayed (tree T) (x .0) (x .1 .fine)) .once) (rw e at h)
+
+  -- where something is to be assigned, a call of budget 0 brings no model
+  pub zero-brings-none : 0 < to-assign T → (c : Checkpoint) → walk-call s us c 0 .kind ≡ says-model → ⊥
+  unfolding resume
+  zero-brings-none some c = at (located T c) refl
+    where
+      kinds : (p : Position) (x : Next) → Pauses x → answer-kind (onward p x (λ e q. halted spent p) .answer) ≡ says-model → ⊥
+      kinds p nothing h e = let z : _≡_ {A = ℕ} 0 1 = cc in omega arith
+      kinds p (hands a q) h e = h
+      kinds p (ends q) h e = h
+      kinds p (steps n q) h e = let z : _≡_ {A = ℕ} 0 1 = cc in omega arith
+
+      paused : (p : Position) → Stops (tree T) p → answer-kind (resume (tree T) 0 p .answer) ≡ says-model → ⊥
+      paused p (inl e) h = omega arith
+      paused p (inr q) h = kinds p (next (tree T) p) q h
+
+      at : (x : Located) → located T c ≡ x → walk-call s us c 0 .kind ≡ says-model → ⊥
+      at (at-state k) q e =
+          let w = located-stands T c k q in
+          let a = standing-at (w .0) in
+          let same : checkpoint-after T (state-after T 0 (w .0)) ≡ c = ap (checkpoint-after T) (w .1) ∙ w .2 in
+          paused (standing (w .0)) (standing-stops (w .0))
+          (sym (ap (λ (r : Result). r .kind) (call-goes 0 (standing (w .0)) (a .fine) (standing-stops (w .0))))
+          ∙ ap (λ (d : Checkpoint). walk-call s us d 0 .kind) (sym (at-checkpoint T a) ∙ same)
+          ∙ e)
+      at nowhere q e = let z : _≡_ {A = ℕ} 0 1 = cc (ap (λ (r : Result). r .kind) (call-is c 0 nowhere q)) in omega arith

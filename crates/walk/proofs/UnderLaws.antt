@@ -28,7 +28,7 @@ use Rattle.walk.specs.Task.{whole, under, to-assign, ModelFor, Posed}
 
 module _ (n : ℕ) (t : List Literal) where
   -- the variables below n that t does not name
-  pub scope-bit : (v : ℕ) → bit (minus (full n) (variables t)) v ≡ ltb v n && not (names t v)
+  scope-bit : (v : ℕ) → bit (minus (full n) (variables t)) v ≡ ltb v n && not (names t v)
   scope-bit v = bit-minus (full n) (variables t) v ∙ rw (bit-full n v, variables-bit t v)
 
 -- the first k variables are those to assign and those that t names

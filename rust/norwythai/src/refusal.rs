@@ -6,7 +6,8 @@ use std::fmt;
 /// Why an act is refused. Each case has a number, 1 to 16, and a place.
 ///
 /// A place is an offset, counted from 0, in the encoded formula or in the DIMACS text that the act was given, where the case says
-/// nothing else. The sentences that a refusal displays speak of sheets, rules, switches, set-ups and markers, as clubs do.
+/// nothing else. The sentences that a refusal displays speak of sheets, rules, switches, set-ups, markers and fixed
+/// settings, as clubs do.
 ///
 /// ```
 /// use norwythai::{check, Assignment, Refusal};

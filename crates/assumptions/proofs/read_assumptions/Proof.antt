@@ -217,7 +217,7 @@ module _ {M : Type 1} (𝓤 : URA M) (H : Heap 𝓤) (A : Atoms 𝓤) (W : Given
         rewrite ! 2 (λ (p : ℕ). ‵ (fat fullShare tyPtr l₇ 0 (vptr b p))) (sym (place-is 2 o (i .0))) refl $
         move ! (18 ∷ 19 ∷ []) $ looks-slice ! tt R (Is R) (shows 𝓤 H A R) (LL.vals E.the-type E′.the-laws) (LL.tells E.the-type E′.the-laws) (LL.copy E.the-type E′.the-copy 𝓤 H A W) ys b o (λ q′.
         elem-out ! R (Is R) (shows 𝓤 H A R) (LL.vals E.the-type E′.the-laws) (LL.tells E.the-type E′.the-laws) q′ ys (i .0) no-assumption b o (within i less) (λ g.
-        -- [list[i]; what it owns; the others; what shuts; the fractured borrow; _8; …; _7; …; _6; …; _5; …; _4; …; _3; …; _2; …; _1; …; room for _0; …; res; list's facts; n's]
+        -- [list[i]; what it owns; the others; what shuts; the fractured borrow; _8; …; down to _1; …; room for _0; …; res; list's facts; n's]
         assigns ! (of-opd ! (load ! (from ! (hop ! (look ! 7 refl) (stop !))) (look-raw ! 0 refl))) (from ! (stop !)) (init ! 5 refl (LL.lawful E.the-type E′.the-laws 𝓤 H A W .typed (elem (i .0)) _ g .0)) $
         elem-back ! R q′ ys (i .0) no-assumption (E′.lowered (elem (i .0)) ∷ []) b o (within i less) $ shuts-slice ! tt R q′ ys b o $
         -- [the token; the fractured borrow; _8; …; room for _0; …; res; list's facts; n's]

@@ -14,12 +14,12 @@ returns c = let a = c .before .args in sym (taken-behind (a .n) (a .i) (a .u) (a
 wide-requires : tie.Need-wide-requires
 wide-requires c κs = search needs
 
-is-bad-requires : tie.Need-is-bad-requires
-is-bad-requires c κs = search needs
+bad-in-requires : tie.Need-bad-in-requires
+bad-in-requires c κs = search needs
 
--- what `is_bad` says, of the variable
-tested : (c : tie.After-is-bad) → bad-in (c .before .before .before .args .n) (c .before .before .before .args .r) (c .before .before .before .args .u .variable) ≡ c .is-bad .result
-tested c = rw (← c .before .wide .ensures) (sym (c .is-bad .ensures))
+-- what `bad_in` says, of the variable
+tested : (c : tie.After-bad-in) → bad-in (c .before .before .before .args .n) (c .before .before .before .args .r) (c .before .before .before .args .u .variable) ≡ c .bad-in .result
+tested c = rw (← c .before .wide .ensures) (sym (c .bad-in .ensures))
 
 returns-2 : tie.Need-returns-2
 returns-2 c =
@@ -28,7 +28,7 @@ returns-2 c =
 
 -- the variable is 1 to n
 good : (c : tie.Else2) → (1 ≤ c .before .before .wide .result) × (c .before .before .wide .result ≤ c .before .before .before .before .args .n)
-good c = good-range _ (c .before .before .before .before .args .r) _ (sym (c .before .is-bad .ensures) ∙ c .if2 .left)
+good c = good-range _ (c .before .before .before .before .args .r) _ (sym (c .before .bad-in .ensures) ∙ c .if2 .left)
 
 sub-assume : tie.Need-sub-assume
 sub-assume c = good c .0
@@ -45,4 +45,4 @@ returns-3 c =
 pub take-spec : {M : Type 1} → statement M
 take-spec =
     tie.close
-    (tie.spec returns wide-requires is-bad-requires returns-2 sub-assume assume-requires returns-3)
+    (tie.spec returns wide-requires bad-in-requires returns-2 sub-assume assume-requires returns-3)

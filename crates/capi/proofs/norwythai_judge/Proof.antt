@@ -1,7 +1,7 @@
 -- `norwythai_judge`: nothing is written, or the results of the answer beside the buffer.
 use mathlib.Core.Path.{_∙_}
 use borrow.Author.Needs.{needs}
-use Rattle.assumptions.specs.Pairs.{pairs-of}
+use Rattle.assumptions.specs.Bytes.{of-bytes}
 use Rattle.capi.proofs.CallLaws.{judge-unwritten, judge-unwritten-2, judge-written}
 use Rattle.capi.proofs.norwythai_judge.Statement.{statement}
 use Rattle.capi.proofs.norwythai_judge.Tie as tie
@@ -21,7 +21,7 @@ assumptions-in-requires c κs = search needs
 
 find-matching-under-requires : tie.Need-find-matching-under-requires
 find-matching-under-requires c κs =
-    (pairs-of (c .before .before .before .before .before .before .before .before .args .assumptions .now), c .before .assumptions-in .ensures)
+    (of-bytes (c .before .before .before .before .before .before .before .before .args .assumptions .now), c .before .assumptions-in .ensures)
 
 judge-results-requires : tie.Need-judge-results-requires
 judge-results-requires c κs = search needs
@@ -41,7 +41,7 @@ returns-3 c =
     let u = m .before .before in
     let e = u .before in
     let a = e .before .before .before .before .before .before .args in
-    let f = m .find-matching-under .ensures (pairs-of (a .assumptions .now)) (u .assumptions-in .ensures) in
+    let f = m .find-matching-under .ensures (of-bytes (a .assumptions .now)) (u .assumptions-in .ensures) in
     judge-written (a .input .now) (a .assumptions .now) (a .buffer .now) (a .results .now) _ _ _
     (e .before .if1 .left)
     (e .if2 .left)

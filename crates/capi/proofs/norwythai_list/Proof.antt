@@ -1,7 +1,7 @@
 -- `norwythai_list`: nothing is written, or the models, the results of the last call and its checkpoint.
 use mathlib.Core.Path.{_∙_}
 use borrow.Author.Needs.{needs}
-use Rattle.assumptions.specs.Pairs.{pairs-of}
+use Rattle.assumptions.specs.Bytes.{of-bytes}
 use Rattle.capi.proofs.CallLaws.{list-unwritten, list-unwritten-2, list-unwritten-3, list-written}
 use Rattle.capi.proofs.norwythai_list.Statement.{statement}
 use Rattle.capi.proofs.norwythai_list.Tie as tie
@@ -33,7 +33,7 @@ checkpoint-in-requires c κs = search needs
 list-under-requires : tie.Need-list-under-requires
 list-under-requires c κs =
     let u = c .before .before .before in
-    (pairs-of (u .before .before .before .before .before .before .before .before .before .args .assumptions .now), u .assumptions-in .ensures)
+    (of-bytes (u .before .before .before .before .before .before .before .before .before .args .assumptions .now), u .assumptions-in .ensures)
 
 put-checkpoint-requires : tie.Need-put-checkpoint-requires
 put-checkpoint-requires c κs = search needs
@@ -65,7 +65,7 @@ returns-4 c =
     (e .before .if2 .left)
     (e .if3 .left)
     (w .before .before .checkpoint-in .ensures)
-    (w .list-under .ensures (pairs-of (a .assumptions .now)) (u .assumptions-in .ensures))
+    (w .list-under .ensures (of-bytes (a .assumptions .now)) (u .assumptions-in .ensures))
     (p .put-checkpoint .ensures)
     (c .before .before .put-results .ensures ∙ c .before .before .before .before .list-results .ensures)
 

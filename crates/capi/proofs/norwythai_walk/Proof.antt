@@ -1,7 +1,7 @@
 -- `norwythai_walk`: nothing is written, or the results of the call and its checkpoint.
 use mathlib.Core.Path.{_∙_}
 use borrow.Author.Needs.{needs}
-use Rattle.assumptions.specs.Pairs.{pairs-of}
+use Rattle.assumptions.specs.Bytes.{of-bytes}
 use Rattle.capi.proofs.CallLaws.{walk-unwritten, walk-unwritten-2, walk-unwritten-3, walk-written}
 use Rattle.capi.proofs.norwythai_walk.Statement.{statement}
 use Rattle.capi.proofs.norwythai_walk.Tie as tie
@@ -33,7 +33,7 @@ checkpoint-in-requires c κs = search needs
 walk-under-requires : tie.Need-walk-under-requires
 walk-under-requires c κs =
     let u = c .before .before in
-    (pairs-of (u .before .before .before .before .before .before .before .before .args .assumptions .now), u .assumptions-in .ensures)
+    (of-bytes (u .before .before .before .before .before .before .before .before .args .assumptions .now), u .assumptions-in .ensures)
 
 put-checkpoint-requires : tie.Need-put-checkpoint-requires
 put-checkpoint-requires c κs = search needs
@@ -62,7 +62,7 @@ returns-4 c =
     (e .before .if2 .left)
     (e .if3 .left)
     (w .before .checkpoint-in .ensures)
-    (w .walk-under .ensures (pairs-of (a .assumptions .now)) (u .assumptions-in .ensures))
+    (w .walk-under .ensures (of-bytes (a .assumptions .now)) (u .assumptions-in .ensures))
     (p .put-checkpoint .ensures)
     (c .before .before .put-results .ensures ∙ c .before .before .before .before .walk-results .ensures)
 

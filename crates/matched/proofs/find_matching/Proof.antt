@@ -1,5 +1,5 @@
 -- `find_matching`, by hand: a walk of its MIR, which the borrow checker does not cover for a slice of structs. It calls `stated` on the
--- input, `read_assumptions` on the list and `find_matching_under` on the input, the masks and the buffer; of each only its contract is used.
+-- input, `read_assumptions` on the list and `find_matching_under` on the input, the masks and the buffer; only their contracts are used.
 -- What the shared slices own is copied, for each callee and for the exit. What the buffer owns goes to `find_matching_under` for good.
 use mathlib.Core.Path.{_≡_, refl}
 use Prim.Native.Nat.{ℕ}
@@ -41,7 +41,7 @@ use denote.Exit.{yes}
 use Rattle.assumptions.specs.declared.Assumption.{Assumption}
 use Rattle.assumptions.specs.declared.Assumptions.{Assumptions}
 use Rattle.assumptions.specs.Assumed.{assumed}
-use Rattle.assumptions.specs.InnerAssumed.{masks-of, stated-in, Given as MasksOf}
+use Rattle.assumptions.specs.InnerAssumed.{masks-of, stated-in, MasksOf}
 use Rattle.assumptions.proofs.CallLaws.{slice-val, Stated, to-stated, goes-stated, stated-back, stated-gives, Read, to-read, goes-read, read-back, read-gives}
 use Rattle.assumptions.proofs.Assumption as E
 use Rattle.assumptions.proofs.Assumptions as S

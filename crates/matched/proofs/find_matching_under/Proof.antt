@@ -4,7 +4,7 @@ use native.Mathlib.Omega.{arith}
 use mathlib.Core.List.{List}
 use mathlib.Core.Path.{refl}
 use Rattle.assumptions.specs.declared.Assumption.{Assumption}
-use Rattle.assumptions.specs.InnerAssumed.{Given}
+use Rattle.assumptions.specs.InnerAssumed.{MasksOf}
 use Rattle.matched.specs.Acceptance.{acceptance}
 use Rattle.matched.specs.InnerAccept.{Represents}
 use Rattle.matched.proofs.AcceptanceLaws.{row-few}
@@ -16,7 +16,7 @@ abbrev entry : tie.After-accept → tie.Start
 entry a = a .before .before .before .before .before .before
 
 -- what comes of the input
-abbrev represented : (a : tie.After-accept) (us : List Assumption) → Given (entry a .args .input .now) us (entry a .args .u)
+abbrev represented : (a : tie.After-accept) (us : List Assumption) → MasksOf (entry a .args .input .now) us (entry a .args .u)
     → Represents (acceptance (entry a .args .input .now) us) (a .before .before .decode .result .formula) (a .accept .result)
 represented a us g = a .accept .ensures _ us (a .before .before .decode .ensures) g
 

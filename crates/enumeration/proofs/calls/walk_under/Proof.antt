@@ -4,7 +4,7 @@ use mathlib.Core.Path.{sym, ap, _∙_}
 use native.Mathlib.Omega.{arith}
 use borrow.Author.Needs.{needs}
 use Rattle.assumptions.specs.declared.Assumption.{Assumption}
-use Rattle.assumptions.specs.InnerAssumed.{Given}
+use Rattle.assumptions.specs.InnerAssumed.{MasksOf}
 use Rattle.matched.proofs.AcceptLaws.{decides}
 use Rattle.enumeration.specs.InnerScope.{scope-under}
 use Rattle.enumeration.specs.Values.{checkpoint-values}
@@ -22,10 +22,10 @@ abbrev entry : tie.After-enter → tie.Start
 entry e = read (e .before) .before .before
 
 abbrev under : tie.After-enter → List Assumption → Type 0
-under e us = Given (entry e .args .input .now) us (entry e .args .u)
+under e us = MasksOf (entry e .args .input .now) us (entry e .args .u)
 
 -- what comes of the input
-abbrev walkable : (c : tie.After-scope-of) (us : List Assumption) → Given (read c .before .before .args .input .now) us (read c .before .before .args .u)
+abbrev walkable : (c : tie.After-scope-of) (us : List Assumption) → MasksOf (read c .before .before .args .input .now) us (read c .before .before .args .u)
     → Walkable (read c .before .before .args .input .now) us (c .before .before .accept .result .outcome) (read c .decode .result .formula) (c .scope-of .result)
 walkable c us g =
     let n = read c .decode .result .formula .variables in

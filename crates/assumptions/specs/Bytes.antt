@@ -11,7 +11,7 @@ abbrev pub pair-of : ℕ → ℕ → Assumption
 pair-of x y = record { variable = x; value = not (eqb y 0) }
 
 -- all of them, in order
-unfoldable pub pairs-of : List ℕ → List Assumption
-pairs-of [] = []
-pairs-of (x ∷ []) = []
-pairs-of (x ∷ y ∷ s) = pair-of x y ∷ pairs-of s
+unfoldable pub of-bytes : List ℕ → List Assumption
+of-bytes [] = []
+of-bytes (x ∷ []) = []
+of-bytes (x ∷ y ∷ s) = pair-of x y ∷ of-bytes s

@@ -1,9 +1,9 @@
--- `is_bad`: each return by the tests that led to it.
+-- `bad_in`: each return by the tests that led to it.
 use borrow.Author.Tests.{eq-eqb, ne-eqb, lt-ltb, le-ltb}
 use borrow.Author.Needs.{needs}
 use Rattle.assumptions.specs.InnerAssumed.{bad-in}
-use Rattle.assumptions.proofs.is_bad.Statement.{statement}
-use Rattle.assumptions.proofs.is_bad.Tie as tie
+use Rattle.assumptions.proofs.bad_in.Statement.{statement}
+use Rattle.assumptions.proofs.bad_in.Tie as tie
 
 returns : tie.Need-returns
 unfolding bad-in
@@ -23,5 +23,5 @@ returns-3 : tie.Need-returns-3
 unfolding bad-in
 returns-3 c = rw (ne-eqb _ 0 (c .before .before .before .if1 .left), le-ltb _ _ (c .before .before .if2 .left), c .member .ensures)
 
-pub is-bad-spec : {M : Type 1} → statement M
-is-bad-spec = tie.close (tie.spec returns returns-2 sub-member member-requires returns-3)
+pub bad-in-spec : {M : Type 1} → statement M
+bad-in-spec = tie.close (tie.spec returns returns-2 sub-member member-requires returns-3)
