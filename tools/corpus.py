@@ -6,12 +6,16 @@ left out. So is one that does not fit the format, and that is said. If all of th
 readable input among them is also written as a text, and that text read again.
 
 Format. A file holds vectors of one act, one after the other, and nothing else; it has at most 65,536 bytes, so an act has
-files NAMEa, NAMEb, .., at most 26; start has one, start, and the edge cases of an act have one, NAME_edges. Numbers are
-little-endian. A vector is
+files NAMEa, NAMEb, .., at most 26; start has one, start, and the edge cases of an act have one, NAME_edges, and for judge and walk
+under assumptions a second one, NAME_assumed. Numbers are little-endian. A vector is
 
     2 bytes   its number: the line of VECTORS, from 1, or from 60,000 for a vector of this script
     2 bytes   the length of its input
+    2 bytes   the length of its assumptions, which judge, walk, chain, listing, list and formulas may have
+    2 bytes   the length of the bytes that it expects, which read_text, write_text, list and printed have
     ..        its input
+    ..        its assumptions, two bytes each: the variable, then 1 for true or 0 for false
+    ..        the bytes that it expects
     6 bytes   the expected answer; start and printed have none
     ..        its own fields, by act
 
@@ -32,22 +36,18 @@ Own fields of judge, 98 bytes. The lent buffer is the first bytes of an array of
     1 byte    the fill: what every byte of the array is before the call
     96 bytes  the first 96 bytes of the array after the call; each later byte must be the fill
 
-Own fields of read_text and write_text, 5 bytes. Their input holds what is converted, and behind it the bytes that are to be written:
+Own fields of read_text and write_text, 3 bytes. They expect the bytes that are to be written:
 
-    2 bytes   the length of what is converted
     2 bytes   the length of the lent buffer
     1 byte    the fill: what every byte of the buffer is before the call; each byte behind those written must be the fill after it
 
 A checkpoint, 50 bytes: its mode, its length and 48 bytes of its trail.
 
-Formulas have no own fields: each input of VECTORS once, with the number of the first vector that has it. The answer says 7, not
-compared, if the input is refused (also as unmatched) or has more than 12 variables, else 8, with the number of models as place.
+Formulas have no own fields: each input of VECTORS under each list of assumptions once, with the number of the first vector that has
+both. The answer says 7, not compared, if the input is refused under the list (also as unmatched) or has more than 12 variables, else 8,
+with the number of models that agree with the list as place.
 
-Printed has no own fields. Its input holds
-
-    2 bytes   the length of what is printed from
-    ..        what is printed from: at most 16,384 bytes, since the program list_models reads no more
-    ..        the expected text
+Printed has no own fields. It expects the text. Its input is at most 16,384 bytes, since the program list_models reads no more.
 
 Own field of start, 50 bytes: the expected checkpoint. Its input is empty.
 
@@ -62,12 +62,29 @@ Own fields of walk, 121 bytes:
     50 bytes  the checkpoint that the call gets if that byte is 0, else zeros
     4 bytes   the budget
 
-A chain of VECTORS is a list of calls on one input, which may be empty: here a vector of walk for each call, with the number of
-the chain; the first gets the start checkpoint and each other what the call before it returned. Where a chain goes on in a further
-file, the first call there gets the checkpoint that the call before it must return.
+A chain of VECTORS is a list of calls on one input under one list of assumptions, which may be empty: here a vector of walk for each
+call, with the number of the chain; the first gets the start checkpoint and each other what the call before it returned. Where a chain
+goes on in a further file, the first call there gets the checkpoint that the call before it must return.
+
+A listing of VECTORS is a whole walk. Here it is a vector of listing for each of its calls, on an ample budget, and one of list.
+
+Own fields of listing, 17 bytes:
+
+    8 bytes   the expected model, else 0
+    4 bytes   the expected number of steps
+    4 bytes   the expected number of expansions
+    1 byte    which checkpoint the call gets: 1 the start checkpoint, 2 the one that the call of the vector before it returned
+
+Own fields of list, 119 bytes. It expects the models, 8 bytes each. The answer is the last call's. The lent slice is the first places of
+an array of 256:
+
+    117 bytes as of walk, without the budget; the steps and the expansions are 0
+    1 byte    the room of the slice
+    1 byte    the fill: what every place of the array is before the call; each place behind the models must be the fill after it
 
 A further act is a coder in ACTS, and in the program a case of `Act`, its file names and a reader of its own fields.
 """
+import itertools
 import json
 import pathlib
 import string
@@ -96,8 +113,11 @@ def little(x, size):
     return x.to_bytes(size, 'little')
 
 
-def coded(number, given, answer, fields):
-    vector = little(number, 2) + little(len(given), 2) + given + answer + fields
+def coded(number, given, answer, fields, expected=b''):
+    """A vector; what is given is the input, or a pair of it and the bytes of the assumptions."""
+    given, assumed = given if isinstance(given, tuple) else (given, b'')
+    parts = given, assumed, expected
+    vector = little(number, 2) + b''.join(little(len(part), 2) for part in parts) + b''.join(parts) + answer + fields
     if LIMIT < len(vector):
         raise DoesNotFit(f'it has {len(vector):,} bytes, more than a file')
     return vector
@@ -120,6 +140,16 @@ def walk_fields(model, steps, expansions, returned, origin, budget):
     return little(model, 8) + little(steps, 4) + little(expansions, 4) + returned + little(flag, 1) + given + little(budget, 4)
 
 
+def list_fields(model, returned, origin, room, fill):
+    """The fields of list."""
+    return walk_fields(model, 0, 0, returned, origin, 0)[:-4] + little(room, 1) + little(fill, 1)
+
+
+def assumed_input(v):
+    """The input, with the bytes of its assumptions; the older vectors have none."""
+    return bytes.fromhex(v['sheet']), bytes(b for pair in v.get('fixings', []) for b in pair)
+
+
 # The coder of an act gives groups of vectors, each of which stands in one file.
 def check_vector(number, v):
     answer = answer_of(SAYS[v['answer']], *(v['refusal'] or ()))
@@ -131,13 +161,13 @@ def judge_vector(number, v):
     assert len(after) == length and all(b == fill for b in after[WRITTEN:])
     says, refusal = (REFUSED, v['refusal']) if v['refusal'] else (MATCHED, (0, 0))
     answer = answer_of(says, *refusal, v['n'], v['m'])
-    return [[coded(number, bytes.fromhex(v['sheet']), answer, judge_fields(length, fill, after[:WRITTEN]))]]
+    return [[coded(number, assumed_input(v), answer, judge_fields(length, fill, after[:WRITTEN]))]]
 
 
 def converted(number, given, length, fill, refusal, output):
     """The vector of a conversion: of what is given, with a lent buffer, either refused or into the bytes of `output`."""
     answer = answer_of(REFUSED, *refusal) if refusal else answer_of(CONVERTED, place=len(output))
-    return coded(number, given + output, answer, little(len(given), 2) + little(length, 2) + little(fill, 1))
+    return coded(number, given, answer, little(length, 2) + little(fill, 1), output)
 
 
 def convert_vector(number, given, v):
@@ -162,11 +192,11 @@ def walk_vector(number, v):
     answer = answer_of(SAYS[v['answer']], *(v['refusal'] or ()))
     fields = walk_fields(int(v['setup'], 16), v['moves'], v['reaches'], bytes.fromhex(v['marker_out']),
                          bytes.fromhex(v['marker']), v['budget'])
-    return [[coded(number, bytes.fromhex(v['sheet']), answer, fields)]]
+    return [[coded(number, assumed_input(v), answer, fields)]]
 
 
 def chain_vector(number, v):
-    given, first, groups = bytes.fromhex(v['sheet']), START, [[]]
+    given, first, groups = assumed_input(v), START, [[]]
     for budget, answer, model, returned, steps, expansions in v['calls']:
         def call(origin):
             fields = walk_fields(int(model, 16), steps, expansions, bytes.fromhex(returned), origin, budget)
@@ -178,10 +208,28 @@ def chain_vector(number, v):
     return groups
 
 
+def listing_vector(number, v):
+    """A vector for each call. No checkpoint is known, so all stand in one file."""
+    calls = [(MODEL, int(model, 16), *counts) for model, *counts in v['setups']] + [(ENDED, 0, *v['end'])]
+    origins = [START] + [LAST] * (len(calls) - 1)
+    group = [coded(number, assumed_input(v), answer_of(says), little(model, 8) + little(steps, 4) + little(expansions, 4) + little(origin, 1))
+             for (says, model, steps, expansions), origin in zip(calls, origins)]
+    if LIMIT < sum(map(len, group)):
+        raise DoesNotFit('its calls are more than a file holds')
+    return [group]
+
+
+def list_vector(number, v):
+    """The whole listing at once, in a slice that has a place too many."""
+    models = b''.join(little(int(model, 16), 8) for model, *_ in v['setups'])
+    fields = list_fields(0, bytes([4]) + bytes(49), START, len(v['setups']) + 1, 0xa5)
+    return [[coded(number, assumed_input(v), answer_of(ENDED), fields, models)]]
+
+
 def printed_text(number, given, text):
     """The vector of a print, from as many of the bytes as the program reads."""
     given = given[:READ]
-    return coded(number, little(len(given), 2) + given + text.encode('ascii'), b'', b'')
+    return coded(number, given, b'', b'', text.encode('ascii'))
 
 
 def printed_vector(number, v):
@@ -189,7 +237,8 @@ def printed_vector(number, v):
 
 
 ACTS = {'check': check_vector, 'judge': judge_vector, 'read_text': read_vector, 'write_text': write_vector,
-        'start': start_vector, 'walk': walk_vector, 'chain': chain_vector, 'printed': printed_vector}
+        'start': start_vector, 'walk': walk_vector, 'chain': chain_vector, 'listing': listing_vector, 'list': list_vector,
+        'printed': printed_vector}
 
 
 def read(given):
@@ -233,17 +282,40 @@ def matchable(clauses):
     return all(place(c, set()) for c in range(len(clauses)))
 
 
-def models(n, clauses):
-    """How many assignments satisfy each clause, by trial of all."""
+def values_of(n, assumed):
+    """The assumed values by variable, from the bytes; None if an assumption is bad."""
+    values = {}
+    for v, x in zip(assumed[::2], assumed[1::2]):
+        if not 1 <= v <= n or v in values:
+            return None
+        values[v] = x != 0
+    return values
+
+
+def remaining(clauses, values):
+    """What is left of the clauses under the values: those that no value satisfies, without the literals that are false."""
+    return [[(v, x) for v, x in c if v not in values] for c in clauses if all(values.get(v) != x for v, x in c)]
+
+
+def models(n, clauses, values):
+    """How many assignments have the values and satisfy each clause, by trial of all."""
     pairs = [(sum(1 << (v - 1) for v, x in c if x), sum(1 << (v - 1) for v, x in c if not x)) for c in clauses]
+    pairs += [(1 << (v - 1), 0) if x else (0, 1 << (v - 1)) for v, x in values.items()]
     return sum(all(a & yes or ~a & no for yes, no in pairs) for a in range(1 << n))
 
 
-def formula_vector(number, given):
+def formula_answer(given, assumed):
     formula = read(given)
-    compared = formula is not None and formula[0] <= 12 and matchable(formula[1])
-    answer = answer_of(LISTED, place=models(*formula)) if compared else answer_of(NOT_COMPARED)
-    return [[coded(number, given, answer, b'')]]
+    if formula is None or 12 < formula[0]:
+        return answer_of(NOT_COMPARED)
+    values = values_of(formula[0], assumed)
+    if values is None or not matchable(remaining(formula[1], values)):
+        return answer_of(NOT_COMPARED)
+    return answer_of(LISTED, place=models(*formula, values))
+
+
+def formula_vector(number, given):
+    return [[coded(number, given, formula_answer(*given), b'')]]
 
 
 # Edge cases. The expected answers are written here by hand, from docs/SPECIFICATION.md.
@@ -399,6 +471,48 @@ def in_order(first, last):
     return ' '.join('%02x' % v for v in range(first, last + 1))
 
 
+# each refusal of reading, and where it stands
+UNREAD = [
+    ('', 2, 0),
+    ('01', 2, 1),
+    ('01 02', 2, 2),
+    ('01 01 00', 3, 2),
+    ('01 01 02 01 05', 4, 4),
+    ('01 31 05', 5, 0),
+    ('01 01 02 02', 6, 2),
+    ('01 02 02 01 03 01 04 05', 7, 4),
+    ('01 02 02 01 02 01 03 01 04 05', 7, 6),
+    ('01 01' + 97 * EMPTY + ' 05', 8, 98),
+    ('01 01 05 00', 9, 3),
+]
+
+# lists of assumptions with a bad one, and its index
+ALL_FREE = '01 30 05'
+ALL_TRUE = ' '.join('%02x 01' % v for v in range(1, 49))
+ALL_FALSE = ' '.join('%02x 00' % v for v in range(1, 49))
+TWO_WIDE = '01 30' + 2 * WIDE + ' 05'
+BAD = [
+    ((EXAMPLE, '00 01'), 0),
+    ((EXAMPLE, '00 00'), 0),
+    ((EXAMPLE, '03 01'), 0),
+    ((EXAMPLE, 'ff 00'), 0),
+    ((ALL_FREE, '31 01'), 0),
+    ((EXAMPLE, '01 01 00 00'), 1),
+    ((EXAMPLE, '01 01 03 01'), 1),
+    ((EXAMPLE, '01 01 01 01'), 1),
+    ((EXAMPLE, '01 01 01 00'), 1),
+    ((EXAMPLE, '01 00 01 00'), 1),
+    ((EXAMPLE, '01 00 01 01'), 1),
+    ((EXAMPLE, '00 01 03 01'), 0),
+    ((EXAMPLE, '02 00 03 01 00 01'), 1),
+    ((EXAMPLE, '01 01 02 00 02 00'), 2),
+    # of 49 one is always bad, at last the 49th
+    ((ALL_FREE, ALL_TRUE + ' 01 01'), 48),
+    ((ALL_FREE, ALL_FALSE + ' 30 01'), 48),
+    ((ALL_FREE, ALL_TRUE + ' 31 01'), 48),
+    ((ALL_FREE, '01 00 ' + ALL_TRUE), 1),
+]
+
 JUDGE_EDGES = [
     # each length of the buffer: a short one is refused before anything is read, and keeps its bytes
     (EXAMPLE, 0, 0xa5, REFUSED, 1, 0, 0, 0, ''),
@@ -452,15 +566,45 @@ JUDGE_EDGES = [
     ('01 30' + 2 * ALL + ' 04 05', 96, 0xff, MATCHED, 0, 0, 48, 1, '01'),
     (MANY, 96, 0xff, MATCHED, 0, 0, 2, 1, '01'),
     # each refusal of reading, with the buffer as it was
-    ('01 02', 96, 0x01, REFUSED, 2, 2, 0, 0, ''),
-    ('01 01 00', 96, 0x01, REFUSED, 3, 2, 0, 0, ''),
-    ('01 01 02 01 05', 96, 0x01, REFUSED, 4, 4, 0, 0, ''),
-    ('01 31 05', 96, 0x01, REFUSED, 5, 0, 0, 0, ''),
-    ('01 01 02 02', 96, 0x01, REFUSED, 6, 2, 0, 0, ''),
-    ('01 02 02 01 03 01 04 05', 96, 0x01, REFUSED, 7, 4, 0, 0, ''),
-    ('01 02 02 01 02 01 03 01 04 05', 96, 0x01, REFUSED, 7, 6, 0, 0, ''),
-    ('01 01' + 97 * EMPTY + ' 05', 96, 0x01, REFUSED, 8, 98, 0, 0, ''),
+    *((given, 96, 0x01, REFUSED, number, place, 0, 0, '') for given, number, place in UNREAD),
     (FULLEST + ' 05', 96, 0x01, REFUSED, 9, 9315, 0, 0, ''),
+]
+
+JUDGE_ASSUMED = [
+    # the refusals of reading come before a bad assumption
+    *(((given, '00 01'), 96, 0x01, REFUSED, number, place, 0, 0, '') for given, number, place in UNREAD),
+    # bad assumptions: variable 0, above n, assumed before with the same value and with the other; the first one counts
+    *((given, 96, 0xa5, REFUSED, 16, place, 0, 0, '') for given, place in BAD),
+    # behind the buffer's length, and before an unmatched formula, also one that only the assumptions make so
+    ((EXAMPLE, '00 01'), 95, 0xa5, REFUSED, 1, 0, 0, 0, ''),
+    ((UNMATCHED, '02 01'), 96, 0xa5, REFUSED, 16, 0, 0, 0, ''),
+    ((EXAMPLE, '01 01 02 01 01 01'), 96, 0xa5, REFUSED, 16, 2, 0, 0, ''),
+    # one variable of the example assumed: the clause that it satisfies has 0, and the other one literal
+    ((EXAMPLE, '01 01'), 96, 0xa5, MATCHED, 0, 0, 2, 2, '00 02'),
+    ((EXAMPLE, '01 00'), 96, 0xa5, MATCHED, 0, 0, 2, 2, '02 00'),
+    ((EXAMPLE, '02 01'), 96, 0xa5, MATCHED, 0, 0, 2, 2, '00 01'),
+    ((EXAMPLE, '02 00'), 200, 0xa5, MATCHED, 0, 0, 2, 2, '01 00'),
+    # both: nothing is left, or a clause is empty; in either order
+    ((EXAMPLE, '01 01 02 00'), 96, 0xa5, MATCHED, 0, 0, 2, 2, '00 00'),
+    ((EXAMPLE, '02 00 01 01'), 96, 0xa5, MATCHED, 0, 0, 2, 2, '00 00'),
+    ((EXAMPLE, '01 01 02 01'), 96, 0xa5, REFUSED, 10, 1, 0, 0, '00 01'),
+    ((EXAMPLE, '02 00 01 00'), 96, 0xa5, REFUSED, 10, 1, 0, 0, '01 00'),
+    ((UNMATCHED, '01 01'), 96, 0xa5, REFUSED, 10, 1, 0, 0, '00 01'),
+    ((UNMATCHED, '01 00'), 96, 0xa5, REFUSED, 10, 1, 0, 0, '01 00'),
+    # unmatched but for the assumption, and a re-matching in what remains
+    (('01 02 02 01 04 02 01 04 02 02 04 05', '01 01'), 96, 0xff, MATCHED, 0, 0, 2, 3, '00 00 02'),
+    (('01 01' + 96 * TRUE + ' 05', '01 01'), 96, 0xff, MATCHED, 0, 0, 1, 96, 96 * '00 '),
+    (('01 03 02 01 02 02 02 03 04 02 01 04 05', '03 00'), 96, 0, MATCHED, 0, 0, 3, 2, '02 01'),
+    # the violator leaves out a clause that is satisfied, between those that it has
+    (('01 03 02 01 04 02 02 04 03 01 04 05', '02 01'), 96, 0xff, REFUSED, 10, 2, 0, 0, '01 00 01'),
+    # all of 48 variables assumed
+    ((ALL_FREE, ALL_TRUE), 96, 0xff, MATCHED, 0, 0, 48, 0, ''),
+    ((TWO_WIDE, ALL_TRUE), 96, 0xff, MATCHED, 0, 0, 48, 2, '00 00'),
+    ((TWO_WIDE, ALL_FALSE), 96, 0xff, REFUSED, 10, 1, 0, 0, '01 00'),
+    ((TWO_WIDE, ALL_FALSE[:-2] + '01'), 96, 0xff, MATCHED, 0, 0, 48, 2, '00 00'),
+    # all but one, and 96 empty clauses
+    ((TWO_WIDE, ALL_FALSE[:-6]), 96, 0xff, REFUSED, 10, 2, 0, 0, '01 01'),
+    (('01 02' + 96 * ' 02 01 02 02 04' + ' 05', '01 00 02 00'), 96, 0xff, REFUSED, 10, 1, 0, 0, '01' + 95 * ' 00'),
 ]
 
 
@@ -484,7 +628,7 @@ def foreign(given, *formulas):
 
 CLOSED_TRUE = '01 01 03 01 04 05'  # the clause (not 1): variable 1 has no model as true
 TWO_FREE = '01 02 05'
-ALL_FREE = '01 30 05'
+THREE_FREE = '01 03 05'
 PURE_LAST = '01 02 02 01 02 02 04 02 01 03 02 04 05'  # S6.4: clauses (1, 2) and (1, not 2); 2 is assigned before 1
 MOST = (1 << 32) - 1
 FIRST = checkpoint(0, 0)
@@ -612,6 +756,133 @@ WALK_EDGES = [
     (MANY, START, MOST, MODEL, 0, 0, 0b01, checkpoint(1, 2, '81 02'), 2, 0),
     (MANY, LAST, MOST, MODEL, 0, 0, 0b11, checkpoint(1, 2, '81 82'), 2, 0),
 ]
+
+# under assumptions
+WALK_ASSUMED = [
+    # bad assumptions: behind the refusals of reading, before those of the matching and of the checkpoint
+    *(e for given, number, place in UNREAD for e in refused(STRANGE, number, place, [((given, '00 01'), MOST)])),
+    *(e for given, place in BAD for e in refused(FIRST, 16, place, [(given, 5)])),
+    *refused(STRANGE, 16, 1, [((EXAMPLE, '02 01 02 01'), 0), ((UNMATCHED, '01 01 02 00'), MOST)]),
+    *refused(OVER, 16, 0, [((EXAMPLE, '00 01'), 0), ((EXAMPLE, '03 00'), MOST)]),
+    # unmatched under the assumptions: behind them, before the checkpoint
+    *refused(STRANGE, 10, 1, [((EXAMPLE, '01 01 02 01'), 0), ((EXAMPLE, '02 00 01 00'), MOST), ((UNMATCHED, '01 01'), 1)]),
+    # one variable of the example assumed: the other one has one value
+    ((EXAMPLE, '01 01'), START, 0, SPENT, 0, 0, 0, FIRST, 0, 0),
+    ((EXAMPLE, '01 01'), LAST, 1, MODEL, 0, 0, 0b01, checkpoint(1, 1, '02'), 1, 0),
+    ((EXAMPLE, '01 01'), LAST, 0, SPENT, 0, 0, 0, checkpoint(1, 1, '02'), 0, 0),
+    ((EXAMPLE, '01 01'), LAST, 1, ENDED, 0, 0, 0, OVER, 1, 0),
+    ((EXAMPLE, '01 01'), LAST, 0, ENDED, 0, 0, 0, OVER, 0, 0),
+    ((EXAMPLE, '01 00'), START, MOST, MODEL, 0, 0, 0b10, checkpoint(1, 1, '82'), 1, 0),
+    ((EXAMPLE, '01 00'), LAST, MOST, ENDED, 0, 0, 0, OVER, 1, 0),
+    ((EXAMPLE, '02 01'), START, MOST, MODEL, 0, 0, 0b10, checkpoint(1, 1, '01'), 1, 0),
+    ((EXAMPLE, '02 01'), LAST, MOST, ENDED, 0, 0, 0, OVER, 1, 0),
+    # a checkpoint with an assumed variable, whichever value it has
+    *foreign(checkpoint(1, 1, '81'), (EXAMPLE, '01 01'), (EXAMPLE, '01 00'), (TWO_FREE, '01 01')),
+    *foreign(checkpoint(1, 1, '01'), (EXAMPLE, '01 01'), (EXAMPLE, '01 00'), (TWO_FREE, '01 00')),
+    *foreign(checkpoint(1, 2, '81 02'), (EXAMPLE, '01 01'), (TWO_FREE, '01 01'), (TWO_FREE, '02 00')),
+    *foreign(checkpoint(1, 2, '02 81'), (EXAMPLE, '01 01'), (TWO_FREE, '01 01')),
+    *foreign(checkpoint(2, 1, '81'), (EXAMPLE, '01 01')),
+    # nothing is undone at a trail of all variables that are not assumed
+    *foreign(checkpoint(2, 1, '02'), (EXAMPLE, '01 01'), (TWO_FREE, '01 01')),
+    *foreign(checkpoint(3, 1, '82'), (TWO_FREE, '01 01')),
+    # a checkpoint made under another list: foreign, or one that this walk has too
+    *foreign(checkpoint(1, 1, '81'), (EXAMPLE, '02 01')),
+    *foreign(checkpoint(1, 1, '01'), (EXAMPLE, '02 00')),
+    *foreign(checkpoint(1, 2, '01 82'), (EXAMPLE, '02 01')),
+    *foreign(checkpoint(1, 1, '02'), TWO_FREE, (TWO_FREE, '02 01')),
+    ((TWO_FREE, '02 00'), START, MOST, MODEL, 0, 0, 0b00, checkpoint(1, 1, '01'), 1, 0),
+    ((TWO_FREE, '02 01'), LAST, MOST, MODEL, 0, 0, 0b11, checkpoint(1, 1, '81'), 2, 0),
+    (TWO_FREE, LAST, MOST, MODEL, 0, 0, 0b01, checkpoint(1, 2, '81 02'), 1, 0),
+    # whole walks, the same ones under a list in another order
+    ((THREE_FREE, '01 01 03 00'), START, MOST, MODEL, 0, 0, 0b001, checkpoint(1, 1, '02'), 1, 0),
+    ((THREE_FREE, '01 01 03 00'), LAST, 1, SPENT, 0, 0, 0, checkpoint(2, 0), 1, 0),
+    ((THREE_FREE, '01 01 03 00'), LAST, 1, MODEL, 0, 0, 0b011, checkpoint(1, 1, '82'), 1, 0),
+    ((THREE_FREE, '01 01 03 00'), LAST, 96, ENDED, 0, 0, 0, OVER, 1, 0),
+    ((THREE_FREE, '03 00 01 01'), START, MOST, MODEL, 0, 0, 0b001, checkpoint(1, 1, '02'), 1, 0),
+    ((THREE_FREE, '01 01 03 00'), LAST, 1, SPENT, 0, 0, 0, checkpoint(2, 0), 1, 0),
+    ((THREE_FREE, '03 00 01 01'), LAST, 1, MODEL, 0, 0, 0b011, checkpoint(1, 1, '82'), 1, 0),
+    ((THREE_FREE, '01 01 03 00'), LAST, 96, ENDED, 0, 0, 0, OVER, 1, 0),
+    ((THREE_FREE, '02 01'), START, MOST, MODEL, 0, 0, 0b010, checkpoint(1, 2, '01 03'), 2, 0),
+    ((THREE_FREE, '02 01'), LAST, MOST, MODEL, 0, 0, 0b110, checkpoint(1, 2, '01 83'), 2, 0),
+    ((THREE_FREE, '02 01'), LAST, MOST, MODEL, 0, 0, 0b011, checkpoint(1, 2, '81 03'), 4, 0),
+    ((THREE_FREE, '02 01'), LAST, MOST, MODEL, 0, 0, 0b111, checkpoint(1, 2, '81 83'), 2, 0),
+    ((THREE_FREE, '02 01'), LAST, MOST, ENDED, 0, 0, 0, OVER, 2, 0),
+    # nothing is left to assign: the model on any budget, then the end
+    *(e for budget in (0, 96) for e in [
+        ((TWO_FREE, '01 01 02 00'), START, budget, MODEL, 0, 0, 0b01, checkpoint(1, 0), 0, 0),
+        ((TWO_FREE, '02 00 01 01'), LAST, budget, ENDED, 0, 0, 0, OVER, 0, 0),
+        ((TWO_FREE, '01 01 02 00'), LAST, budget, ENDED, 0, 0, 0, OVER, 0, 0),
+        ((EXAMPLE, '02 01 01 00'), START, budget, MODEL, 0, 0, 0b10, checkpoint(1, 0), 0, 0),
+        ((EXAMPLE, '01 00 02 01'), LAST, budget, ENDED, 0, 0, 0, OVER, 0, 0),
+        ((EXAMPLE, '02 01 01 00'), LAST, budget, ENDED, 0, 0, 0, OVER, 0, 0),
+        ((ALL_FREE, ALL_TRUE), START, budget, MODEL, 0, 0, (1 << 48) - 1, checkpoint(1, 0), 0, 0),
+        ((ALL_FREE, ALL_TRUE), LAST, budget, ENDED, 0, 0, 0, OVER, 0, 0),
+        ((ALL_FREE, ALL_FALSE), LAST, budget, ENDED, 0, 0, 0, OVER, 0, 0),
+        ((ALL_FREE, ALL_FALSE), FIRST, budget, MODEL, 0, 0, 0, checkpoint(1, 0), 0, 0),
+        ((TWO_FREE, '01 01 02 00'), checkpoint(1, 0), budget, ENDED, 0, 0, 0, OVER, 0, 0),
+    ]),
+    ((TWO_WIDE, ALL_TRUE), START, MOST, MODEL, 0, 0, (1 << 48) - 1, checkpoint(1, 0), 0, 0),
+    # such a walk has three checkpoints
+    *foreign(checkpoint(2, 0), (TWO_FREE, '01 01 02 00')),
+    *foreign(checkpoint(3, 0), (TWO_FREE, '01 01 02 00')),
+    *foreign(checkpoint(1, 1, '01'), (TWO_FREE, '01 00 02 00')),
+    *foreign(checkpoint(1, 0, '01'), (TWO_FREE, '01 00 02 00')),
+    *foreign(checkpoint(1, 0, '', '01'), (TWO_FREE, '01 00 02 00')),
+    *foreign(checkpoint(4, 1, '01'), (TWO_FREE, '01 00 02 00')),
+    # where something is left, mode 1 has a length
+    *foreign(checkpoint(1, 0), (EXAMPLE, '01 01'), (TWO_FREE, '02 00'), (ALL_FREE, ALL_TRUE[:-6])),
+]
+
+# list: input, the checkpoint that it gets, the room, what the last answer says, the refusal's number and place, the checkpoint returned,
+# and the models
+LIST_EDGES = [
+    (EXAMPLE, START, 0, SPENT, 0, 0, FIRST, []),
+    (EXAMPLE, START, 1, MODEL, 0, 0, checkpoint(1, 2, '01 82'), [0b10]),
+    (EXAMPLE, LAST, 0, SPENT, 0, 0, checkpoint(1, 2, '01 82'), []),
+    (EXAMPLE, LAST, 1, MODEL, 0, 0, checkpoint(1, 2, '81 02'), [0b01]),
+    (EXAMPLE, LAST, 1, ENDED, 0, 0, OVER, []),
+    (EXAMPLE, LAST, 0, ENDED, 0, 0, OVER, []),
+    (EXAMPLE, START, 2, MODEL, 0, 0, checkpoint(1, 2, '81 02'), [0b10, 0b01]),
+    (EXAMPLE, START, 3, ENDED, 0, 0, OVER, [0b10, 0b01]),
+    (EXAMPLE, START, 255, ENDED, 0, 0, OVER, [0b10, 0b01]),
+    (EXAMPLE, checkpoint(2, 0), 255, ENDED, 0, 0, OVER, [0b01]),
+    # refusals, with room and without
+    *((given, origin, room, REFUSED, number, place, origin, []) for room in (0, 2) for given, origin, number, place in [
+        (UNREADABLE, OVER, 3, 2),
+        (UNMATCHED, STRANGE, 10, 2),
+        (EXAMPLE, STRANGE, 11, 0),
+        ((UNREADABLE, '00 01'), STRANGE, 3, 2),
+        ((UNMATCHED, '02 00'), STRANGE, 16, 0),
+        ((EXAMPLE, '01 01 01 01'), OVER, 16, 1),
+        ((EXAMPLE, '01 01 02 01'), OVER, 10, 1),
+        ((EXAMPLE, '01 01'), checkpoint(1, 1, '81'), 11, 0),
+        ((EXAMPLE, '01 01'), checkpoint(1, 0), 11, 0),
+    ]),
+    # under assumptions, in either order
+    ((EXAMPLE, '01 01'), START, 2, ENDED, 0, 0, OVER, [0b01]),
+    ((EXAMPLE, '01 00'), START, 1, MODEL, 0, 0, checkpoint(1, 1, '82'), [0b10]),
+    ((TWO_FREE, '01 01'), START, 3, ENDED, 0, 0, OVER, [0b01, 0b11]),
+    ((THREE_FREE, '01 01 03 00'), START, 2, MODEL, 0, 0, checkpoint(1, 1, '82'), [0b001, 0b011]),
+    ((THREE_FREE, '03 00 01 01'), START, 2, MODEL, 0, 0, checkpoint(1, 1, '82'), [0b001, 0b011]),
+    ((THREE_FREE, '02 01'), START, 255, ENDED, 0, 0, OVER, [0b010, 0b110, 0b011, 0b111]),
+    # nothing is left: without room the model is not lost
+    ((TWO_FREE, '01 01 02 00'), START, 0, SPENT, 0, 0, FIRST, []),
+    ((TWO_FREE, '01 01 02 00'), LAST, 1, MODEL, 0, 0, checkpoint(1, 0), [0b01]),
+    ((TWO_FREE, '01 01 02 00'), LAST, 0, ENDED, 0, 0, OVER, []),
+    ((TWO_FREE, '02 00 01 01'), START, 2, ENDED, 0, 0, OVER, [0b01]),
+    ((TWO_FREE, '02 00 01 01'), checkpoint(1, 0), 2, ENDED, 0, 0, OVER, []),
+    ((TWO_FREE, '02 00 01 01'), OVER, 0, ENDED, 0, 0, OVER, []),
+    ((ALL_FREE, ALL_TRUE), START, 0, SPENT, 0, 0, FIRST, []),
+    ((ALL_FREE, ALL_TRUE), START, 255, ENDED, 0, 0, OVER, [(1 << 48) - 1]),
+]
+
+# formulas: some of few variables, each under every list of assumptions, in order, none bad
+FORMULA_EDGES = [(given, ' '.join('%02x %02x' % (v, x) for v, x in enumerate(values, 1) if x < 2))
+                 for given in [EXAMPLE, PURE_LAST, UNMATCHED, REMATCHED, THREE_FREE,
+                               '01 04 02 01 03 02 04 02 02 03 03 04 02 03 03 01 02 04 04 05',
+                               '01 04 02 01 02 02 04 03 01 02 03 04 03 02 03 03 04 02 04 03 01 04 05',
+                               '01 03 02 01 04 03 01 02 02 04 02 02 04 03 03 04 05']
+                 for values in itertools.product(range(3), repeat=bytes.fromhex(given)[1])]
 
 # printed: what is printed from, and the text
 WHOLE = '01 02' + 8190 * ' 02 01' + ' 04 05'  # the clause (1) in 16,384 bytes, as many as the printing program reads
@@ -806,7 +1077,9 @@ for given in dict.fromkeys(given for given, *_ in CHECK_EDGES):
 
 
 def bytes_of(given):
-    """Bytes, which stand here as they are or in hexadecimal."""
+    """Bytes, which stand here as they are or in hexadecimal; or an input and its assumptions."""
+    if isinstance(given, tuple):
+        return tuple(map(bytes_of, given))
     return given if isinstance(given, bytes) else bytes.fromhex(given)
 
 
@@ -824,6 +1097,16 @@ def walk_edge(number, given, origin, budget, says, refusal, place, model, return
     return coded(number, given, answer_of(says, refusal, place), walk_fields(model, *counts, returned, origin, budget))
 
 
+def list_edge(number, given, origin, room, says, refusal, place, returned, models):
+    model = models[-1] if says == MODEL else 0
+    answer, fields = answer_of(says, refusal, place), list_fields(model, returned, origin, room, 0xa5)
+    return coded(number, given, answer, fields, b''.join(little(m, 8) for m in models))
+
+
+def formula_edge(number, given, assumed):
+    return formula_vector(number, (given, bytes.fromhex(assumed)))[0][0]
+
+
 def convert_edge(number, given, expected, length, fill):
     refusal, output = (expected, b'') if isinstance(expected, tuple) else (None, bytes_of(expected))
     return converted(number, given, length, fill, refusal, output)
@@ -837,14 +1120,18 @@ def write_edge(number, given, expected, length=18636, fill=0xa5):
     return convert_edge(number, given, expected, length, fill)
 
 
-# the number of the first case of an act, its cases and their coder
-EDGES = {'check': (60000, CHECK_EDGES, check_edge), 'judge': (61000, JUDGE_EDGES, judge_edge),
-         'walk': (62000, WALK_EDGES, walk_edge), 'printed': (63000, PRINTED_EDGES, printed_text),
-         'read_text': (64000, READ_TEXT_EDGES, read_edge), 'write_text': (65000, WRITE_TEXT_EDGES, write_edge)}
+# the files of an act's cases: each has a name, the number of its first case, its cases and their coder
+EDGES = {'check': [('check_edges', 60000, CHECK_EDGES, check_edge)],
+         'judge': [('judge_edges', 61000, JUDGE_EDGES, judge_edge), ('judge_assumed', 61500, JUDGE_ASSUMED, judge_edge)],
+         'walk': [('walk_edges', 62000, WALK_EDGES, walk_edge), ('walk_assumed', 62500, WALK_ASSUMED, walk_edge)],
+         'list': [('list_edges', 63100, LIST_EDGES, list_edge)],
+         'printed': [('printed_edges', 63000, PRINTED_EDGES, printed_text)],
+         'formulas': [('formulas_edges', 63200, FORMULA_EDGES, formula_edge)],
+         'read_text': [('read_text_edges', 64000, READ_TEXT_EDGES, read_edge)],
+         'write_text': [('write_text_edges', 65000, WRITE_TEXT_EDGES, write_edge)]}
 
 
-def edge_vectors(act):
-    first, cases, coder = EDGES[act]
+def edge_vectors(first, cases, coder):
     return [coder(number, bytes_of(given), *case) for number, (given, *case) in enumerate(cases, first)]
 
 
@@ -875,7 +1162,7 @@ def read_again(number, given):
 def groups_of(lines):
     """By act, and for formulas, the groups of vectors that stand together."""
     groups = {act: [] for act in [*ACTS, 'formulas']}
-    inputs = set()
+    inputs, lists = set(), set()
 
     def add(name, coder, number, given):
         try:
@@ -889,11 +1176,15 @@ def groups_of(lines):
         v = json.loads(line)
         if v['act'] in ACTS:
             add(v['act'], ACTS[v['act']], number, v)
+        if v['act'] == 'listing':
+            add('list', list_vector, number, v)
         if 'sheet' in v or 'stdin' in v:
-            given = bytes.fromhex(v['sheet']) if 'sheet' in v else bytes.fromhex(v['stdin'])[:READ]
+            given, assumed = assumed_input(v) if 'sheet' in v else (bytes.fromhex(v['stdin'])[:READ], b'')
+            if (given, assumed) not in lists:
+                lists.add((given, assumed))
+                add('formulas', formula_vector, number, (given, assumed))
             if given not in inputs:
                 inputs.add(given)
-                add('formulas', formula_vector, number, given)
                 add('write_text', written_again, number, given)
                 add('read_text', read_again, number, given)
     return groups
@@ -906,9 +1197,9 @@ def main():
     sets = []
     for act, found in groups.items():
         names = [act] if act == 'start' else [act + letter for letter in LETTERS]
-        sets.append((act, names, found, 'calls' if act == 'chain' else 'vectors'))
-        if act in EDGES:
-            sets.append((f'{act}_edges', [f'{act}_edges'], [[v] for v in edge_vectors(act)], 'vectors'))
+        sets.append((act, names, found, 'calls' if act in ('chain', 'listing') else 'vectors'))
+        for name, *edges in EDGES.get(act, []):
+            sets.append((name, [name], [[v] for v in edge_vectors(*edges)], 'vectors'))
     files, report = {}, ''
     for name, names, found, unit in sets:
         files |= files_of(name, names, found)

@@ -1,11 +1,10 @@
 -- Laws of `converts` and `convert-agrees`.
-use Prim.Native.Nat.{ℕ, _+_, _-_, _<_, _≤_}
-use mathlib.Core.Bool.{Bool, false}
+use Prim.Native.Nat.{ℕ, _+_, _-_}
+use mathlib.Core.Bool.{Bool}
 use mathlib.Core.List.{List}
 use mathlib.Core.Path.{_≡_, ap, _∙_}
 use native.Mathlib.Omega.{arith}
-use borrow.Author.Tests.{lt-ltb, le-ltb}
-use lib.ListN.{length, getD, take, drop, replicate, length-replicate}
+use lib.ListN.{length, getD, take, replicate, length-replicate}
 use Rattle.formula.specs.declared.Refusal.{Refusal}
 use Rattle.formula.specs.Refusals.{table-row}
 use Rattle.dimacs.specs.declared.answers.Converted.the-variants.{Written, Refused}
@@ -14,7 +13,7 @@ use Rattle.vectors.specs.declared.answers.Answer.{Answer}
 use Rattle.vectors.specs.declared.corpus.Vector.{Vector}
 use Rattle.vectors.specs.Answers.{plain, refused-answer, expected}
 use Rattle.vectors.specs.Comparing.{first-wrong, alike}
-use Rattle.vectors.specs.Corpus.{two-bytes}
+use Rattle.vectors.specs.Corpus.{two-bytes, input-of}
 use Rattle.cases.specs.Converting.{convert-written, converting, Converts, converts, convert-agrees}
 use Rattle.cases.proofs.JudgingLaws.{refusal-code}
 
@@ -36,28 +35,23 @@ converted-as reads given before after x r e f = record { answer = rw e f; buffer
 
 -- the comparison is that of `converts`, since each side is what its function ensures
 pub compared :
-    (reads : Bool) (s : List ℕ) (v : Vector) (middle fill : ℕ) (before after : List ℕ) (wanted got : Answer) (wrong : ℕ) →
+    (reads : Bool) (s : List ℕ) (v : Vector) (fill : ℕ) (before after : List ℕ) (wanted got : Answer) (wrong : ℕ) →
     wanted ≡ expected s (v .end) →
-    Converts reads (take (middle - v .start) (drop (v .start) s)) before got after →
-    wrong ≡ first-wrong s middle (v .end - middle) fill after →
-    length after ≡ length before → alike wanted got wrong (length after) ≡ converts reads s v middle fill before
+    Converts reads (input-of s v) before got after →
+    wrong ≡ first-wrong s (v .output) (v .end - v .output) fill after →
+    length after ≡ length before → alike wanted got wrong (length after) ≡ converts reads s v fill before
 unfolding converts
-compared reads s v middle fill before after wanted got wrong w c f l = rw (w, c .answer, f, l, c .buffer)
+compared reads s v fill before after wanted got wrong w c f l = rw (w, c .answer, f, l, c .buffer)
 
 -- the array's length
 pub filled-length : (l : List ℕ) (fill : ℕ) → l ≡ replicate 65536 fill → length l ≡ 65536
 filled-length l fill e = ap length e ∙ length-replicate 65536 fill
 
-module _ (reads : Bool) (s : List ℕ) (v : Vector) where
-  -- a vector that has no whole input differs
-  pub no-input : v .end < v .start + two-bytes s (v .end + 6) → convert-agrees reads s v ≡ false
-  unfolding convert-agrees
-  no-input h = rw (lt-ltb _ _ h)
-
-  pub whole-input :
-      v .start + two-bytes s (v .end + 6) ≤ v .end →
-      (let fill = getD s (v .end + 10) 0 in
-      converts reads s v (v .start + two-bytes s (v .end + 6)) fill (take (two-bytes s (v .end + 8)) (replicate 65536 fill))
-      ≡ convert-agrees reads s v)
-  unfolding convert-agrees
-  whole-input h = rw (le-ltb _ _ h)
+-- the conversion of a vector, from what its parts give
+pub converting-of :
+    (reads : Bool) (s : List ℕ) (v : Vector) (array : List ℕ) (size : ℕ) (r : Bool) →
+    array ≡ replicate 65536 (getD s (v .end + 8) 0) →
+    size ≡ two-bytes s (v .end + 6) →
+    r ≡ converts reads s v (getD s (v .end + 8) 0) (take size array) → r ≡ convert-agrees reads s v
+unfolding convert-agrees
+converting-of reads s v array size r a z e = e ∙ rw (a, z)

@@ -1,10 +1,10 @@
--- Laws of `prints` and `print-agrees`.
-use Prim.Native.Nat.{ℕ, _+_, _-_, _<_, _≤_}
+-- The law of `print-agrees`.
+use Prim.Native.Nat.{ℕ, _-_, _≤_}
 use mathlib.Core.Bool.{Bool, true, false, cond}
 use mathlib.Core.List.{List, []}
 use mathlib.Core.Path.{_≡_, refl, sym, ap, _∙_}
 use native.Mathlib.Omega.{arith}
-use borrow.Author.Tests.{lt-ltb, le-ltb}
+use borrow.Author.Tests.{le-ltb}
 use lib.Dec.{ltb}
 use lib.ListN.{length, take, drop}
 use lib.Seq.{length-take-le, take-append-seam}
@@ -14,8 +14,8 @@ use Rattle.printing.specs.Printing.{max-input, max-print, Printing, unwritten, 
 use Rattle.printing.proofs.PrintLaws.{count-within}
 use Rattle.vectors.specs.declared.corpus.Vector.{Vector}
 use Rattle.vectors.specs.Comparing.{first-wrong}
-use Rattle.vectors.specs.Corpus.{two-bytes}
-use Rattle.cases.specs.Prints.{print-of, all-stand, prints, print-agrees}
+use Rattle.vectors.specs.Corpus.{input-of}
+use Rattle.cases.specs.Prints.{print-of, all-stand, print-agrees}
 
 -- what print counts of the buffer is the text
 text-written :
@@ -31,34 +31,16 @@ text-written s b c r long e =
     go true = refl
     go false = take-append-seam (printed s) (drop (length (printed s)) b)
 
--- the comparison is that of `prints`, since the bytes compared are those of the text
+-- the comparison is that of `print-agrees`, since the bytes compared are those of the text
 pub text-compared :
-    (s : List ℕ) (start middle end : ℕ) (b c : List ℕ) (r wanted wrong : ℕ) →
+    (s : List ℕ) (v : Vector) (b c : List ℕ) (r wanted wrong : ℕ) →
     65536 ≡ length b →
-    printing (take (middle - start) (drop start s)) b ≡ record { count = r; buffer = c } →
-    wanted ≡ end - middle →
-    wrong ≡ first-wrong s middle wanted 0 (take r c) →
-    all-stand wanted r wrong ≡ prints s start middle end
-unfolding prints
-text-compared s start middle end b c r wanted wrong long e w f =
+    printing (input-of s v) b ≡ record { count = r; buffer = c } →
+    wanted ≡ v .end - v .output →
+    wrong ≡ first-wrong s (v .output) wanted 0 (take r c) →
+    all-stand wanted r wrong ≡ print-agrees s v
+unfolding print-agrees
+text-compared s v b c r wanted wrong long e w f =
     let t = text-written _ b c r (omega arith) e in
-    let n : length (print-of (take (middle - start) (drop start s))) ≡ r =
-    ap length (sym t) ∙ length-take-le r c (count-within _ b c r e) in
+    let n : length (print-of (input-of s v)) ≡ r = ap length (sym t) ∙ length-take-le r c (count-within _ b c r e) in
     rw (n, ← t, f, w)
-
--- a vector that has no whole input differs
-module _ (s : List ℕ) (v : Vector) where
-  pub no-length : v .end - v .start < 2 → print-agrees s v ≡ false
-  unfolding print-agrees
-  no-length h = rw (lt-ltb _ _ h)
-
-  pub no-input : 2 ≤ v .end - v .start → v .end - v .start < 2 + two-bytes s (v .start) → print-agrees s v ≡ false
-  unfolding print-agrees
-  no-input l h = rw (le-ltb _ _ l, lt-ltb _ _ h)
-
-  pub whole-input :
-      2 ≤ v .end - v .start →
-      2 + two-bytes s (v .start) ≤ v .end - v .start →
-      print-agrees s v ≡ prints s (v .start + 2) (v .start + 2 + two-bytes s (v .start)) (v .end)
-  unfolding print-agrees
-  whole-input l h = rw (le-ltb _ _ l, le-ltb _ _ h)

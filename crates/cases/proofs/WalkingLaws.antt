@@ -15,7 +15,8 @@ use Rattle.enumeration.specs.declared.calls.Walked.{Walked}
 use Rattle.enumeration.specs.Values.{checkpoint-values, answer-values, walked-values}
 use Rattle.vectors.specs.declared.corpus.Vector.{Vector}
 use Rattle.cases.specs.declared.walking.Told.{Told}
-use Rattle.vectors.specs.Corpus.{four-bytes}
+use Rattle.vectors.specs.Corpus.{four-bytes, input-of}
+use Rattle.cases.specs.Assuming.{assumptions-of}
 use Rattle.cases.specs.Walking.{stored-checkpoint-size, walk-written, expected-call, walk-alike, origin, called, checkpoint-wrong, start-agrees, walk-agrees}
 
 -- a byte of the trail is two places on in the checkpoint
@@ -41,7 +42,7 @@ copied k s old new at h l f =
     f ∙ rw (d, take-length, n, z, append-nil)
 
 -- the values of an answer have the checkpoint beside it
-kept : (a : Answer) (s e : ℕ) (c : Checkpoint) → answer-values a s e c .checkpoint ≡ c
+pub kept : (a : Answer) (s e : ℕ) (c : Checkpoint) → answer-values a s e c .checkpoint ≡ c
 kept (Model a) s e c = refl
 kept Spent s e c = refl
 kept Ended s e c = refl
@@ -54,7 +55,7 @@ pub calling :
     (s : List ℕ) (v : Vector) (last from : Checkpoint) (budget : ℕ) (r : Result) →
     from ≡ origin s (v .end + 72) last →
     budget ≡ four-bytes s (v .end + 123) →
-    r ≡ walk-call (take (v .end - v .start) (drop (v .start) s)) from budget → r ≡ called s v last
+    r ≡ walk-call (input-of s v) (assumptions-of s v) from budget → r ≡ called s v last
 unfolding called
 calling s v last from budget r f b e = rw (e, f, b)
 

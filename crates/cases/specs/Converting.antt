@@ -1,16 +1,15 @@
 -- The vectors of the conversions: the answer and the buffer of their definitions (S15, S16), compared with those that the corpus has.
 use Prim.Native.Nat.{ℕ, _+_, _-_}
-use mathlib.Core.Bool.{Bool, true, false, cond}
+use mathlib.Core.Bool.{Bool, true, false}
 use mathlib.Core.List.{List}
 use mathlib.Core.Path.{_≡_}
-use lib.Dec.{ltb}
-use lib.ListN.{length, getD, take, drop, replicate}
+use lib.ListN.{length, getD, take, replicate}
 use Rattle.dimacs.specs.Convert.{ConvertedValues, Conversion, to-encoded, to-text}
 use Rattle.vectors.specs.declared.answers.Answer.{Answer}
 use Rattle.vectors.specs.declared.corpus.Vector.{Vector}
 use Rattle.vectors.specs.Answers.{plain, expected}
 use Rattle.vectors.specs.Comparing.{first-wrong, alike}
-use Rattle.vectors.specs.Corpus.{two-bytes}
+use Rattle.vectors.specs.Corpus.{two-bytes, input-of}
 use Rattle.cases.specs.Judging.{number-code}
 
 -- how the corpus writes an answer: the place is the refusal's or the number of bytes that were written, since the other one is 0
@@ -27,16 +26,14 @@ pub record Converts (reads : Bool) (given before : List ℕ) (r : Answer) (after
   pub answer : r ≡ convert-written (converting reads given before .answer)
   pub buffer : after ≡ converting reads given before .buffer
 
--- The conversion of a vector's bytes up to `middle`, into a buffer, has the expected answer, and leaves the bytes from there on and behind
--- them the fill.
-unfoldable pub converts : Bool → List ℕ → Vector → ℕ → ℕ → List ℕ → Bool
-converts reads s v middle fill buffer =
-    let c = converting reads (take (middle - v .start) (drop (v .start) s)) buffer in
-    alike (expected s (v .end)) (convert-written (c .answer)) (first-wrong s middle (v .end - middle) fill (c .buffer)) (length buffer)
+-- the conversion of a vector's input, into a buffer, has the expected answer, and leaves the expected bytes and behind them the fill
+unfoldable pub converts : Bool → List ℕ → Vector → ℕ → List ℕ → Bool
+converts reads s v fill buffer =
+    let c = converting reads (input-of s v) buffer in
+    alike (expected s (v .end)) (convert-written (c .answer)) (first-wrong s (v .output) (v .end - v .output) fill (c .buffer)) (length buffer)
 
--- the fields behind the answer: the length of what is converted, that of the buffer, and the fill
+-- the fields behind the answer: the length of the buffer, and the fill
 unfoldable pub convert-agrees : Bool → List ℕ → Vector → Bool
 convert-agrees reads s v =
-    let middle = v .start + two-bytes s (v .end + 6) in
-    let fill = getD s (v .end + 10) 0 in
-    cond (ltb (v .end) middle) false (converts reads s v middle fill (take (two-bytes s (v .end + 8)) (replicate 65536 fill)))
+    let fill = getD s (v .end + 8) 0 in
+    converts reads s v fill (take (two-bytes s (v .end + 6)) (replicate 65536 fill))

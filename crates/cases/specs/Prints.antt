@@ -1,14 +1,14 @@
 -- The vectors of the printed walk: the text of its definition (S12), compared with the one that the corpus has.
-use Prim.Native.Nat.{ℕ, _+_, _-_}
-use mathlib.Core.Bool.{Bool, false, cond, _&&_}
+use Prim.Native.Nat.{ℕ, _-_}
+use mathlib.Core.Bool.{Bool, cond, _&&_}
 use mathlib.Core.List.{List, []}
 use lib.Dec.{eqb, ltb}
-use lib.ListN.{length, take, drop}
+use lib.ListN.{length}
 use Rattle.printing.specs.Printed.{printed}
 use Rattle.printing.specs.Printing.{max-input}
 use Rattle.vectors.specs.declared.corpus.Vector.{Vector}
 use Rattle.vectors.specs.Comparing.{first-wrong}
-use Rattle.vectors.specs.Corpus.{two-bytes}
+use Rattle.vectors.specs.Corpus.{input-of}
 
 -- what print writes: nothing for an input that it does not read
 abbrev pub print-of : List ℕ → List ℕ
@@ -18,17 +18,8 @@ print-of s = cond (ltb max-input (length s)) [] (printed s)
 abbrev pub all-stand : ℕ → ℕ → ℕ → Bool
 all-stand wanted count wrong = eqb count wanted && eqb wrong count
 
--- the text of the input from `start` to `middle` is the one from there to `end`
-unfoldable pub prints : List ℕ → ℕ → ℕ → ℕ → Bool
-prints s start middle end =
-    let t = print-of (take (middle - start) (drop start s)) in
-    all-stand (end - middle) (length t) (first-wrong s middle (end - middle) 0 t)
-
--- a vector's bytes are the length of the input (2 bytes), the input, and the expected text
+-- the text of the vector's input is the expected one
 unfoldable pub print-agrees : List ℕ → Vector → Bool
 print-agrees s v =
-    cond (ltb (v .end - v .start) 2)
-    false
-    (cond (ltb (v .end - v .start) (2 + two-bytes s (v .start)))
-    false
-    (prints s (v .start + 2) (v .start + 2 + two-bytes s (v .start)) (v .end)))
+    let t = print-of (input-of s v) in
+    all-stand (v .end - v .output) (length t) (first-wrong s (v .output) (v .end - v .output) 0 t)

@@ -9,13 +9,14 @@ use Rattle.walk.specs.Checkpoints.{Checkpoint, start}
 use Rattle.vectors.specs.declared.corpus.Vector.{Vector}
 use Rattle.vectors.specs.declared.corpus.Framed.the-variants.{Whole, Broken}
 use Rattle.cases.specs.declared.runs.Act.{Act}
-use Rattle.cases.specs.declared.runs.Act.the-variants.{Check, Judge, ReadText, WriteText, Start, Walk, Compare, Print}
+use Rattle.cases.specs.declared.runs.Act.the-variants.{Check, Judge, ReadText, WriteText, Start, Walk, Listing, Models, Compare, Print}
 use Rattle.cases.specs.declared.runs.Run.{Run}
 use Rattle.vectors.specs.declared.totals.Totals.{Totals}
 use Rattle.vectors.specs.Checking.{check-agrees}
 use Rattle.vectors.specs.Corpus.{framed}
 use Rattle.cases.specs.Converting.{convert-agrees}
 use Rattle.cases.specs.Judging.{judge-agrees}
+use Rattle.cases.specs.Listing.{listing-agrees, listing-leaves, list-agrees, list-leaves}
 use Rattle.cases.specs.Prints.{print-agrees}
 use Rattle.vectors.specs.Totals.{counted, Grown}
 use Rattle.cases.specs.Trying.{compare-agrees}
@@ -25,10 +26,12 @@ use Rattle.cases.specs.Walking.{stored-checkpoint-size, start-agrees, wa
 abbrev pub size-of : Act → ℕ
 size-of Check = 14
 size-of Judge = 104
-size-of ReadText = 11
-size-of WriteText = 11
+size-of ReadText = 9
+size-of WriteText = 9
 size-of Start = stored-checkpoint-size
 size-of Walk = 127
+size-of Listing = 23
+size-of Models = 125
 size-of Compare = 6
 size-of Print = 0
 
@@ -45,6 +48,8 @@ act-agrees ReadText s v last = convert-agrees true s v
 act-agrees WriteText s v last = convert-agrees false s v
 act-agrees Start s v last = start-agrees s v
 act-agrees Walk s v last = walk-agrees s v last
+act-agrees Listing s v last = listing-agrees s v last
+act-agrees Models s v last = list-agrees s v last
 act-agrees Compare s v last = compare-agrees s v
 act-agrees Print s v last = print-agrees s v
 
@@ -56,6 +61,8 @@ leaves ReadText s v last = last
 leaves WriteText s v last = last
 leaves Start s v last = last
 leaves Walk s v last = walk-leaves s v last
+leaves Listing s v last = listing-leaves s v last
+leaves Models s v last = list-leaves s v last
 leaves Compare s v last = last
 leaves Print s v last = last
 

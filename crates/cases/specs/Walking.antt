@@ -1,5 +1,5 @@
--- The vectors of start and walk: the answer and the checkpoint of their definitions (S8), compared with those that the corpus has.
-use Prim.Native.Nat.{ℕ, _+_, _-_}
+-- The vectors of start and walk: the answer and the checkpoint of their definitions (S8, S17.3), compared with those that the corpus has.
+use Prim.Native.Nat.{ℕ, _+_}
 use mathlib.Core.Bool.{Bool, cond, _&&_}
 use mathlib.Core.List.{List}
 use mathlib.Core.Path.{_≡_}
@@ -15,7 +15,8 @@ use Rattle.cases.specs.declared.walking.Compared.{Compared}
 use Rattle.cases.specs.declared.walking.Told.{Told}
 use Rattle.vectors.specs.Answers.{plain, expected, same-answer}
 use Rattle.vectors.specs.Comparing.{first-wrong}
-use Rattle.vectors.specs.Corpus.{four-bytes, eight-bytes}
+use Rattle.vectors.specs.Corpus.{four-bytes, eight-bytes, input-of}
+use Rattle.cases.specs.Assuming.{assumptions-of}
 
 -- how the corpus writes what an answer says
 abbrev pub kind-byte : AnswerKind → ℕ
@@ -57,7 +58,7 @@ origin s at last =
 -- the vector's call
 unfoldable pub called : List ℕ → Vector → Checkpoint → Result
 called s v last =
-    walk-call (take (v .end - v .start) (drop (v .start) s)) (origin s (v .end + 72) last) (four-bytes s (v .end + 123))
+    walk-call (input-of s v) (assumptions-of s v) (origin s (v .end + 72) last) (four-bytes s (v .end + 123))
 
 -- where the checkpoint first has another byte than stands in s from an offset on; its size if nowhere
 unfoldable pub checkpoint-wrong : List ℕ → ℕ → Checkpoint → ℕ

@@ -1,8 +1,8 @@
 // The vectors of the conversions: each answer and the lent buffer compared with the expected ones.
-ghost use Prim.Native.Nat.{_+_, _≤_};
 ghost use mathlib.Core.Path.{_≡_};
-ghost use lib.ListN.{length, replicate};
+ghost use lib.ListN.{replicate};
 ghost use Rattle.dimacs.specs.Convert.{converted-values};
+ghost use Rattle.vectors.specs.Corpus.{Lies};
 ghost use Rattle.cases.specs.Converting.{convert-written, Converts, converts, convert-agrees};
 use dimacs::Converted;
 use vectors::answers::Answer;
@@ -42,24 +42,19 @@ fn convert(reads: bool, given: &[u8], buffer: &mut [u8]) -> Answer
     }
 }
 
-// Whether the conversion of the bytes up to `middle` gives the expected answer and leaves, in a filled buffer, the bytes from there on
-// before the fill; a difference is printed.
-fn compare_converted(
-    bytes: &[u8],
-    v: Vector,
-    middle: usize,
-    reads: bool,
-    fill: u8,
-    buffer: &mut [u8],
-) -> bool
-    requires { ⌜ (v .start ≤ middle) × (middle ≤ v .end) × (v .end + 6 ≤ length (now bytes)) ⌝ }
-    ensures { λ r. ⌜ r ≡ converts reads (now (bytes .entry)) v middle fill (now (buffer .entry)) ⌝ }
+// Whether the conversion gives the expected answer and leaves, in a filled buffer, the expected bytes before the fill; a difference is
+// printed.
+fn compare_converted(bytes: &[u8], v: Vector, reads: bool, fill: u8, buffer: &mut [u8]) -> bool
+    requires { ⌜ Lies (now bytes) v 9 ⌝ }
+    ensures { λ r. ⌜ r ≡ converts reads (now (bytes .entry)) v fill (now (buffer .entry)) ⌝ }
 {
     let start = v.start;
-    let kept = v.end - middle;
+    let middle = v.middle;
+    let output = v.output;
+    let kept = v.end - output;
     let wanted = expected_at(bytes, v.end);
     let got = convert(reads, &bytes[start..middle], buffer);
-    let wrong = first_wrong(bytes, middle, kept, fill, buffer);
+    let wrong = first_wrong(bytes, output, kept, fill, buffer);
     if agree(wanted, got, wrong, buffer.len()) {
         return true;
     }
@@ -67,7 +62,7 @@ fn compare_converted(
     if wrong < buffer.len() {
         report::wrong_byte(
             wrong,
-            wanted_byte(bytes, middle, kept, fill, wrong),
+            wanted_byte(bytes, output, kept, fill, wrong),
             buffer[wrong],
         );
     }
@@ -80,19 +75,14 @@ fn filled(fill: u8) -> [u8; 65536]
     [fill; 65536]
 }
 
-// Whether the conversion gives what the vector expects; a vector that has no whole input differs.
+// Whether the conversion gives what the vector expects.
 pub fn convert_vector(bytes: &[u8], v: Vector, reads: bool) -> bool
-    requires { ⌜ (v .start ≤ v .end) × (v .end + 11 ≤ length (now bytes)) ⌝ }
+    requires { ⌜ Lies (now bytes) v 9 ⌝ }
     ensures { λ r. ⌜ r ≡ convert-agrees reads (now (bytes .entry)) v ⌝ }
 {
     let end = v.end;
-    let middle = v.start + two_bytes(bytes, end + 6) as usize;
-    if end < middle {
-        report::no_input(v.number);
-        return false;
-    }
-    let size = two_bytes(bytes, end + 8) as usize;
-    let fill = bytes[end + 10];
+    let size = two_bytes(bytes, end + 6) as usize;
+    let fill = bytes[end + 8];
     let mut array = filled(fill);
-    compare_converted(bytes, v, middle, reads, fill, &mut array[..size])
+    compare_converted(bytes, v, reads, fill, &mut array[..size])
 }

@@ -1,9 +1,15 @@
 // The vectors of judge: each answer and the lent buffer compared with the expected ones.
-ghost use Prim.Native.Nat.{_+_, _≤_};
+ghost use Prim.Native.Nat.{_≤_};
+ghost use mathlib.Core.List.{List};
 ghost use mathlib.Core.Path.{_≡_};
-ghost use lib.ListN.{length, replicate};
+ghost use lib.ListN.{replicate};
+ghost use Rattle.assumptions.specs.declared.Assumption.{Assumption};
+ghost use Rattle.assumptions.specs.InnerAssumed.{Given};
 ghost use Rattle.matched.specs.Judge.{judgement-values};
+ghost use Rattle.vectors.specs.Corpus.{Lies};
 ghost use Rattle.cases.specs.Judging.{judge-written, judge-filled, judge-agrees};
+use crate::assuming::assumed;
+use assumptions::Assumptions;
 use matched::Judgement;
 use vectors::answers::Answer;
 use vectors::answers::expected_at;
@@ -42,30 +48,33 @@ fn filled(fill: u8) -> [u8; 256]
     [fill; 256]
 }
 
-// Judges an input, with a filled buffer of the given size.
-fn judge_filled(input: &[u8], size: usize, fill: u8) -> Judged
-    requires { ⌜ size ≤ 256 ⌝ }
-    ensures { λ r. ⌜ r ≡ judge-filled (now (input .entry)) size fill ⌝ }
+// Judges an input under assumptions, with a filled buffer of the given size.
+fn judge_filled(input: &[u8], u: Assumptions, size: usize, fill: u8) -> Judged
+    requires { ⌜ (size ≤ 256) × ((us : List Assumption) × Given (now input) us u) ⌝ }
+    ensures { λ r. ⌜ ((us : List Assumption) → Given (now (input .entry)) us u → r ≡ judge-filled (now (input .entry)) us size fill) ⌝ }
 {
     let mut array = filled(fill);
-    let answer = answer_of(matched::find_matching(input, &mut array[..size]));
+    let answer = answer_of(matched::find_matching_under(input, u, &mut array[..size]));
     Judged { answer, array }
 }
 
 // Whether judge gives the expected answer and leaves the expected bytes; a difference is printed.
 pub fn judge_vector(bytes: &[u8], v: Vector) -> bool
-    requires { ⌜ (v .start ≤ v .end) × (v .end + 104 ≤ length (now bytes)) ⌝ }
+    requires { ⌜ Lies (now bytes) v 104 ⌝ }
     ensures { λ r. ⌜ r ≡ judge-agrees (now (bytes .entry)) v ⌝ }
 {
     let start = v.start;
+    let middle = v.middle;
     let end = v.end;
     let wanted = expected_at(bytes, end);
     let size = wide(bytes[end + 6]) as usize;
     let fill = bytes[end + 7];
-    let got = judge_filled(&bytes[start..end], size, fill);
+    let at = end + 8;
+    let u = assumed(bytes, v);
+    let got = judge_filled(&bytes[start..middle], u, size, fill);
     let answer = got.answer;
     let array = got.array;
-    let wrong = first_wrong(bytes, end + 8, limits::MAX_CLAUSES, fill, &array);
+    let wrong = first_wrong(bytes, at, limits::MAX_CLAUSES, fill, &array);
     if agree(wanted, answer, wrong, 256) {
         return true;
     }
@@ -73,7 +82,7 @@ pub fn judge_vector(bytes: &[u8], v: Vector) -> bool
     if wrong < 256 {
         report::wrong_byte(
             wrong,
-            wanted_byte(bytes, end + 8, limits::MAX_CLAUSES, fill, wrong),
+            wanted_byte(bytes, at, limits::MAX_CLAUSES, fill, wrong),
             array[wrong],
         );
     }

@@ -3,27 +3,33 @@
 // For each act it prints how many vectors there are and how many differ from what they expect, after lines for each difference and
 // each file that breaks off. An act has as many files as its vectors need: one that is not there adds no vector, which the counts show.
 //
-// A file holds vectors of one act, at most 65,536 bytes of them. Numbers are little-endian. A vector is its number
-// (2 bytes), the length of its input (2 bytes), its input, the expected answer and the act's own fields. An answer is what it
-// says (1 byte: 0 no, 1 yes, 2 refused, 3 matched, 4 model, 5 spent, 6 ended, 10 written), the refusal's number (1 byte) and its
-// place (2 bytes), and the numbers of variables and of clauses of a matched formula (1 byte each). The own fields:
+// A file holds vectors of one act, at most 65,536 bytes of them. Numbers are little-endian. A vector is its number (2 bytes), the lengths
+// of its input, of its assumptions and of the bytes that it expects (2 bytes each), these three, the expected answer and the act's own
+// fields. An assumption is two bytes: the variable, and 1 for true or 0 for false. An answer is what it says (1 byte: 0 no, 1 yes,
+// 2 refused, 3 matched, 4 model, 5 spent, 6 ended, 10 written), the refusal's number (1 byte) and its place (2 bytes), and the numbers of
+// variables and of clauses of a matched formula (1 byte each). The own fields:
 // - check: the assignment (8 bytes).
 // - judge: the length of the lent buffer (1 byte), the fill (1 byte) and the first 96 bytes after the call. The buffer is the first
 //   bytes of an array of 256, which has the fill everywhere before the call and from byte 96 on after it.
-// - read_text, write_text: the length of what is converted, that of the lent buffer (2 bytes each) and the fill (1 byte). The input holds
-//   what is converted and behind it the expected bytes. The buffer has the fill everywhere before the call, and behind these bytes after
-//   it. An answer that says written has their number as the place.
+// - read_text, write_text: the length of the lent buffer (2 bytes) and the fill (1 byte). The buffer has the fill everywhere before the
+//   call, and behind the expected bytes after it. An answer that says written has their number as the place.
 // - start: the start checkpoint (50 bytes: mode, length, 48 bytes), and no expected answer.
 // - walk: the expected model (8 bytes), steps, expansions (4 bytes each) and checkpoint; which checkpoint the call gets (1 byte: 0
 //   the one that follows, 1 the start checkpoint, 2 the one that the call of the vector before it returned), a checkpoint, and the
 //   budget (4 bytes). A chain is a vector for each of its calls.
-// - printed: none, and no expected answer. The input holds the length of what is printed from (2 bytes), these bytes, and the
-//   expected text.
+// - listing: the expected model, steps and expansions; where the call goes on from (1 byte: 1 the start checkpoint, 2 the one that the call
+//   of the vector before it returned). The budget is ample. A listing is a vector for each of its calls.
+// - list: as walk, and in place of the budget the room of the lent slice and the fill (1 byte each). The expected bytes are the models, 8
+//   bytes each. The slice is the first places of an array of 256, which has the fill everywhere before the call and behind the models after
+//   it. The answer and the checkpoint are the last call's, with steps and expansions of 0.
+// - printed: none, and no expected answer. The expected bytes are the text.
 // - formulas: none. The answer says that the walk was not compared with a trial of all assignments (7), or that both have the same
 //   models (8), with their number as the place.
 // tools/corpus.py writes the files.
+mod assuming;
 mod converting;
 mod judging;
+mod listing;
 mod prints;
 mod runs;
 mod trying;
@@ -84,6 +90,7 @@ fn main() {
     run_alone(b"check_edges", Act::Check);
     run_files(b"judge", Act::Judge, b"vectors");
     run_alone(b"judge_edges", Act::Judge);
+    run_alone(b"judge_assumed", Act::Judge);
     run_files(b"read_text", Act::ReadText, b"vectors");
     run_alone(b"read_text_edges", Act::ReadText);
     run_files(b"write_text", Act::WriteText, b"vectors");
@@ -91,8 +98,13 @@ fn main() {
     run_alone(b"start", Act::Start);
     run_files(b"walk", Act::Walk, b"vectors");
     run_alone(b"walk_edges", Act::Walk);
+    run_alone(b"walk_assumed", Act::Walk);
     run_files(b"chain", Act::Walk, b"calls");
+    run_files(b"listing", Act::Listing, b"calls");
+    run_files(b"list", Act::Models, b"vectors");
+    run_alone(b"list_edges", Act::Models);
     run_files(b"printed", Act::Print, b"vectors");
     run_alone(b"printed_edges", Act::Print);
     run_files(b"formulas", Act::Compare, b"vectors");
+    run_alone(b"formulas_edges", Act::Compare);
 }

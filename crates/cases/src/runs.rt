@@ -1,12 +1,14 @@
 // The vectors of a file, each by its act.
-ghost use Prim.Native.Nat.{_+_, _≤_};
 ghost use lib.ListN.{length};
 ghost use Rattle.enumeration.specs.Values.{checkpoint-values};
+ghost use Rattle.vectors.specs.Corpus.{Lies};
 ghost use Rattle.cases.specs.Runs.{size-of, FieldsOf, act-agrees, leaves, Ran};
 ghost use Rattle.vectors.specs.Totals.{RoomFor};
 ghost use Rattle.cases.specs.Walking.{Gives};
 use crate::converting::convert_vector;
 use crate::judging::judge_vector;
+use crate::listing::list_vector;
+use crate::listing::listing_vector;
 use crate::prints::print_vector;
 use crate::trying::compare_vector;
 use crate::walking::CHECKPOINT_SIZE;
@@ -28,6 +30,8 @@ pub enum Act {
     WriteText,
     Start,
     Walk,
+    Listing,
+    Models,
     Compare,
     Print,
 }
@@ -45,10 +49,12 @@ fn fields_of(act: Act) -> usize
     match act {
         Act::Check => 14,
         Act::Judge => 104,
-        Act::ReadText => 11,
-        Act::WriteText => 11,
+        Act::ReadText => 9,
+        Act::WriteText => 9,
         Act::Start => CHECKPOINT_SIZE,
         Act::Walk => 127,
+        Act::Listing => 23,
+        Act::Models => 125,
         Act::Compare => 6,
         Act::Print => 0,
     }
@@ -56,7 +62,7 @@ fn fields_of(act: Act) -> usize
 
 // Whether the act gives what the vector expects, and the checkpoint of the last walk call; a difference is printed.
 fn run_vector(bytes: &[u8], v: Vector, act: Act, last: Checkpoint) -> Compared
-    requires { ⌜ (v .start ≤ v .end) × (v .end + size-of act ≤ length (now bytes)) ⌝ }
+    requires { ⌜ Lies (now bytes) v (size-of act) ⌝ }
     ensures { λ r. ⌜ Gives (act-agrees act (now (bytes .entry)) v (checkpoint-values last)) (leaves act (now (bytes .entry)) v (checkpoint-values last)) r ⌝ }
 {
     match act {
@@ -81,6 +87,8 @@ fn run_vector(bytes: &[u8], v: Vector, act: Act, last: Checkpoint) -> Compared
             last,
         },
         Act::Walk => walk_vector(bytes, v, last),
+        Act::Listing => listing_vector(bytes, v, last),
+        Act::Models => list_vector(bytes, v, last),
         Act::Compare => Compared {
             agrees: compare_vector(bytes, v),
             last,

@@ -5,7 +5,11 @@ ghost use mathlib.Core.Path.{_≡_};
 ghost use lib.ListN.{length, getD, take, drop};
 ghost use Rattle.limits.specs.Limits.{max-variables};
 ghost use Rattle.enumeration.specs.Values.{checkpoint-values, walked-values};
+ghost use Rattle.walk.specs.WalkCall.{walk-call};
+ghost use Rattle.vectors.specs.Corpus.{input-of, Lies};
+ghost use Rattle.cases.specs.Assuming.{assumptions-of};
 ghost use Rattle.cases.specs.Walking.{walk-written, expected-call, stored-checkpoint-size, walk-alike, checkpoint-at, origin, called, checkpoint-wrong, start-agrees, walk-agrees, walk-leaves, Gives};
+use crate::assuming::assumed;
 use enumeration::Checkpoint;
 use enumeration::Walked;
 use vectors::answers::Answer;
@@ -36,7 +40,7 @@ pub struct Compared {
     pub last: Checkpoint,
 }
 
-fn told_of(w: Walked) -> Told
+pub fn told_of(w: Walked) -> Told
     ensures { λ r. ⌜ r ≡ walk-written (walked-values w) ⌝ }
 {
     let answer = w.answer;
@@ -69,7 +73,7 @@ fn told_of(w: Walked) -> Told
 }
 
 // What a call must give, at an offset.
-fn expected_call(bytes: &[u8], at: usize) -> Told
+pub fn expected_call(bytes: &[u8], at: usize) -> Told
     requires { ⌜ at + 22 ≤ length (now bytes) ⌝ }
     ensures { λ r. ⌜ r ≡ expected-call (now (bytes .entry)) at ⌝ }
 {
@@ -82,7 +86,7 @@ fn expected_call(bytes: &[u8], at: usize) -> Told
 }
 
 // The checkpoint is wrong nowhere, and all else is the same.
-fn agree(wanted: Told, got: Told, wrong: usize) -> bool
+pub fn agree(wanted: Told, got: Told, wrong: usize) -> bool
     ensures { λ r. ⌜ r ≡ walk-alike wanted got wrong ⌝ }
 {
     if wrong != CHECKPOINT_SIZE {
@@ -125,7 +129,7 @@ fn checkpoint_at(bytes: &[u8], at: usize) -> Checkpoint
 }
 
 // The checkpoint that the call gets, by the byte at an offset: 0 the one that follows, 1 the start checkpoint, else the last.
-fn call_origin(bytes: &[u8], at: usize, last: Checkpoint) -> Checkpoint
+pub fn call_origin(bytes: &[u8], at: usize, last: Checkpoint) -> Checkpoint
     requires { ⌜ at + 1 + stored-checkpoint-size ≤ length (now bytes) ⌝ }
     ensures { λ r. ⌜ checkpoint-values r ≡ origin (now (bytes .entry)) at (checkpoint-values last) ⌝ }
 {
@@ -139,16 +143,26 @@ fn call_origin(bytes: &[u8], at: usize, last: Checkpoint) -> Checkpoint
     last
 }
 
-// The vector's call.
-fn call(bytes: &[u8], v: Vector, last: Checkpoint) -> Walked
-    requires { ⌜ (v .start ≤ v .end) × (v .end + 127 ≤ length (now bytes)) ⌝ }
-    ensures { λ r. ⌜ walked-values r ≡ called (now (bytes .entry)) v (checkpoint-values last) ⌝ }
+// A call on the vector's input under its assumptions.
+pub fn call_from(bytes: &[u8], v: Vector, from: Checkpoint, budget: u32) -> Walked
+    requires { ⌜ (v .start ≤ v .middle) × (v .middle ≤ v .output) × (v .output ≤ length (now bytes)) ⌝ }
+    ensures { λ r. ⌜ walked-values r ≡ walk-call (input-of (now (bytes .entry)) v) (assumptions-of (now (bytes .entry)) v) (checkpoint-values from) budget ⌝ }
 {
     let start = v.start;
+    let middle = v.middle;
+    let u = assumed(bytes, v);
+    enumeration::walk_under(&bytes[start..middle], u, from, budget)
+}
+
+// The vector's call.
+fn call(bytes: &[u8], v: Vector, last: Checkpoint) -> Walked
+    requires { ⌜ Lies (now bytes) v 127 ⌝ }
+    ensures { λ r. ⌜ walked-values r ≡ called (now (bytes .entry)) v (checkpoint-values last) ⌝ }
+{
     let end = v.end;
     let from = call_origin(bytes, end + 72, last);
     let budget = four_bytes(bytes, end + 123) as u32;
-    enumeration::walk(&bytes[start..end], from, budget)
+    call_from(bytes, v, from, budget)
 }
 
 // The byte of a checkpoint at i: its mode, its length, its trail.
@@ -167,7 +181,7 @@ fn checkpoint_byte(c: Checkpoint, i: usize) -> u8
 }
 
 // Where the checkpoint first has another byte than stands in the file from an offset on; its size if nowhere.
-fn checkpoint_wrong(bytes: &[u8], at: usize, c: Checkpoint) -> usize
+pub fn checkpoint_wrong(bytes: &[u8], at: usize, c: Checkpoint) -> usize
     requires { ⌜ at + stored-checkpoint-size ≤ length (now bytes) ⌝ }
     ensures { λ r. ⌜ r ≡ checkpoint-wrong (now (bytes .entry)) at (checkpoint-values c) ⌝ }
 {
@@ -181,12 +195,21 @@ fn checkpoint_wrong(bytes: &[u8], at: usize, c: Checkpoint) -> usize
     2 + first_wrong(bytes, at + 2, limits::MAX_VARIABLES, 0, &trail)
 }
 
-fn report_byte(bytes: &[u8], at: usize, c: Checkpoint, wrong: usize)
+pub fn report_byte(bytes: &[u8], at: usize, c: Checkpoint, wrong: usize)
     requires { ⌜ at + stored-checkpoint-size ≤ length (now bytes) ⌝ }
 {
     if wrong < CHECKPOINT_SIZE {
         report::wrong_byte(wrong, bytes[at + wrong], checkpoint_byte(c, wrong));
     }
+}
+
+pub fn report_call(vector: u64, wanted: Told, got: Told) {
+    let wanted_answer = wanted.answer;
+    let answer = got.answer;
+    report::difference(vector, wanted_answer, answer);
+    report::numbers(b"model", wanted.model, got.model);
+    report::numbers(b"steps", wanted.steps, got.steps);
+    report::numbers(b"expansions", wanted.expansions, got.expansions);
 }
 
 // Whether the start checkpoint is the expected one; a difference is printed.
@@ -207,7 +230,7 @@ pub fn start_vector(bytes: &[u8], v: Vector) -> bool
 
 // Whether the vector's call gives what it must, and the checkpoint that it returned; a difference is printed.
 pub fn walk_vector(bytes: &[u8], v: Vector, last: Checkpoint) -> Compared
-    requires { ⌜ (v .start ≤ v .end) × (v .end + 127 ≤ length (now bytes)) ⌝ }
+    requires { ⌜ Lies (now bytes) v 127 ⌝ }
     ensures { λ r. ⌜ Gives (walk-agrees (now (bytes .entry)) v (checkpoint-values last)) (walk-leaves (now (bytes .entry)) v (checkpoint-values last)) r ⌝ }
 {
     let end = v.end;
@@ -222,12 +245,7 @@ pub fn walk_vector(bytes: &[u8], v: Vector, last: Checkpoint) -> Compared
             last: returned,
         };
     }
-    let wanted_answer = wanted.answer;
-    let answer = got.answer;
-    report::difference(v.number, wanted_answer, answer);
-    report::numbers(b"model", wanted.model, got.model);
-    report::numbers(b"steps", wanted.steps, got.steps);
-    report::numbers(b"expansions", wanted.expansions, got.expansions);
+    report_call(v.number, wanted, got);
     report_byte(bytes, end + 22, returned, wrong);
     Compared {
         agrees: false,

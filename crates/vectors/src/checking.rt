@@ -1,9 +1,8 @@
 // The vectors of check: each answer compared with the expected one.
-ghost use Prim.Native.Nat.{_+_, _≤_};
 ghost use mathlib.Core.Path.{_≡_};
-ghost use lib.ListN.{length};
 ghost use Rattle.formula.specs.Check.{verdict-values};
 ghost use Rattle.vectors.specs.Checking.{check-written, check-agrees};
+ghost use Rattle.vectors.specs.Corpus.{Lies};
 use crate::answers::Answer;
 use crate::answers::bare;
 use crate::answers::equal;
@@ -26,13 +25,14 @@ fn answer_of(v: Verdict) -> Answer
 
 // Whether check gives the expected answer; a difference is printed.
 pub fn check_vector(bytes: &[u8], v: Vector) -> bool
-    requires { ⌜ (v .start ≤ v .end) × (v .end + 14 ≤ length (now bytes)) ⌝ }
+    requires { ⌜ Lies (now bytes) v 14 ⌝ }
     ensures { λ r. ⌜ r ≡ check-agrees (now (bytes .entry)) v ⌝ }
 {
     let start = v.start;
+    let middle = v.middle;
     let end = v.end;
     let wanted = expected_at(bytes, end);
-    let got = answer_of(formula::check(&bytes[start..end], eight_bytes(bytes, end + 6)));
+    let got = answer_of(formula::check(&bytes[start..middle], eight_bytes(bytes, end + 6)));
     if equal(wanted, got) {
         return true;
     }

@@ -4,10 +4,12 @@ ghost use mathlib.Core.Path.{_≡_};
 ghost use lib.ListN.{length};
 ghost use Rattle.vectors.specs.Corpus.{two-bytes, four-bytes, eight-bytes, Read, framed};
 
-// A vector: its number, where its input starts, and where the input ends and the fields start.
+// A vector: its number, and where its parts start: its input, its assumptions, the bytes that it expects, and its fields.
 pub struct Vector {
     pub number: u64,
     pub start: usize,
+    pub middle: usize,
+    pub output: usize,
     pub end: usize,
 }
 
@@ -50,16 +52,20 @@ pub fn frame(bytes: &[u8], at: usize, fields: usize) -> Framed
     ensures { λ r. ⌜ r ≡ framed (now (bytes .entry)) at fields ⌝ }
 {
     let left = bytes.len() - at;
-    if left < 4 {
+    if left < 8 {
         return Framed::Broken;
     }
-    let size = two_bytes(bytes, at + 2) as usize;
-    if left < 4 + size + fields {
+    let input = two_bytes(bytes, at + 2) as usize;
+    let assumptions = two_bytes(bytes, at + 4) as usize;
+    let expected = two_bytes(bytes, at + 6) as usize;
+    if left < 8 + input + assumptions + expected + fields {
         return Framed::Broken;
     }
     Framed::Whole(Vector {
         number: two_bytes(bytes, at),
-        start: at + 4,
-        end: at + 4 + size,
+        start: at + 8,
+        middle: at + 8 + input,
+        output: at + 8 + input + assumptions,
+        end: at + 8 + input + assumptions + expected,
     })
 }

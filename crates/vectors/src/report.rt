@@ -71,13 +71,6 @@ pub fn other_text(vector: u64, at: usize, wanted: &[u8], got: &[u8]) {
     text(got);
 }
 
-// A vector of the printed walk that breaks off within its input.
-pub fn no_input(vector: u64) {
-    text(b"vector ");
-    number(vector);
-    text(b": no whole input\n");
-}
-
 // One of the vector's numbers.
 pub fn numbers(name: &[u8], wanted: u64, got: u64) {
     text(b"  ");

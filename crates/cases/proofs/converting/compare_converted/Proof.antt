@@ -20,10 +20,10 @@ entry c = expecting c .before .before .before .before
 told :
     (c : tie.After-agree) →
     let a = entry c .args in
-    c .agree .result ≡ converts (a .reads) (a .bytes .now) (a .v) (a .middle) (a .fill) (a .buffer .now)
+    c .agree .result ≡ converts (a .reads) (a .bytes .now) (a .v) (a .fill) (a .buffer .now)
 told c =
     c .agree .ensures
-    ∙ compared _ _ _ _ _ _ _ _ _ _
+    ∙ compared _ _ _ _ _ _ _ _ _
     (expecting c .expected-at .ensures)
     (converting c .convert .ensures)
     (c .before .first-wrong .ensures .place)

@@ -14,23 +14,23 @@ filled-requires c κs = search needs
 array-borrow-prefix-array : tie.Need-array-borrow-prefix-array
 array-borrow-prefix-array c = search needs
 
-slice-aggregate-find-matching : tie.Need-slice-aggregate-find-matching
-slice-aggregate-find-matching c =
+slice-aggregate-find-matching-under : tie.Need-slice-aggregate-find-matching-under
+slice-aggregate-find-matching-under c =
     let l : length (c .before .filled .result) ≡ 256 =
     rw (c .before .filled .ensures) (length-replicate 256 (c .before .before .before .args .fill)) in
     sym (length-take-le _ _ (omega arith))
 
-find-matching-requires : tie.Need-find-matching-requires
-find-matching-requires c κs = search needs
+find-matching-under-requires : tie.Need-find-matching-under-requires
+find-matching-under-requires c κs = c .before .before .before .pre .1
 
 answer-of-requires : tie.Need-answer-of-requires
 answer-of-requires c κs = search needs
 
 returns : tie.Need-returns
-returns c =
+returns c us g =
     let m = c .before .before in
-    judge-filled-of _ _ _ _ _ _ _ (m .before .before .filled .ensures) (c .answer-of .ensures)
-    (m .find-matching .ensures .0) (m .find-matching .ensures .1)
+    let j = m .find-matching-under .ensures us g in
+    judge-filled-of _ us _ _ _ _ _ _ (m .before .before .filled .ensures) (c .answer-of .ensures) (j .0) (j .1)
 
 pub judge-filled-spec : {M : Type 1} → statement M
 judge-filled-spec =
@@ -38,7 +38,7 @@ judge-filled-spec =
     (tie.spec
     filled-requires
     array-borrow-prefix-array
-    slice-aggregate-find-matching
-    find-matching-requires
+    slice-aggregate-find-matching-under
+    find-matching-under-requires
     answer-of-requires
     returns)

@@ -11,7 +11,7 @@ abbrev judging : tie.After-agree → tie.After-judge-filled
 judging c = c .before .before .before .before .before
 
 abbrev sizing : tie.After-agree → tie.After-wide
-sizing c = judging c .before .before .before
+sizing c = judging c .before .before .before .before
 
 abbrev expecting : tie.After-agree → tie.After-expected-at
 expecting c = sizing c .before .before
@@ -28,7 +28,7 @@ told c =
     ∙ compared _ _ _ _ _ _
     (expecting c .expected-at .ensures)
     (sizing c .wide .ensures .value)
-    (judging c .judge-filled .ensures)
+    (judging c .judge-filled .ensures _ (judging c .before .before .assumed .ensures))
     (c .before .first-wrong .ensures .place)
 
 expected-at-requires : tie.Need-expected-at-requires
@@ -49,6 +49,12 @@ add-fill c = search needs
 shared-slice-read-fill : tie.Need-shared-slice-read-fill
 shared-slice-read-fill c = search needs
 
+add-at : tie.Need-add-at
+add-at c = search needs
+
+assumed-requires : tie.Need-assumed-requires
+assumed-requires c κs = search needs
+
 sub-judge-filled : tie.Need-sub-judge-filled
 sub-judge-filled c = search needs
 
@@ -59,10 +65,7 @@ part-judge-filled-end : tie.Need-part-judge-filled-end
 part-judge-filled-end c = search needs
 
 judge-filled-requires : tie.Need-judge-filled-requires
-judge-filled-requires c κs = search needs
-
-add-first-wrong : tie.Need-add-first-wrong
-add-first-wrong c = search needs
+judge-filled-requires c κs = (search needs, (_, c .before .assumed .ensures))
 
 slice-aggregate-first-wrong : tie.Need-slice-aggregate-first-wrong
 slice-aggregate-first-wrong c = search needs
@@ -78,9 +81,6 @@ returns c = sym (c .if1 .taken) ∙ told (c .before)
 
 difference-requires : tie.Need-difference-requires
 difference-requires c κs = search needs
-
-add-wanted-byte : tie.Need-add-wanted-byte
-add-wanted-byte c = search needs
 
 wanted-byte-requires : tie.Need-wanted-byte-requires
 wanted-byte-requires c κs = search needs
@@ -107,17 +107,17 @@ judge-vector-spec =
     wide-requires
     add-fill
     shared-slice-read-fill
+    add-at
+    assumed-requires
     sub-judge-filled
     part-judge-filled-start
     part-judge-filled-end
     judge-filled-requires
-    add-first-wrong
     slice-aggregate-first-wrong
     first-wrong-requires
     agree-requires
     returns
     difference-requires
-    add-wanted-byte
     wanted-byte-requires
     array-read-wrong-byte
     wrong-byte-requires

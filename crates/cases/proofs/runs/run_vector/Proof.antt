@@ -1,6 +1,5 @@
 -- `run_vector`: by the act.
 use mathlib.Core.Path.{refl}
-use native.Mathlib.Omega.{arith}
 use borrow.Author.Needs.{needs}
 use Rattle.cases.proofs.runs.run_vector.Statement.{statement}
 use Rattle.cases.proofs.runs.run_vector.Tie as tie
@@ -33,7 +32,7 @@ enum-told-5 : tie.Need-enum-told-5
 enum-told-5 c = search needs
 
 start-vector-requires : tie.Need-start-vector-requires
-start-vector-requires c κs = rw (c .enum-told5 .given .1) at (c .before .before .before .pre .1)
+start-vector-requires c κs = (rw (c .enum-told5 .given .1) at (c .before .before .before .pre)) .whole
 
 enum-told-6 : tie.Need-enum-told-6
 enum-told-6 c = search needs
@@ -44,15 +43,26 @@ walk-vector-requires c κs = rw (c .enum-told6 .given .1) at (c .before .before 
 enum-told-7 : tie.Need-enum-told-7
 enum-told-7 c = search needs
 
-compare-vector-requires : tie.Need-compare-vector-requires
-compare-vector-requires c κs = rw (c .enum-told7 .given .1) at (c .before .before .before .pre)
+listing-vector-requires : tie.Need-listing-vector-requires
+listing-vector-requires c κs = rw (c .enum-told7 .given .1) at (c .before .before .before .pre)
 
 enum-told-8 : tie.Need-enum-told-8
 enum-told-8 c = search needs
 
+list-vector-requires : tie.Need-list-vector-requires
+list-vector-requires c κs = rw (c .enum-told8 .given .1) at (c .before .before .before .pre)
+
+enum-told-9 : tie.Need-enum-told-9
+enum-told-9 c = search needs
+
+compare-vector-requires : tie.Need-compare-vector-requires
+compare-vector-requires c κs = rw (c .enum-told9 .given .1) at (c .before .before .before .pre)
+
+enum-told-10 : tie.Need-enum-told-10
+enum-told-10 c = search needs
+
 print-vector-requires : tie.Need-print-vector-requires
-print-vector-requires c κs =
-    let p = rw (c .enum-told8 .given .1) at (c .before .before .before .pre) in (p .0, omega arith)
+print-vector-requires c κs = rw (c .enum-told10 .given .1) at (c .before .before .before .pre)
 
 returns : tie.Need-returns
 returns c = rw (c .before .enum-told .given .1) (record { agrees = c .check-vector .ensures; leaves = refl })
@@ -73,10 +83,16 @@ returns-6 : tie.Need-returns-6
 returns-6 c = rw (c .before .enum-told6 .given .1) (c .walk-vector .ensures)
 
 returns-7 : tie.Need-returns-7
-returns-7 c = rw (c .before .enum-told7 .given .1) (record { agrees = c .compare-vector .ensures; leaves = refl })
+returns-7 c = rw (c .before .enum-told7 .given .1) (c .listing-vector .ensures)
 
 returns-8 : tie.Need-returns-8
-returns-8 c = rw (c .before .enum-told8 .given .1) (record { agrees = c .print-vector .ensures; leaves = refl })
+returns-8 c = rw (c .before .enum-told8 .given .1) (c .list-vector .ensures)
+
+returns-9 : tie.Need-returns-9
+returns-9 c = rw (c .before .enum-told9 .given .1) (record { agrees = c .compare-vector .ensures; leaves = refl })
+
+returns-10 : tie.Need-returns-10
+returns-10 c = rw (c .before .enum-told10 .given .1) (record { agrees = c .print-vector .ensures; leaves = refl })
 
 pub run-vector-spec : {M : Type 1} → statement M
 run-vector-spec =
@@ -95,8 +111,12 @@ run-vector-spec =
     enum-told-6
     walk-vector-requires
     enum-told-7
-    compare-vector-requires
+    listing-vector-requires
     enum-told-8
+    list-vector-requires
+    enum-told-9
+    compare-vector-requires
+    enum-told-10
     print-vector-requires
     returns
     returns-2
@@ -105,4 +125,6 @@ run-vector-spec =
     returns-5
     returns-6
     returns-7
-    returns-8)
+    returns-8
+    returns-9
+    returns-10)

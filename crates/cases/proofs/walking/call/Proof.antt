@@ -19,24 +19,12 @@ four-bytes-requires c κs = search needs
 cast-budget : tie.Need-cast-budget
 cast-budget c = search needs
 
-sub-walk : tie.Need-sub-walk
-sub-walk c = search needs
-
-part-walk-start : tie.Need-part-walk-start
-part-walk-start c = search needs
-
-part-walk-end : tie.Need-part-walk-end
-part-walk-end c = search needs
-
-walk-requires : tie.Need-walk-requires
-walk-requires c κs = search needs
+call-from-requires : tie.Need-call-from-requires
+call-from-requires c κs = search needs
 
 returns : tie.Need-returns
 returns c =
-    calling _ _ _ _ _ _
-    (c .before .before .before .call-origin .ensures)
-    (c .before .before .four-bytes .ensures .value)
-    (c .walk .ensures)
+    calling _ _ _ _ _ _ (c .before .before .call-origin .ensures) (c .before .four-bytes .ensures .value) (c .call-from .ensures)
 
 pub call-spec : {M : Type 1} → statement M
 call-spec =
@@ -47,8 +35,5 @@ call-spec =
     add-four-bytes
     four-bytes-requires
     cast-budget
-    sub-walk
-    part-walk-start
-    part-walk-end
-    walk-requires
+    call-from-requires
     returns)

@@ -59,26 +59,8 @@ agree-requires c κs = search needs
 returns : tie.Need-returns
 returns c = record { agrees = sym (c .if1 .taken) ∙ told (c .before); leaves = left (c .before) }
 
-difference-requires : tie.Need-difference-requires
-difference-requires c κs = search needs
-
-slice-aggregate-numbers : tie.Need-slice-aggregate-numbers
-slice-aggregate-numbers c = search needs
-
-numbers-requires : tie.Need-numbers-requires
-numbers-requires c κs = search needs
-
-slice-aggregate-numbers-2 : tie.Need-slice-aggregate-numbers-2
-slice-aggregate-numbers-2 c = search needs
-
-numbers-requires-2 : tie.Need-numbers-requires-2
-numbers-requires-2 c κs = search needs
-
-slice-aggregate-numbers-3 : tie.Need-slice-aggregate-numbers-3
-slice-aggregate-numbers-3 c = search needs
-
-numbers-requires-3 : tie.Need-numbers-requires-3
-numbers-requires-3 c κs = search needs
+report-call-requires : tie.Need-report-call-requires
+report-call-requires c κs = search needs
 
 add-report-byte : tie.Need-add-report-byte
 add-report-byte c = search needs
@@ -87,10 +69,7 @@ report-byte-requires : tie.Need-report-byte-requires
 report-byte-requires c κs = search needs
 
 returns-2 : tie.Need-returns-2
-returns-2 c =
-    let model = c .before .before .before .before .before in
-    let e = model .before .before .before .before .before in
-    record { agrees = sym (e .if1 .left) ∙ told (e .before); leaves = left (e .before) }
+returns-2 c = let e = c .before .before in record { agrees = sym (e .if1 .left) ∙ told (e .before); leaves = left (e .before) }
 
 pub walk-vector-spec : {M : Type 1} → statement M
 walk-vector-spec =
@@ -103,13 +82,7 @@ walk-vector-spec =
     checkpoint-wrong-requires
     agree-requires
     returns
-    difference-requires
-    slice-aggregate-numbers
-    numbers-requires
-    slice-aggregate-numbers-2
-    numbers-requires-2
-    slice-aggregate-numbers-3
-    numbers-requires-3
+    report-call-requires
     add-report-byte
     report-byte-requires
     returns-2)

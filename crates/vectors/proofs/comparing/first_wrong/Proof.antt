@@ -4,20 +4,20 @@ use mathlib.Core.Path.{_≡_, sym, _∙_}
 use native.Mathlib.Omega.{arith}
 use borrow.Author.Needs.{needs}
 use lib.ListN.{length}
-use Rattle.vectors.specs.Comparing.{wrong-from, first-wrong}
+use Rattle.vectors.specs.Comparing.{wanted-byte, wrong-from, first-wrong}
 use Rattle.vectors.proofs.ComparingLaws.{from-first, wrong-here, right-here, none-wrong}
 use Rattle.vectors.proofs.comparing.first_wrong.Statement.{statement}
 use Rattle.vectors.proofs.comparing.first_wrong.Tie as tie
 
 abbrev Inv-loop : tie.InvT-loop
 Inv-loop bytes at kept fill got i₀ i =
-    (i ≤ length got) × (wrong-from bytes at kept fill got (length got - i) i ≡ first-wrong bytes at kept fill got)
+    (i ≤ length got) × (wrong-from (wanted-byte bytes at kept fill) got (length got - i) i ≡ first-wrong bytes at kept fill got)
 
 abbrev μ-loop : tie.MeasureT-loop
 μ-loop bytes at kept fill got i₀ i = length got - i
 
 loop-holds : tie.Need-loop-holds Inv-loop μ-loop
-loop-holds c = (omega arith, from-first _ _ _ _ _)
+loop-holds c = (omega arith, from-first _ _)
 
 shared-slice-read-if1 : tie.Need-shared-slice-read-if1 Inv-loop μ-loop
 shared-slice-read-if1 c = search needs
@@ -30,7 +30,7 @@ returns c =
     let l = c .before .before .before .before .loop in
     record {
       place =
-          sym (wrong-here _ _ _ _ _ _ _ (c .before .before .before .loop-test .taken)
+          sym (wrong-here _ _ _ _ (c .before .before .before .loop-test .taken)
           (λ e. c .if1 .taken (e ∙ sym (c .before .wanted-byte .ensures)))) ∙ l .inv .1;
       within = l .inv .0;
     }
@@ -45,14 +45,14 @@ loop-again : tie.Need-loop-again Inv-loop μ-loop
 loop-again c =
     let l = c .before .before .before .before .loop in (
       omega arith,
-      sym (right-here _ _ _ _ _ _ _ (c .before .before .before .loop-test .taken)
+      sym (right-here _ _ _ _ (c .before .before .before .loop-test .taken)
           (c .if1 .left ∙ c .before .wanted-byte .ensures)) ∙ l .inv .1,
     )
 
 returns-2 : tie.Need-returns-2 Inv-loop μ-loop
 returns-2 c =
     let l = c .before .loop in
-    record { place = sym (none-wrong _ _ _ _ _ _ _ (c .loop-test .left)) ∙ l .inv .1; within = l .inv .0 }
+    record { place = sym (none-wrong _ _ _ _ (c .loop-test .left)) ∙ l .inv .1; within = l .inv .0 }
 
 pub first-wrong-spec : {M : Type 1} → statement M
 first-wrong-spec =
