@@ -1,7 +1,7 @@
 // The assumptions of a vector.
 ghost use Prim.Native.Nat.{_≤_};
 ghost use lib.ListN.{length};
-ghost use Rattle.assumptions.specs.InnerAssumed.{Given};
+ghost use Rattle.assumptions.specs.InnerAssumed.{MasksOf};
 ghost use Rattle.vectors.specs.Corpus.{input-of};
 ghost use Rattle.cases.specs.Assuming.{assumptions-of};
 use assumptions::Assumptions;
@@ -10,7 +10,7 @@ use vectors::corpus::Vector;
 // Their masks, for the number of variables that the vector's input states.
 pub fn assumed(bytes: &[u8], v: Vector) -> Assumptions
     requires { ⌜ (v .start ≤ v .middle) × (v .middle ≤ v .output) × (v .output ≤ length (now bytes)) ⌝ }
-    ensures { λ r. ⌜ Given (input-of (now (bytes .entry)) v) (assumptions-of (now (bytes .entry)) v) r ⌝ }
+    ensures { λ r. ⌜ MasksOf (input-of (now (bytes .entry)) v) (assumptions-of (now (bytes .entry)) v) r ⌝ }
 {
     let start = v.start;
     let middle = v.middle;

@@ -4,7 +4,7 @@ ghost use mathlib.Core.List.{List};
 ghost use mathlib.Core.Path.{_≡_};
 ghost use lib.ListN.{replicate};
 ghost use Rattle.assumptions.specs.declared.Assumption.{Assumption};
-ghost use Rattle.assumptions.specs.InnerAssumed.{Given};
+ghost use Rattle.assumptions.specs.InnerAssumed.{MasksOf};
 ghost use Rattle.matched.specs.Judge.{judgement-values};
 ghost use Rattle.vectors.specs.Corpus.{Lies};
 ghost use Rattle.cases.specs.Judging.{judge-written, judge-filled, judge-agrees};
@@ -50,8 +50,8 @@ fn filled(fill: u8) -> [u8; 256]
 
 // Judges an input under assumptions, with a filled buffer of the given size.
 fn judge_filled(input: &[u8], u: Assumptions, size: usize, fill: u8) -> Judged
-    requires { ⌜ (size ≤ 256) × ((us : List Assumption) × Given (now input) us u) ⌝ }
-    ensures { λ r. ⌜ ((us : List Assumption) → Given (now (input .entry)) us u → r ≡ judge-filled (now (input .entry)) us size fill) ⌝ }
+    requires { ⌜ (size ≤ 256) × ((us : List Assumption) × MasksOf (now input) us u) ⌝ }
+    ensures { λ r. ⌜ ((us : List Assumption) → MasksOf (now (input .entry)) us u → r ≡ judge-filled (now (input .entry)) us size fill) ⌝ }
 {
     let mut array = filled(fill);
     let answer = answer_of(matched::find_matching_under(input, u, &mut array[..size]));

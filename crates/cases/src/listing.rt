@@ -4,7 +4,7 @@ ghost use mathlib.Core.List.{List};
 ghost use mathlib.Core.Path.{_≡_};
 ghost use lib.ListN.{length, replicate};
 ghost use Rattle.assumptions.specs.declared.Assumption.{Assumption};
-ghost use Rattle.assumptions.specs.InnerAssumed.{Given};
+ghost use Rattle.assumptions.specs.InnerAssumed.{MasksOf};
 ghost use Rattle.enumeration.specs.Lists.{next-models};
 ghost use Rattle.enumeration.specs.Values.{checkpoint-values, walked-values, listed-values};
 ghost use Rattle.vectors.specs.Corpus.{Lies};
@@ -95,8 +95,8 @@ fn last_of(l: enumeration::Listed) -> Walked
 
 // Lists the models of an input under assumptions, with a filled slice of the given room.
 fn list_filled(input: &[u8], u: Assumptions, from: Checkpoint, room: usize, fill: u64) -> Filled
-    requires { ⌜ (room ≤ 256) × ((us : List Assumption) × Given (now input) us u) ⌝ }
-    ensures { λ r. ⌜ ((us : List Assumption) → Given (now (input .entry)) us u → Fills (next-models (now (input .entry)) us (checkpoint-values from) room) room fill r) ⌝ }
+    requires { ⌜ (room ≤ 256) × ((us : List Assumption) × MasksOf (now input) us u) ⌝ }
+    ensures { λ r. ⌜ ((us : List Assumption) → MasksOf (now (input .entry)) us u → Fills (next-models (now (input .entry)) us (checkpoint-values from) room) room fill r) ⌝ }
 {
     let mut array = places(fill);
     let l = enumeration::list_under(input, u, from, &mut array[..room]);
