@@ -12,13 +12,14 @@ use Rattle.formula.specs.Decoding.{Decoding, readable, refused}
 use Rattle.formula.specs.Masked.{variables}
 use Rattle.formula.proofs.Demands.{cut}
 use Rattle.matching.specs.Search.{Outcome, success, failure, outcome}
-use Rattle.matched.specs.Acceptance.{Acceptance, accepted, declined, acceptance}
+use Rattle.matched.specs.Acceptance.{acceptance}
 use Rattle.matched.specs.WithoutAssumptions.{plain-by-outcome, plain-by-decoding, plain-acceptance}
 use Rattle.matched.proofs.Demands.{acceptance-unassumed}
-use Rattle.walk.specs.Task.{Task, whole}
+use Rattle.walk.specs.Task.{Task}
 use Rattle.walk.proofs.Demands.{task-unassumed}
-use Rattle.printing.specs.Printed.{header, refused-line, refusal-line, max-models, walk-lines, acceptance-lines, printed}
+use Rattle.printing.specs.Printed.{header, refused-line, max-models, walk-lines, acceptance-lines, printed}
 use Rattle.printing.specs.Printing.{max-input}
+use Rattle.printing.specs.WithoutAssumptions.{plain-lines}
 
 -- an input that is cut prints its refusal, by 2 at the length that is left
 pub cut-printed : (s t : List ℕ) (n : ℕ) (cs : List (List Literal)) → Encodes (s ++ t) n cs → 0 < length t → printed s ≡ refused-line 2 (length s)
@@ -36,11 +37,7 @@ longer-printed s n cs e h =
 pub tail-unseen : (s t : List ℕ) → length s ≡ max-input → printed (take max-input (s ++ t)) ≡ printed s
 tail-unseen s t h = ap printed (ap (λ (k : ℕ). take k (s ++ t)) (sym h) ∙ take-append-seam s t)
 
--- S17.6: what is printed is told without assumptions: the first line and the walk of an accepted formula's own task, or the refusal
-abbrev pub plain-lines : Acceptance → List ℕ
-plain-lines (accepted n t cs row) = header n (length cs) ++ walk-lines (whole n cs) max-models 0
-plain-lines (declined r row) = refusal-line r
-
+-- S17.6: what is printed is told without assumptions
 pub printed-unassumed : (s : List ℕ) → printed s ≡ plain-lines (plain-acceptance s)
 unfolding printed plain-acceptance
 printed-unassumed s = ap acceptance-lines (acceptance-unassumed s) ∙ by (decode s)

@@ -1,3 +1,4 @@
 pub mod InnerLines
 pub mod Printed
 pub mod Printing
+pub mod WithoutAssumptions
