@@ -1,6 +1,7 @@
 pub mod AssumingLaws
 pub mod ConvertingLaws
 pub mod JudgingLaws
+pub mod LendLaws
 pub mod ListingLaws
 pub mod PrintsLaws
 pub mod RunLaws

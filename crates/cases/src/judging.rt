@@ -1,14 +1,19 @@
 // The vectors of judge: each answer and the lent buffer compared with the expected ones.
 ghost use Prim.Native.Nat.{_≤_};
-ghost use mathlib.Core.List.{List};
+ghost use mathlib.Core.List.{List, [], _∷_};
 ghost use mathlib.Core.Path.{_≡_};
 ghost use lib.ListN.{replicate};
 ghost use Rattle.assumptions.specs.declared.Assumption.{Assumption};
 ghost use Rattle.assumptions.specs.InnerAssumed.{MasksOf};
 ghost use Rattle.matched.specs.Judge.{judgement-values};
-ghost use Rattle.vectors.specs.Corpus.{Lies};
+ghost use Rattle.vectors.specs.Corpus.{input-of, Lies};
+ghost use Rattle.cases.specs.Assuming.{assumptions-of};
 ghost use Rattle.cases.specs.Judging.{judge-written, judge-filled, judge-agrees};
+use crate::assuming::are_two;
 use crate::assuming::assumed;
+use crate::assuming::assumption_at;
+use crate::lending::judge_two;
+use assumptions::Assumption;
 use assumptions::Assumptions;
 use matched::Judgement;
 use vectors::answers::Answer;
@@ -58,20 +63,43 @@ fn judge_filled(input: &[u8], u: Assumptions, size: usize, fill: u8) -> Judged
     Judged { answer, array }
 }
 
+// The same on a lent list of two.
+fn judge_lent(input: &[u8], a: Assumption, b: Assumption, size: usize, fill: u8) -> Judged
+    requires { ⌜ size ≤ 256 ⌝ }
+    ensures { λ r. ⌜ r ≡ judge-filled (now (input .entry)) (a ∷ (b ∷ [])) size fill ⌝ }
+{
+    let mut array = filled(fill);
+    let answer = answer_of(judge_two(input, a, b, &mut array[..size]));
+    Judged { answer, array }
+}
+
+// Judges the vector's input under its assumptions.
+fn judge_given(bytes: &[u8], v: Vector, size: usize, fill: u8) -> Judged
+    requires { ⌜ (size ≤ 256) × Lies (now bytes) v 104 ⌝ }
+    ensures { λ r. ⌜ r ≡ judge-filled (input-of (now (bytes .entry)) v) (assumptions-of (now (bytes .entry)) v) size fill ⌝ }
+{
+    let start = v.start;
+    let middle = v.middle;
+    if are_two(v) {
+        let a = assumption_at(bytes, middle);
+        let b = assumption_at(bytes, middle + 2);
+        return judge_lent(&bytes[start..middle], a, b, size, fill);
+    }
+    let u = assumed(bytes, v);
+    judge_filled(&bytes[start..middle], u, size, fill)
+}
+
 // Whether judge gives the expected answer and leaves the expected bytes; a difference is printed.
 pub fn judge_vector(bytes: &[u8], v: Vector) -> bool
     requires { ⌜ Lies (now bytes) v 104 ⌝ }
     ensures { λ r. ⌜ r ≡ judge-agrees (now (bytes .entry)) v ⌝ }
 {
-    let start = v.start;
-    let middle = v.middle;
     let end = v.end;
     let wanted = expected_at(bytes, end);
     let size = wide(bytes[end + 6]) as usize;
     let fill = bytes[end + 7];
     let at = end + 8;
-    let u = assumed(bytes, v);
-    let got = judge_filled(&bytes[start..middle], u, size, fill);
+    let got = judge_given(bytes, v, size, fill);
     let answer = got.answer;
     let array = got.array;
     let wrong = first_wrong(bytes, at, limits::MAX_CLAUSES, fill, &array);

@@ -1,6 +1,6 @@
 // The vectors of whole listings, call by call, and those of lists of models.
 ghost use Prim.Native.Nat.{_+_, _*_, _≤_};
-ghost use mathlib.Core.List.{List};
+ghost use mathlib.Core.List.{List, [], _∷_};
 ghost use mathlib.Core.Path.{_≡_};
 ghost use lib.ListN.{length, replicate};
 ghost use Rattle.assumptions.specs.declared.Assumption.{Assumption};
@@ -10,7 +10,10 @@ ghost use Rattle.enumeration.specs.Values.{checkpoint-values, walked-values, li
 ghost use Rattle.vectors.specs.Corpus.{Lies};
 ghost use Rattle.cases.specs.Listing.{listing-origin, listing-agrees, listing-leaves, Fills, wanted-model, first-other, OtherAt, Lists, list-alike, list-agrees, list-leaves};
 ghost use Rattle.cases.specs.Walking.{Gives};
+use crate::assuming::are_two;
 use crate::assuming::assumed;
+use crate::assuming::assumption_at;
+use crate::lending::list_two;
 use crate::walking::CHECKPOINT_SIZE;
 use crate::walking::Compared;
 use crate::walking::Told;
@@ -22,6 +25,7 @@ use crate::walking::expected_call;
 use crate::walking::report_byte;
 use crate::walking::report_call;
 use crate::walking::told_of;
+use assumptions::Assumption;
 use assumptions::Assumptions;
 use enumeration::Checkpoint;
 use enumeration::Walked;
@@ -110,6 +114,30 @@ fn list_filled(input: &[u8], u: Assumptions, from: Checkpoint, room: usize, fill
     }
 }
 
+// The same on a lent list of two.
+fn list_lent(
+    input: &[u8],
+    a: Assumption,
+    b: Assumption,
+    from: Checkpoint,
+    room: usize,
+    fill: u64,
+) -> Filled
+    requires { ⌜ room ≤ 256 ⌝ }
+    ensures { λ r. ⌜ Fills (next-models (now (input .entry)) (a ∷ (b ∷ [])) (checkpoint-values from) room) room fill r ⌝ }
+{
+    let mut array = places(fill);
+    let l = list_two(input, a, b, from, &mut array[..room]);
+    let checkpoint = l.checkpoint;
+    let count = l.count;
+    Filled {
+        told: told_of(last_of(l)),
+        checkpoint,
+        count,
+        array,
+    }
+}
+
 // The model that must stand at i: those before `kept` stand in the file from an offset on, and the others are the fill.
 fn wanted_model(bytes: &[u8], at: usize, kept: usize, fill: u64, i: usize) -> u64
     requires { ⌜ at + kept * 8 ≤ length (now bytes) ⌝ }
@@ -168,6 +196,11 @@ fn list_of(bytes: &[u8], v: Vector, last: Checkpoint) -> Filled
     let from = call_origin(bytes, end + 72, last);
     let room = wide(bytes[end + 123]) as usize;
     let fill = wide(bytes[end + 124]);
+    if are_two(v) {
+        let a = assumption_at(bytes, middle);
+        let b = assumption_at(bytes, middle + 2);
+        return list_lent(&bytes[start..middle], a, b, from, room, fill);
+    }
     let u = assumed(bytes, v);
     list_filled(&bytes[start..middle], u, from, room, fill)
 }

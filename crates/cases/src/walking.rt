@@ -9,7 +9,10 @@ ghost use Rattle.walk.specs.WalkCall.{walk-call};
 ghost use Rattle.vectors.specs.Corpus.{input-of, Lies};
 ghost use Rattle.cases.specs.Assuming.{assumptions-of};
 ghost use Rattle.cases.specs.Walking.{walk-written, expected-call, stored-checkpoint-size, walk-alike, checkpoint-at, origin, called, checkpoint-wrong, start-agrees, walk-agrees, walk-leaves, Gives};
+use crate::assuming::are_two;
 use crate::assuming::assumed;
+use crate::assuming::assumption_at;
+use crate::lending::walk_two;
 use enumeration::Checkpoint;
 use enumeration::Walked;
 use vectors::answers::Answer;
@@ -150,6 +153,11 @@ pub fn call_from(bytes: &[u8], v: Vector, from: Checkpoint, budget: u32) -> Walk
 {
     let start = v.start;
     let middle = v.middle;
+    if are_two(v) {
+        let a = assumption_at(bytes, middle);
+        let b = assumption_at(bytes, middle + 2);
+        return walk_two(&bytes[start..middle], a, b, from, budget);
+    }
     let u = assumed(bytes, v);
     enumeration::walk_under(&bytes[start..middle], u, from, budget)
 }

@@ -1,17 +1,17 @@
 -- `judge_vector`: the comparison is that of `judge-agrees`, since each side is what its function ensures.
 use mathlib.Core.Path.{_≡_, sym, _∙_}
-use borrow.Author.Needs.{needs}
 use Rattle.cases.specs.Judging.{judge-agrees}
 use Rattle.cases.proofs.JudgingLaws.{compared}
+use borrow.Author.Needs.{needs}
 use Rattle.cases.proofs.judging.judge_vector.Statement.{statement}
 use Rattle.cases.proofs.judging.judge_vector.Tie as tie
 
 -- the call, the buffer's size, the expected answer, and the entry
-abbrev judging : tie.After-agree → tie.After-judge-filled
+abbrev judging : tie.After-agree → tie.After-judge-given
 judging c = c .before .before .before .before .before
 
 abbrev sizing : tie.After-agree → tie.After-wide
-sizing c = judging c .before .before .before .before
+sizing c = judging c .before .before
 
 abbrev expecting : tie.After-agree → tie.After-expected-at
 expecting c = sizing c .before .before
@@ -28,7 +28,7 @@ told c =
     ∙ compared _ _ _ _ _ _
     (expecting c .expected-at .ensures)
     (sizing c .wide .ensures .value)
-    (judging c .judge-filled .ensures _ (judging c .before .before .assumed .ensures))
+    (judging c .judge-given .ensures)
     (c .before .first-wrong .ensures .place)
 
 expected-at-requires : tie.Need-expected-at-requires
@@ -52,20 +52,8 @@ shared-slice-read-fill c = search needs
 add-at : tie.Need-add-at
 add-at c = search needs
 
-assumed-requires : tie.Need-assumed-requires
-assumed-requires c κs = search needs
-
-sub-judge-filled : tie.Need-sub-judge-filled
-sub-judge-filled c = search needs
-
-part-judge-filled-start : tie.Need-part-judge-filled-start
-part-judge-filled-start c = search needs
-
-part-judge-filled-end : tie.Need-part-judge-filled-end
-part-judge-filled-end c = search needs
-
-judge-filled-requires : tie.Need-judge-filled-requires
-judge-filled-requires c κs = (search needs, (_, c .before .assumed .ensures))
+judge-given-requires : tie.Need-judge-given-requires
+judge-given-requires c κs = search needs
 
 slice-aggregate-first-wrong : tie.Need-slice-aggregate-first-wrong
 slice-aggregate-first-wrong c = search needs
@@ -108,11 +96,7 @@ judge-vector-spec =
     add-fill
     shared-slice-read-fill
     add-at
-    assumed-requires
-    sub-judge-filled
-    part-judge-filled-start
-    part-judge-filled-end
-    judge-filled-requires
+    judge-given-requires
     slice-aggregate-first-wrong
     first-wrong-requires
     agree-requires
