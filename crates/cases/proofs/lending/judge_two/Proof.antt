@@ -25,7 +25,7 @@ use types.Run.{look, init, forget, stop, hop, fld, from, load, lit, addr, and-th
 use types.Tokens.{lft-new, lft-end, lent-back}
 use denote.RattleType.{RattleType, owns}
 use denote.Laws.{Is, shows}
-use denote.Array.{Array, array-lawful}
+use denote.Array.{array-lawful}
 use denote.Builtin.{u8}
 use denote.Ref.{RefT, now}
 use denote.Slice.{sliceVal, ShrSlice, MutSlice, Room, finally, slice-vals, shr-slice-tells, mut-slice-tells, shr-slice-copy}
@@ -53,7 +53,7 @@ use Rattle.matched.proofs.find_matching as found
 use Rattle.matched.proofs.find_matching.Symbol as found-def
 use Rattle.matched.proofs.find_matching.Symbol.{name as #matched·find-matching}
 use Rattle.matched.proofs.find_matching.Met as found-thm
-use Rattle.cases.proofs.LendLaws.{two-ty, two-val, two-at, two-is, two-lent, two-back}
+use Rattle.cases.proofs.LendLaws.{two-ty, two-at, two-is, two-lent, two-back}
 use Rattle.cases.proofs.lending.judge_two.Key.{name as #cases·judge-two}
 use Rattle.cases.proofs.lending.judge_two as two
 use Rattle.cases.proofs.lending.judge_two.Statement as stated

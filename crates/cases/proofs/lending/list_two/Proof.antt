@@ -25,7 +25,7 @@ use types.Run.{look, init, forget, stop, hop, fld, from, load, lit, addr, and-th
 use types.Tokens.{lft-new, lft-end, lent-back}
 use denote.RattleType.{RattleType, owns}
 use denote.Laws.{Is, shows}
-use denote.Array.{Array, array-lawful}
+use denote.Array.{array-lawful}
 use denote.Builtin.{u8, u64}
 use denote.Ref.{RefT, now}
 use denote.Slice.{sliceVal, ShrSlice, MutSlice, Room, finally, slice-vals, shr-slice-tells, mut-slice-tells, shr-slice-copy}
@@ -56,7 +56,7 @@ use Rattle.enumeration.proofs.list as act
 use Rattle.enumeration.proofs.list.Symbol as act-def
 use Rattle.enumeration.proofs.list.Symbol.{name as #enumeration·list}
 use Rattle.enumeration.proofs.list.Met as act-thm
-use Rattle.cases.proofs.LendLaws.{two-ty, two-val, two-at, two-is, two-lent, two-back}
+use Rattle.cases.proofs.LendLaws.{two-ty, two-at, two-is, two-lent, two-back}
 use Rattle.cases.proofs.lending.list_two.Key.{name as #cases·list-two}
 use Rattle.cases.proofs.lending.list_two as two
 use Rattle.cases.proofs.lending.list_two.Statement as stated

@@ -57,7 +57,7 @@ use Rattle.enumeration.proofs.walk as act
 use Rattle.enumeration.proofs.walk.Symbol as act-def
 use Rattle.enumeration.proofs.walk.Symbol.{name as #enumeration·walk}
 use Rattle.enumeration.proofs.walk.Met as act-thm
-use Rattle.cases.proofs.LendLaws.{two-ty, two-val, two-at, two-is, two-lent, two-back}
+use Rattle.cases.proofs.LendLaws.{two-ty, two-at, two-is, two-lent, two-back}
 use Rattle.cases.proofs.lending.walk_two.Key.{name as #cases·walk-two}
 use Rattle.cases.proofs.lending.walk_two as two
 use Rattle.cases.proofs.lending.walk_two.Statement as stated
