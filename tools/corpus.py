@@ -595,6 +595,9 @@ JUDGE_ASSUMED = [
     (('01 02 02 01 04 02 01 04 02 02 04 05', '01 01'), 96, 0xff, MATCHED, 0, 0, 2, 3, '00 00 02'),
     (('01 01' + 96 * TRUE + ' 05', '01 01'), 96, 0xff, MATCHED, 0, 0, 1, 96, 96 * '00 '),
     (('01 03 02 01 02 02 02 03 04 02 01 04 05', '03 00'), 96, 0, MATCHED, 0, 0, 3, 2, '02 01'),
+    # the chain of 48 variables in what remains: its end satisfied, and its end lost
+    ((CHAIN + ' 02 01 04 05', '30 01'), 96, 0xff, MATCHED, 0, 0, 48, 48, in_order(2, 47) + ' 00 01'),
+    ((CHAIN + ' 02 01 04 05', '30 00'), 96, 0xff, REFUSED, 10, 48, 0, 0, 48 * '01 '),
     # the violator leaves out a clause that is satisfied, between those that it has
     (('01 03 02 01 04 02 02 04 03 01 04 05', '02 01'), 96, 0xff, REFUSED, 10, 2, 0, 0, '01 00 01'),
     # all of 48 variables assumed

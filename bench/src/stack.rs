@@ -1,4 +1,4 @@
-//! How much stack the C functions use, and how deep re-matching calls itself.
+//! How much stack the C functions use, and that of judge by the length of the chain that it re-matches.
 //!
 //! The method: a stretch of the stack below the caller is painted, the function is called, and the stretch is read from its far end
 //! until something other than the paint is found. It is tested on functions of known use. What a function reserves and never writes
@@ -378,7 +378,7 @@ fn print_chains() {
     }
     print_table(&table);
     println!();
-    println!("Re-matching calls itself once a link: at most 48 times, since a chain has each variable once.");
+    println!("Re-matching is a loop, a turn a link: at most 48, since a chain has each variable once.");
     let [least, most] = [2, 48].map(|links| judge_stack(&chain(links), &[]) as f64);
     let grown = most - least;
     println!("From 2 links to 48 the stack grows by {grown} bytes.");

@@ -153,7 +153,7 @@ fn find_path(
     front
 }
 
-// S5.4: re-matches along the path from v back to the clause, so that the first clauses and this one are matched. One call a link.
+// S5.4: re-matches along the path from v back to the clause, so that the first clauses and this one are matched, a link a turn.
 fn rematch(
     table: &mut [u8; MAX_CLAUSES],
     owners: &mut [u8; 64],
@@ -164,12 +164,16 @@ fn rematch(
     requires { ⌜ Augments clause (now table) (now owners) (now links) v ⌝ }
     ensures { λ _. ⌜ Stored (rematch (now (links .entry)) (take clause (now (table .entry))) v) (now (table .exit)) (now (owners .exit)) ⌝ }
 {
-    let c = wide(links[v]);
-    let old = wide(table[c]);
-    table[c] = v as u8;
-    owners[v] = (c + 1) as u8;
-    if c != clause {
-        rematch(table, owners, links, clause, old);
+    let mut u = v;
+    loop {
+        let c = wide(links[u]);
+        let old = wide(table[c]);
+        table[c] = u as u8;
+        owners[u] = (c + 1) as u8;
+        if c == clause {
+            return;
+        }
+        u = old;
     }
 }
 
