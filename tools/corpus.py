@@ -464,7 +464,7 @@ UNMATCHED = '01 01 02 01 04 03 01 04 05'  # S5.7: clauses (1) and (not 1)
 UNREADABLE = '01 02 06'
 REMATCHED = '01 02 02 01 02 02 04 02 01 04 05'  # clauses (1, 2) and (1): the first gives variable 1 to the second
 MANY = '01 02' + 8191 * ' 02 01' + ' 04 05'  # the clause (1) in 16,386 bytes, more than the printing program reads
-CHAIN = '01 30' + ''.join(' 02 %02x 02 %02x 04' % (v, v + 1) for v in range(1, 48))  # clauses (1, 2), (2, 3) .. (47, 48)
+LINKS = '01 30' + ''.join(' 02 %02x 02 %02x 04' % (v, v + 1) for v in range(1, 48))  # clauses (1, 2), (2, 3) .. (47, 48)
 
 
 def in_order(first, last):
@@ -543,12 +543,12 @@ JUDGE_EDGES = [
     ('01 01 04 05', 96, 0xff, REFUSED, 10, 1, 0, 0, '01'),
     ('01 01 02 01 04 04 05', 96, 0xff, REFUSED, 10, 1, 0, 0, '00 01'),
     ('01 01 04 02 01 04 05', 96, 0xff, REFUSED, 10, 1, 0, 0, '01 00'),
-    # re-matching: a clause of two, a chain that ends at variable 48, and one that has no free end
+    # re-matching: a clause of two, a path that ends at variable 48, and one that finds no free end
     (REMATCHED, 96, 0, MATCHED, 0, 0, 2, 2, '02 01'),
-    (CHAIN + ' 05', 96, 0, MATCHED, 0, 0, 48, 47, in_order(1, 47)),
-    (CHAIN + ' 02 01 04 05', 96, 0, MATCHED, 0, 0, 48, 48, in_order(2, 48) + ' 01'),
-    (CHAIN + ' 02 01 04 02 01 04 05', 96, 0, REFUSED, 10, 2, 0, 0, 47 * '00 ' + '01 01'),
-    (CHAIN + ' 02 01 04 02 30 04 05', 96, 0, REFUSED, 10, 49, 0, 0, 49 * '01 '),
+    (LINKS + ' 05', 96, 0, MATCHED, 0, 0, 48, 47, in_order(1, 47)),
+    (LINKS + ' 02 01 04 05', 96, 0, MATCHED, 0, 0, 48, 48, in_order(2, 48) + ' 01'),
+    (LINKS + ' 02 01 04 02 01 04 05', 96, 0, REFUSED, 10, 2, 0, 0, 47 * '00 ' + '01 01'),
+    (LINKS + ' 02 01 04 02 30 04 05', 96, 0, REFUSED, 10, 49, 0, 0, 49 * '01 '),
     # the violator leaves out a clause that the failed search does not reach, and those after it
     ('01 02 02 01 04 02 02 04 03 02 04 05', 96, 0xff, REFUSED, 10, 2, 0, 0, '00 01 01'),
     ('01 02 02 01 04 03 01 04 04 02 02 04 05', 96, 0xff, REFUSED, 10, 2, 0, 0, '01 01 00 00'),
@@ -595,9 +595,9 @@ JUDGE_ASSUMED = [
     (('01 02 02 01 04 02 01 04 02 02 04 05', '01 01'), 96, 0xff, MATCHED, 0, 0, 2, 3, '00 00 02'),
     (('01 01' + 96 * TRUE + ' 05', '01 01'), 96, 0xff, MATCHED, 0, 0, 1, 96, 96 * '00 '),
     (('01 03 02 01 02 02 02 03 04 02 01 04 05', '03 00'), 96, 0, MATCHED, 0, 0, 3, 2, '02 01'),
-    # the chain of 48 variables in what remains: its end satisfied, and its end lost
-    ((CHAIN + ' 02 01 04 05', '30 01'), 96, 0xff, MATCHED, 0, 0, 48, 48, in_order(2, 47) + ' 00 01'),
-    ((CHAIN + ' 02 01 04 05', '30 00'), 96, 0xff, REFUSED, 10, 48, 0, 0, 48 * '01 '),
+    # the path over 48 variables in what remains: its end satisfied, and its end lost
+    ((LINKS + ' 02 01 04 05', '30 01'), 96, 0xff, MATCHED, 0, 0, 48, 48, in_order(2, 47) + ' 00 01'),
+    ((LINKS + ' 02 01 04 05', '30 00'), 96, 0xff, REFUSED, 10, 48, 0, 0, 48 * '01 '),
     # the violator leaves out a clause that is satisfied, between those that it has
     (('01 03 02 01 04 02 02 04 03 01 04 05', '02 01'), 96, 0xff, REFUSED, 10, 2, 0, 0, '01 00 01'),
     # all of 48 variables assumed

@@ -1,4 +1,4 @@
-//! How much stack the C functions use, and that of judge by the length of the chain that it re-matches.
+//! How much stack the C functions use, and that of judge by the length of the path that it re-matches.
 //!
 //! The method: a stretch of the stack below the caller is painted, the function is called, and the stretch is read from its far end
 //! until something other than the paint is found. It is tested on functions of known use. What a function reserves and never writes
@@ -13,7 +13,7 @@ use norwythai::raw::{
     norwythai_to_dimacs, norwythai_walk,
 };
 use norwythai::{to_dimacs, FORMULA_BUFFER, TEXT_BUFFER};
-use norwythai_samples::encode;
+use norwythai_samples::{encode, longest_path};
 use std::hint::black_box;
 use std::mem::MaybeUninit;
 
@@ -282,21 +282,19 @@ fn test_method() {
     }
 }
 
-/// A formula whose last clause re-matches all others: (1, 2), (2, 3), .. up to the link before the last, and (1).
-fn chain(links: usize) -> Vec<u8> {
-    let mut clauses: Vec<Vec<i8>> = (1..links as i8).map(|v| vec![v, v + 1]).collect();
-    clauses.push(vec![1]);
-    encode(links, &clauses)
+/// A formula whose last clause has an augmenting path of so many links: all its clauses.
+fn path(links: usize) -> Vec<u8> {
+    encode(links, &longest_path(links))
 }
 
-/// A ring in falling order, (48, not 1) at its end: with variable 1 false, the trial at the root has a chain of 47 links.
+/// A ring in falling order, (48, not 1) at its end: with variable 1 false, the trial at the root has a path of 47 links.
 fn falling_ring() -> Vec<u8> {
     let mut clauses: Vec<Vec<i8>> = (1..48).rev().map(|v| vec![v, -(v + 1)]).collect();
     clauses.push(vec![48, -1]);
     encode(48, &clauses)
 }
 
-/// The links of the last clause's chain, by the library: the clauses that are matched otherwise than without it, and itself.
+/// The links of the last clause's path, by the library: the clauses that are matched otherwise than without it, and itself.
 fn links_of_last(input: &[u8]) -> usize {
     let judge = |input: &[u8]| {
         let mut buffer = [0; 96];
@@ -315,7 +313,7 @@ fn without_last(input: &[u8]) -> Vec<u8> {
     shorter
 }
 
-/// The formulas of all families, without assumptions and with half of their variables assumed, and two chains.
+/// The formulas of all families, without assumptions and with half of their variables assumed, and two with long paths.
 fn all_measured() -> Vec<Measured> {
     let cases = FAMILIES.iter().flat_map(|family| family.cases());
     let assumed = FAMILIES.iter().flat_map(|family| family.half_assumed().1);
@@ -323,7 +321,7 @@ fn all_measured() -> Vec<Measured> {
         .chain(assumed)
         .map(|case| Measured::of_case(&case))
         .collect();
-    measured.extend([chain(48), falling_ring()].map(Measured::without_assumptions));
+    measured.extend([path(48), falling_ring()].map(Measured::without_assumptions));
     measured
 }
 
@@ -362,14 +360,14 @@ fn print_functions() {
     );
 }
 
-fn print_chains() {
+fn print_paths() {
     let mut table = vec![row(&[
-        "clauses of the chain",
-        "links of the last clause",
+        "clauses",
+        "links of the last one's path",
         "bytes of stack of judge",
     ])];
     for clauses in [2, 12, 24, 48] {
-        let input = chain(clauses);
+        let input = path(clauses);
         table.push(row(&[
             &clauses.to_string(),
             &links_of_last(&input).to_string(),
@@ -378,19 +376,21 @@ fn print_chains() {
     }
     print_table(&table);
     println!();
-    println!("Re-matching is a loop, a turn a link: at most 48, since a chain has each variable once.");
-    let [least, most] = [2, 48].map(|links| judge_stack(&chain(links), &[]) as f64);
+    println!(
+        "Re-matching is a loop, a turn a link: at most 48, since a path has each variable once."
+    );
+    let [least, most] = [2, 48].map(|links| judge_stack(&path(links), &[]) as f64);
     let grown = most - least;
     println!("From 2 links to 48 the stack grows by {grown} bytes.");
 }
 
-/// Prints the stack of each function, and that of judge by the length of the chain.
+/// Prints the stack of each function, and that of judge by the length of the path.
 pub fn print_stack() {
     test_method();
     println!();
     print_functions();
     println!();
-    print_chains();
+    print_paths();
 }
 
 #[cfg(test)]
@@ -398,9 +398,9 @@ mod tests {
     use super::*;
 
     #[test]
-    fn the_longest_chain_has_48_links() {
-        assert_eq!(links_of_last(&chain(48)), 48);
-        assert_eq!(links_of_last(&chain(2)), 2);
+    fn the_longest_path_has_48_links() {
+        assert_eq!(links_of_last(&path(48)), 48);
+        assert_eq!(links_of_last(&path(2)), 2);
     }
 
     #[test]

@@ -32,6 +32,14 @@ pub fn stairs(variables: usize, pairs: usize) -> Clauses {
     clauses
 }
 
+/// Clauses (1, 2), (2, 3), .., up to the last variable, and (1). The others being matched with their first variables, the augmenting
+/// path of the last goes through all of them, so that re-matching gives each its second.
+pub fn longest_path(variables: usize) -> Clauses {
+    let mut clauses: Clauses = (1..variables as i8).map(|v| vec![v, v + 1]).collect();
+    clauses.push(vec![1]);
+    clauses
+}
+
 #[cfg(test)]
 mod tests {
     use super::*;
@@ -40,6 +48,12 @@ mod tests {
     fn a_formula_is_encoded() {
         let clauses = [vec![1, 2], vec![-1, -2]];
         assert_eq!(encode(2, &clauses), [1, 2, 2, 1, 2, 2, 4, 3, 1, 3, 2, 4, 5]);
+    }
+
+    #[test]
+    fn a_path_of_three_links() {
+        assert_eq!(longest_path(3), [vec![1, 2], vec![2, 3], vec![1]]);
+        assert_eq!(longest_path(1), [vec![1]]);
     }
 
     #[test]

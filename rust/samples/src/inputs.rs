@@ -1,6 +1,6 @@
 //! Inputs: encoded formulas of many kinds, and damaged ones.
 
-use crate::formulas::{encode, stairs, Clauses};
+use crate::formulas::{encode, longest_path, stairs, Clauses};
 use crate::random::Random;
 
 /// Small, middle and large numbers of variables.
@@ -71,6 +71,27 @@ fn balanced(random: &mut Random, variables: usize, length: usize) -> Clauses {
     clauses
 }
 
+/// A longest path over some of the variables, with random signs and the clauses before the last in random order; at times a few other
+/// clauses stand among them, and what they name shortens the path or makes the formula unmatched.
+fn some_path(random: &mut Random, variables: usize) -> Clauses {
+    let count = random.between(1, variables);
+    let mut named = random.some_of(count, variables);
+    named.sort();
+    let mut left = longest_path(count);
+    for literal in left.iter_mut().flatten() {
+        *literal = random.signed(named[*literal as usize - 1]);
+    }
+    let last = left.pop();
+    let others = random.pick(&[0, 0, 1, 3]);
+    left.extend(some_clauses(random, variables, others, (1, 3), 50));
+    let mut clauses = Vec::new();
+    while !left.is_empty() {
+        clauses.push(left.swap_remove(random.below(left.len())));
+    }
+    clauses.extend(last);
+    clauses
+}
+
 /// Puts one of the clause's literals into it once more, or with the sign -1 its complement, at a random place.
 fn put_again(random: &mut Random, clause: &mut Vec<i8>, sign: i8) {
     if !clause.is_empty() {
@@ -99,7 +120,7 @@ fn repeat_literals(random: &mut Random, clauses: &mut Clauses) {
 /// The number of variables and the clauses of a readable formula, matched or not.
 pub(crate) fn some_parts(random: &mut Random) -> (usize, Clauses) {
     let n = some_variables(random);
-    let mut clauses = match random.below(12) {
+    let mut clauses = match random.below(13) {
         0 => some_clauses(random, n, n, (3, 3), 50),
         1 => {
             let count = random.between(0, n);
@@ -117,6 +138,7 @@ pub(crate) fn some_parts(random: &mut Random) -> (usize, Clauses) {
             let length = random.between(2, 4);
             balanced(random, n, length)
         }
+        11 => some_path(random, n),
         _ => {
             let count = random.between(0, 96);
             some_clauses(random, n, count, (0, 4), 50)
@@ -253,7 +275,7 @@ mod tests {
     fn many_formulas_repeat_literals_and_some_are_long() {
         let mut random = Random::new(1);
         let (mut repeats, mut long) = (0, 0);
-        for _ in 0..1_000 {
+        for _ in 0..4_000 {
             let (n, clauses) = some_parts(&mut random);
             let mut once = clauses.clone();
             for clause in &mut once {
@@ -265,7 +287,7 @@ mod tests {
             repeats += usize::from(length > encode(n, &once).len());
             long += usize::from(length > 16_384);
         }
-        assert!(repeats > 300, "{repeats}");
-        assert!((2..20).contains(&long), "{long}");
+        assert!(repeats > 1_200, "{repeats}");
+        assert!((8..60).contains(&long), "{long}");
     }
 }

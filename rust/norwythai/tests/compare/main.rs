@@ -15,8 +15,8 @@ use assumed::Assumed;
 use norwythai::{Answer, Assumption, Checkpoint, Models, Refusal};
 use norwythai_reference as reference;
 use norwythai_samples::{
-    some_assignment, some_budget, some_checkpoint, some_input, some_matched_formula, some_text,
-    Random,
+    encode, longest_path, some_assignment, some_budget, some_checkpoint, some_input,
+    some_matched_formula, some_text, Random,
 };
 use tally::Tally;
 
@@ -131,6 +131,16 @@ fn every_act_answers_as_the_reference() {
     }
     println!("{tally}");
     tally.require_enough();
+}
+
+#[test]
+fn a_path_of_any_length_is_rematched() {
+    for links in 1..=48_u8 {
+        let input = encode(links.into(), &longest_path(links.into()));
+        let matching = norwythai::judge(&input, &[]).unwrap();
+        let second_variables: Vec<u8> = (2..=links).chain([1]).collect();
+        assert_eq!(matching.matched(), second_variables);
+    }
 }
 
 /// The models that keep the assumptions, by a trial of all assignments.
