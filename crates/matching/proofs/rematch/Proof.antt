@@ -34,10 +34,7 @@ wide-requires c κs = search needs
 
 -- u's clause is the new one or is matched
 cases : (c : tie.After-wide Inv-loop μ-loop) → (c .wide .result ≡ c .before .before .before .args .clause) ⊎ (c .wide .result < c .before .before .before .args .clause)
-cases c =
-    let l = c .before .before .loop in
-    let a = c .before .before .before .args in
-    rw (c .wide .ensures) (link-cases (a .clause) (l .table) (l .owners) (a .links .now) (l .u) (l .inv .0))
+cases c = rw (c .wide .ensures) (link-cases (c .before .before .loop .inv .0))
 
 low : (c : tie.After-wide Inv-loop μ-loop) → c .wide .result < max-clauses
 low c = ⊎-elim (λ e. omega (arith, c .before .before .loop .inv .0 .room)) (λ h. omega (arith, c .before .before .loop .inv .0 .room)) (cases c)
@@ -72,9 +69,9 @@ returns c =
     let q : at (a .links .now) (l .u) ≡ a .clause = sym (w .wide .ensures) ∙ e in
     rw e
     (record {
-      table-is = table-end (a .clause) (l .table) (l .owners) (a .links .now) (l .u) (l .inv .0) q ∙ ap (padded max-clauses 0) (l .inv .1);
+      table-is = table-end (l .inv .0) q ∙ ap (padded max-clauses 0) (l .inv .1);
       owners-are = ap (λ (k : ℕ). set (l .owners) (l .u) k) (add-one (a .clause))
-          ∙ owners-end (a .clause) (l .table) (l .owners) (a .links .now) (l .u) (l .inv .0) q ∙ ap owners-of (l .inv .1);
+          ∙ owners-end (l .inv .0) q ∙ ap owners-of (l .inv .1);
     })
 
 -- where the loop goes on, u's clause is matched
@@ -86,22 +83,16 @@ loop-less c =
     let w = c .before .before .before in
     let l = w .before .before .loop in
     let a = w .before .before .before .args in
-    let k = w .wide .result in
-    let d = nearer (a .clause) (l .table) (l .owners) (a .links .now) (l .u) (l .inv .0) k (w .wide .ensures) (matched c) in
-    subst (λ (x : ℕ). distance search-bound (a .links .now) (take (a .clause) (set (l .table) k (l .u))) x < distance search-bound (a .links .now) (take (a .clause) (l .table)) (l .u))
+    let d = nearer (l .inv .0) (w .wide .ensures) (matched c) in
+    subst (λ (x : ℕ). distance search-bound (a .links .now) (take (a .clause) (set (l .table) (w .wide .result) (l .u))) x < distance search-bound (a .links .now) (take (a .clause) (l .table)) (l .u))
     (sym (c .before .wide2 .ensures))
     (omega arith)
 
 loop-again : tie.Need-loop-again Inv-loop μ-loop
 loop-again c =
     let w = c .before .before .before in
-    let l = w .before .before .loop in
-    let a = w .before .before .before .args in
-    let k = w .wide .result in
-    rw (c .before .wide2 .ensures, add-one) (
-      augments-next (a .clause) (l .table) (l .owners) (a .links .now) (l .u) (l .inv .0) k (w .wide .ensures) (matched c),
-      rematch-next (a .clause) (l .table) (l .owners) (a .links .now) (l .u) (l .inv .0) k (w .wide .ensures) (matched c) ∙ l .inv .1,
-    )
+    let i = w .before .before .loop .inv in
+    rw (c .before .wide2 .ensures, add-one) (augments-next (i .0) (w .wide .ensures) (matched c), rematch-next (i .0) (w .wide .ensures) (matched c) ∙ i .1)
 
 pub rematch-spec : {M : Type 1} → statement M
 rematch-spec =
