@@ -8,7 +8,7 @@ use native.Mathlib.Omega.{arith}
 use lib.ListN.{length}
 use borrow.Author.Tests.{not-true, not-false}
 use Rattle.lists.proofs.TestLaws.{bool-clash}
-use Rattle.lists.proofs.SublistLaws.{sub-within, sub-length}
+use Rattle.lists.proofs.SublistLaws.{sub-within}
 use Rattle.masks.specs.Mask.{size}
 use Rattle.matching.specs.InnerMatched.{Matched}
 use Rattle.formula.specs.Format.{Literal}
@@ -126,8 +126,8 @@ chosen-closed n free (c ∷ cs) b o a sat e = go (stripped n (c ∷ cs) .left) b
     go (k ∷ left) false o e = bool-clash (first-open (k ∷ left) (candidates n (k ∷ left)) 0 .0) o
     go (k ∷ left) true o e = bool-clash (first-open (k ∷ left) (candidates n (k ∷ left)) 0 .1) o
 
--- a trial of two matchings for each variable of the mask at most
-pub chosen-cost : (n m scope : ℕ) (free : ℕ → Bool) (ds : List (List Literal)) → n ≤ 64 → Below n ds → Covers scope ds → length ds ≤ m
+-- a trial of two matchings for each variable of the mask at most, over the clauses that stripping leaves
+pub chosen-cost : (n m scope : ℕ) (free : ℕ → Bool) (ds : List (List Literal)) → n ≤ 64 → Below n ds → Covers scope ds → length (stripped n ds .left) ≤ m
     → by-remaining n free ds .expansions ≤ size scope * (m * suc m)
 unfolding last-listed
 chosen-cost n m scope free [] fits low covers few = omega arith
@@ -138,8 +138,7 @@ chosen-cost n m scope free (c ∷ cs) fits low covers few = go (stripped n (c �
     go [] e = omega arith
     go (k ∷ left) e =
         let s = subst (λ (l : List (List Literal)). Sublistᴰ l (c ∷ cs)) e (left-sub n (c ∷ cs)) in
-        let l = sub-length s in
         let within : (v : ℕ) → named (k ∷ left) v ≡ true → named (c ∷ cs) v ≡ true = λ v t. named-within (k ∷ left) (c ∷ cs) v (sub-within s) t in
-        let q = first-cost n m (k ∷ left) (candidates n (k ∷ left)) 0 fits (λ v t. low v (within v t)) (omega arith) in
+        let q = first-cost n m (k ∷ left) (candidates n (k ∷ left)) 0 fits (λ v t. low v (within v t)) (rw e at few) in
         let p = mul-le-mul-right (m * suc m) (candidates-length n scope (k ∷ left) fits (λ v t. covers v (within v t))) in
         omega arith

@@ -1,13 +1,14 @@
--- The choice over masks is the choice over lists of literals.
+-- The choice over masks, and stripping on the way to it, are those over lists of literals.
 use Prim.Native.Nat.{ℕ, zero, suc, _+_, _≤_, _<_}
 use mathlib.Core.Path.{_≡_, refl, sym, _∙_, ap, ap₂, subst}
 use mathlib.Core.Bool.{Bool, true, false, not, cond, _&&_, _||_, or-assoc, or-false}
-use mathlib.Core.List.{List, [], _∷_, _++_, map, append-nil}
+use mathlib.Core.List.{List, [], _∷_, _++_, map, append-nil, List·Memᴰ}
+use mathlib.Core.Logic.{⊎-elim}
 use native.Mathlib.Omega.{arith}
 use lib.Bits.{bitOr, bitXor}
 use lib.Dec.{eqb}
 use borrow.Author.Tests.{eqb-true, eqb-false}
-use Rattle.lists.proofs.TestLaws.{and-left, eqb-comm, bool-clash}
+use Rattle.lists.proofs.TestLaws.{and-left, or-left, eqb-comm, bool-cases, bool-clash}
 use Rattle.masks.specs.Mask.{bit, with, minus, members}
 use Rattle.masks.specs.InnerMask.{lowest}
 use Rattle.masks.proofs.MembersLaws.{some-member, member-some, members-none}
@@ -15,27 +16,29 @@ use Rattle.masks.proofs.BitLaws.{bit-with, bit-minus, bit-none}
 use Rattle.matching.specs.Search.{Outcome, outcome, succeeds, expansions}
 use Rattle.formula.specs.declared.Clause.{Clause}
 use Rattle.formula.specs.declared.Formula.{Formula}
-use Rattle.formula.specs.Format.{Literal, names}
+use Rattle.formula.specs.Format.{Literal, names, names-as}
 use Rattle.formula.specs.InnerMasked.{clause-of, formula-of}
 use Rattle.formula.specs.InnerFits.{clause-variables}
-use Rattle.formula.proofs.FormatLaws.{clause-more}
+use Rattle.formula.proofs.FormatLaws.{names-append, names-either, clause-more}
 use Rattle.splitting.specs.declared.Assignment.{Assignment}
 use Rattle.splitting.specs.declared.Choice.{Choice}
 use Rattle.splitting.specs.declared.Reduced.{Reduced}
 use Rattle.splitting.specs.declared.Survey.{Survey}
 use Rattle.splitting.specs.declared.Trial.{Trial}
 use Rattle.splitting.specs.Nodes as nodes
-use Rattle.splitting.specs.Nodes.{assign, remaining, occurs, lowest-with, upward}
+use Rattle.splitting.specs.Nodes.{assign, remaining, satisfied-by, occurs, lowest-with, upward}
 use Rattle.splitting.specs.Stripping.{pure, not-naming, Stripped, note, strip, stripped}
 use Rattle.splitting.specs.Choosing as choosing
 use Rattle.splitting.specs.Choosing.{matching-of, trial, both-open, first-passing, candidates, among, listed, last, last-listed, by-left, by-remaining, unassigned-of, choice}
-use Rattle.splitting.specs.InnerChoose.{assigned, set-to, node, survey-from, survey-of, matched-node, reduced-at, pure-of, reduce-from, reduced, tried, passing, greatest, listed-last, others-of, mask-choice, assignment-of}
+use Rattle.splitting.specs.InnerChoose.{assigned, set-to, node, survey-from, survey-of, matched-node, reduced-at, pure-of, reduce-from, reduced, noted-from, tried, passing, greatest, listed-last, others-of, mask-choice, assignment-of}
 use Rattle.splitting.specs.Terms.{Below, Trail}
-use Rattle.splitting.proofs.ClauseLaws.{pure-named}
+use Rattle.splitting.proofs.ClauseLaws.{occurs-in, pure-named}
 use Rattle.splitting.proofs.NodeLaws.{remaining-snoc, named-remaining, below-remaining}
 use Rattle.splitting.proofs.SearchLaws.{lowest-some, among-here, among-more, upward-of, upward-in, last-append}
 use Rattle.splitting.proofs.Theorems.{last-listed-named}
 use Rattle.splitting.proofs.TurnLaws.{strip-next, strip-end}
+use Rattle.splitting.proofs.ReduceLaws.{noted-done, noted-turn}
+use Rattle.splitting.proofs.SatisfiedLaws.{less-all, less-all-other, remaining-in, satisfied-snoc}
 use Rattle.splitting.proofs.MaskNodeLaws.{node-masks, assignment-more, assigned-trail}
 use Rattle.splitting.proofs.MaskSearchLaws.{lowest-empty, lowest-member, members-upward}
 use Rattle.splitting.proofs.MaskClauseLaws.{occurs-bit, named-bit, pure-bit, any-some, sets-variables, empty-emptied, assign-drops, pure-way}
@@ -106,6 +109,30 @@ last-mask n m g fits same low l x e = go (eqb m 0) refl
         e ∙ sym (last-from l) ∙ ap last (sym (append-nil l) ∙ ap (λ (r : List ℕ). l ++ r) (sym none))
     go false q = ap last up ∙ more (eqb-false m 0 q) (upward g n) refl
 
+-- ---- what stripping drops
+
+-- the clause names one of the variables
+unfoldable pub names-any : List ℕ → List Literal → Bool
+names-any [] c = false
+names-any (v ∷ vs) c = names c v || names-any vs c
+
+-- one literal more: naming its variable this way is naming it, wherever the clause was not satisfied before
+drop-more : (s x y z : Bool) → (s ≡ false → x ≡ y) → (s || x) || z ≡ s || (y || z)
+drop-more true x y z e = refl
+drop-more false x y z e = rw (e refl)
+
+-- Stripping at the node of t, over masks: it assigns a trail, t and the noted variables.
+pub record StripsTo (n : ℕ) (cs : List (List Literal)) (t : List Literal) : Type 0 where
+  pub trail : List Literal
+  pub is-trail : Trail n trail
+  pub assigns : reduced (formula-of n cs) (assignment-of t) .assignment ≡ assignment-of trail
+  pub left : remaining trail cs ≡ stripped n (remaining t cs) .left
+  pub noted : noted-from n (formula-of n cs) (assignment-of t) ≡ stripped n (remaining t cs) .noted
+  pub keeps : (v : ℕ) → names t v ≡ true → names trail v ≡ true
+  pub adds : (v : ℕ) → names trail v ≡ true → names t v ≡ false → among (stripped n (remaining t cs) .noted) v ≡ true
+  -- of the formula's clauses it satisfies those that t satisfies, and of the others those that name a noted variable
+  pub drops : (c : List Literal) → List·Memᴰ c cs → satisfied-by trail c ≡ satisfied-by t c || names-any (stripped n (remaining t cs) .noted) c
+
 -- ---- one node
 
 -- A formula of clauses over n variables, and a trail over them. The node over masks has the clauses that remain.
@@ -170,12 +197,15 @@ module _ (n : ℕ) (cs : List (List Literal)) (fits : n ≤ 64) (low : Below n c
     notes : (x : ℕ) → bit (r .noted) x ≡ bit noted x || among (strip k n (remaining t cs) .noted) x
     last-noted : r .last ≡ last-or v (strip k n (remaining t cs) .noted)
     surveyed : r .survey ≡ survey-of (map clause-of (strip k n (remaining t cs) .left))
+    in-order : noted-from k f (assignment-of t) ≡ strip k n (remaining t cs) .noted
+    has : (x : ℕ) → names trail x ≡ names t x || among (strip k n (remaining t cs) .noted) x
+    drops : (c : List Literal) → List·Memᴰ c cs → satisfied-by trail c ≡ satisfied-by t c || names-any (strip k n (remaining t cs) .noted) c
 
   -- nothing is pure: the same on both sides
   stops : (t : List Literal) (k noted v : ℕ) → Trail n t → strip k n (remaining t cs) ≡ record { noted = []; left = remaining t cs }
-      → Reduces t k noted v (reduced-at f (assignment-of t) noted v)
-  unfolding among last-or
-  stops t k noted v w e = record {
+      → noted-from k f (assignment-of t) ≡ [] → Reduces t k noted v (reduced-at f (assignment-of t) noted v)
+  unfolding among last-or names-any
+  stops t k noted v w e d = record {
     trail = t;
     is-trail = w;
     assigns = refl;
@@ -183,6 +213,9 @@ module _ (n : ℕ) (cs : List (List Literal)) (fits : n ≤ 64) (low : Below n c
     notes = λ x. rw e (sym (or-false (bit noted x)));
     last-noted = rw e;
     surveyed = ap survey-of (node-of t w) ∙ rw e;
+    in-order = rw e d;
+    has = λ x. rw e (sym (or-false (names t x)));
+    drops = λ c _. rw e (sym (or-false (satisfied-by t c)));
   }
 
   -- the mask of the pure variables
@@ -235,8 +268,21 @@ module _ (n : ℕ) (cs : List (List Literal)) (fits : n ≤ 64) (low : Below n c
         ∙ ap (λ (d : List (List Literal)). note (lowest-with (pure (remaining t cs)) n) (strip k n d)) (sym next-left)
         ∙ ap (λ (v : ℕ). note v (strip k n (remaining next cs))) (sym (is-lowest .1))
 
+    -- a clause that t does not satisfy names it this way, or not at all
+    one-way : (c : List Literal) → List·Memᴰ c cs → satisfied-by t c ≡ false → names-as c found way ≡ names c found
+    one-way c m s =
+        let d = less-all t c in
+        let off : occurs (remaining t cs) found (not way) ≡ false =
+        ap (λ (b : Bool). occurs (remaining t cs) found (not b)) is-way ∙ pure-way (remaining t cs) found is-pure in
+        let none : names-as c found (not way) ≡ false =
+        ⊎-elim
+        (λ (h : names-as d found (not way) ≡ true). bool-clash (occurs-in (remaining t cs) d found (not way) (remaining-in t c cs (w .once) m s) h) off)
+        (λ (h : names-as d found (not way) ≡ false). sym (less-all-other t c found (not way) is-new) ∙ h)
+        (bool-cases (names-as d found (not way))) in
+        sym (or-false (names-as c found way)) ∙ ap (λ (b : Bool). names-as c found way || b) (sym none) ∙ sym (names-either c found way)
+
     reduces-more : (k noted v : ℕ) (r : Reduced) → Reduces next k (with noted found) found r → Reduces t (suc k) noted v r
-    unfolding among last-or
+    unfolding among last-or names names-any
     reduces-more k noted v r h = record {
       trail = h .trail;
       is-trail = h .is-trail;
@@ -249,11 +295,27 @@ module _ (n : ℕ) (cs : List (List Literal)) (fits : n ≤ 64) (low : Below n c
           ∙ ap (λ (s : Stripped). bit noted x || among (s .noted) x) (sym (stripped-more k));
       last-noted = h .last-noted ∙ ap (λ (s : Stripped). last-or v (s .noted)) (sym (stripped-more k));
       surveyed = h .surveyed ∙ ap (λ (s : Stripped). survey-of (map clause-of (s .left))) (sym (stripped-more k));
+      in-order =
+          noted-turn f (assignment-of t) k e
+          ∙ ap (λ (a : Assignment). found ∷ noted-from k f a) (sym (assignment-more t (record { variable = found; positive = way })))
+          ∙ ap (λ (l : List ℕ). found ∷ l) (h .in-order)
+          ∙ ap (λ (s : Stripped). s .noted) (sym (stripped-more k));
+      has = λ x.
+          h .has x
+          ∙ ap (λ (b : Bool). b || among (strip k n (remaining next cs) .noted) x)
+          (names-append t (record { variable = found; positive = way } ∷ []) x ∙ ap (λ (b : Bool). names t x || b) (or-false (eqb found x)))
+          ∙ or-assoc (names t x) (eqb found x) (among (strip k n (remaining next cs) .noted) x)
+          ∙ ap (λ (s : Stripped). names t x || among (s .noted) x) (sym (stripped-more k));
+      drops = λ c m.
+          h .drops c m
+          ∙ ap (λ (b : Bool). b || names-any (strip k n (remaining next cs) .noted) c) (satisfied-snoc t (record { variable = found; positive = way }) c)
+          ∙ drop-more (satisfied-by t c) (names-as c found way) (names c found) (names-any (strip k n (remaining next cs) .noted) c) (one-way c m)
+          ∙ ap (λ (s : Stripped). satisfied-by t c || names-any (s .noted) c) (sym (stripped-more k));
     }
 
   reduces : (k : ℕ) (t : List Literal) (noted v : ℕ) → Trail n t → Reduces t k noted v (reduce-from k f (assignment-of t) noted v)
-  unfolding reduce-from strip
-  reduces zero t noted v w = stops t 0 noted v w refl
+  unfolding reduce-from strip noted-from
+  reduces zero t noted v w = stops t 0 noted v w refl refl
   reduces (suc k) t noted v w = go (λ s m x u. reduces k s m x u) (eqb (pure-of f (assignment-of t)) 0) refl
     where
       go : ((s : List Literal) (m x : ℕ) → Trail n s → Reduces s k m x (reduce-from k f (assignment-of s) m x)) → (b : Bool) → eqb (pure-of f (assignment-of t)) 0 ≡ b
@@ -267,12 +329,28 @@ module _ (n : ℕ) (cs : List (List Literal)) (fits : n ≤ 64) (low : Below n c
       go ih true e =
           stops t (suc k) noted v w
           (strip-end (suc k) n (remaining t cs) (lowest-empty n (pure-of f (assignment-of t)) (pure (remaining t cs)) fits (pure-mask t w) (pure-low t) (eqb-true (pure-of f (assignment-of t)) 0 e)))
+          (noted-done f (assignment-of t) (suc k) (eqb-true (pure-of f (assignment-of t)) 0 e))
       go ih false e =
           let q = eqb-false (pure-of f (assignment-of t)) 0 e in
           reduces-more t w q k noted v _
           (subst (λ (a : Assignment). Reduces (next t w q) k (with noted (found t w q)) (found t w q) (reduce-from k f a (with noted (found t w q)) (found t w q)))
           (assignment-more t (record { variable = found t w q; positive = way t w q }))
           (ih (next t w q) (with noted (found t w q)) (found t w q) (next-trail t w q)))
+
+  -- as many turns as variables
+  pub strips-to : (t : List Literal) → Trail n t → StripsTo n cs t
+  strips-to t w =
+      let h = reduces n t 0 0 w in
+      record {
+        trail = h .trail;
+        is-trail = h .is-trail;
+        assigns = h .assigns;
+        left = h .left;
+        noted = h .in-order;
+        keeps = λ v e. h .has v ∙ or-left (names t v) _ e;
+        adds = λ v e f. sym (h .has v ∙ rw f) ∙ e;
+        drops = h .drops;
+      }
 
   -- ---- the three cases of the choice
 

@@ -1,5 +1,5 @@
--- Laws of matched lists of clauses: sub-lists, assignments, the splitting theorem, and the model that a matching gives.
-use Prim.Native.Nat.{ℕ, _<_}
+-- Laws of matched lists of clauses: sub-lists, how many they are, assignments, the splitting theorem, and the model that a matching gives.
+use Prim.Native.Nat.{ℕ, _≤_, _<_}
 use mathlib.Core.Path.{_≡_, refl, sym, _∙_, ap, subst}
 use mathlib.Core.Bool.{Bool, true, false, not, cond}
 use mathlib.Core.List.{List, [], _∷_, map, Sublistᴰ, Sublistᴰ·slnil, Sublistᴰ·cons, Sublistᴰ·cons-cons}
@@ -15,13 +15,14 @@ use Rattle.lists.proofs.TabulatedLaws.{length-tabulated, getD-tabulated}
 use Rattle.masks.specs.Mask.{bit}
 use Rattle.matching.specs.Sets.{selected}
 use Rattle.matching.specs.InnerMatched.{Matches, Matched}
+use Rattle.matching.proofs.Counting.{count-all, pigeon}
 use Rattle.matching.proofs.Theorems.{sub-list-matched}
 use Rattle.formula.specs.Format.{Literal, names, names-as, distinct}
 use Rattle.formula.specs.Masked.{variables}
 use Rattle.formula.proofs.ClauseLaws.{named-as, variables-bit}
 use Rattle.splitting.specs.Nodes.{less, assign, named}
-use Rattle.splitting.specs.Terms.{NonePure}
-use Rattle.splitting.proofs.ClauseLaws.{names-some, less-other, occurs-some, occurs-in, named-in, other-way}
+use Rattle.splitting.specs.Terms.{Below, NonePure}
+use Rattle.splitting.proofs.ClauseLaws.{names-some, less-other, occurs-some, occurs-in, named-in, named-by, other-way}
 use Rattle.splitting.proofs.CoreLaws.{Core, core, turn}
 
 -- ── Sub-lists ────────────────────────────────────────────────────────────────────────────────────────────────────────
@@ -59,6 +60,15 @@ matches-names cs vs M i l =
 matches-apart : (cs : List (List Literal)) (vs : List ℕ) → Matches (map variables cs) vs
     → (i j : ℕ) → i < length cs → j < length cs → getD vs i 0 ≡ getD vs j 0 → i ≡ j
 matches-apart cs vs M i j l k = let h = length-map cs variables in M .distinct i j (omega arith) (omega arith)
+
+-- matched clauses over variables below n are at most n
+pub matched-few : (n : ℕ) (cs : List (List Literal)) → Below n cs → Matched (map variables cs) → length cs ≤ n
+matched-few n cs low w =
+    let v : ℕ → ℕ = λ i. getD (w .0) i 0 in
+    let k = pigeon (λ _. true) (length cs) (λ _. true) n v
+    (λ i l _. (low (v i) (named-by cs (at cs i) (v i) (getD-element cs i [] l) (matches-names cs (w .0) (w .1) i l)), refl))
+    (λ i j l m _ _. matches-apart cs (w .0) (w .1) i j l m) in
+    omega (arith, count-all (length cs), count-all n)
 
 matches-of : (cs : List (List Literal)) (m : ℕ → ℕ) → ((i : ℕ) → i < length cs → names (at cs i) (m i) ≡ true)
     → ((i j : ℕ) → i < length cs → j < length cs → m i ≡ m j → i ≡ j) → Matches (map variables cs) (tabulated m (length cs))

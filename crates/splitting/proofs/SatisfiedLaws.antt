@@ -1,8 +1,8 @@
 -- What remains at the node of a trail, clause by clause: a clause that the trail satisfies is gone, another loses the trail's variables.
 use Prim.Native.Nat.{ℕ, _<_}
 use mathlib.Core.Path.{_≡_, refl, sym, _∙_, ap}
-use mathlib.Core.Bool.{Bool, true, false, cond, not, _||_, or-assoc, or-false}
-use mathlib.Core.List.{List, [], _∷_}
+use mathlib.Core.Bool.{Bool, true, false, cond, not, _&&_, _||_, or-assoc, or-false}
+use mathlib.Core.List.{List, [], _∷_, _++_, List·Memᴰ}
 use lib.Dec.{eqb}
 use borrow.Author.Tests.{eq-eqb, ne-eqb}
 use Rattle.lists.proofs.TestLaws.{bool-clash, or-none}
@@ -15,6 +15,7 @@ use Rattle.splitting.specs.declared.Assignment.{Assignment}
 use Rattle.splitting.specs.Nodes.{less, assign, remaining, satisfied-by}
 use Rattle.splitting.specs.InnerChoose.{satisfied-under, unassigned, set-to, assign-all, assignment-of}
 use Rattle.splitting.proofs.ClauseLaws.{less-other, less-of, names-some}
+use Rattle.splitting.proofs.NodeLaws.{assign-in}
 use Rattle.splitting.proofs.MaskNodeLaws.{meets-none, satisfied-more}
 
 -- the clause less the variables of a trail
@@ -32,6 +33,14 @@ less-all-names (l ∷ t) c v h =
     let w = less-of (l .variable) c v (s .0) (s .1) in
     (named-as c v (s .0) (w .0), rw (ne-eqb (l .variable) v (λ q. w .1 (sym q))) (r .1))
 
+-- variables that the trail does not have it names as the clause does
+pub less-all-other : (t c : List Literal) (v : ℕ) (sign : Bool) → names t v ≡ false → names-as (less-all t c) v sign ≡ names-as c v sign
+unfolding less-all names
+less-all-other [] c v sign f = refl
+less-all-other (l ∷ t) c v sign f =
+    let w = or-none (eqb (l .variable) v) (names t v) f in
+    less-all-other t (less (l .variable) c) v sign (w .1) ∙ less-other (l .variable) c v sign (λ q. bool-clash (eq-eqb (l .variable) v (sym q)) (w .0))
+
 -- a variable less does not change whether a trail without it satisfies the clause
 satisfied-less : (x : ℕ) (t c : List Literal) → names t x ≡ false → satisfied-by t (less x c) ≡ satisfied-by t c
 unfolding satisfied-by names
@@ -39,6 +48,36 @@ satisfied-less x [] c f = refl
 satisfied-less x (l ∷ t) c f =
     let w = or-none (eqb (l .variable) x) (names t x) f in
     rw (satisfied-less x t c (w .1), less-other x c (l .variable) (l .positive) (λ q. bool-clash (eq-eqb (l .variable) x q) (w .0)))
+
+-- so it names exactly what the clause names and the trail does not
+pub less-all-named : (t c : List Literal) (v : ℕ) → names (less-all t c) v ≡ names c v && not (names t v)
+less-all-named t c v = at (names (less-all t c) v) (names c v) (names t v) refl refl refl
+  where
+    at : (x y z : Bool) → names (less-all t c) v ≡ x → names c v ≡ y → names t v ≡ z → x ≡ y && not z
+    at true y z e f g = let w = less-all-names t c v e in sym (rw (← f, ← g, w .0, w .1) refl)
+    at false true true e f g = refl
+    at false false z e f g = refl
+    at false true false e f g =
+        let w = names-some c v f in
+        bool-clash (named-as (less-all t c) v (w .0) (less-all-other t c v (w .0) g ∙ w .1)) e
+
+-- a literal more
+pub satisfied-snoc : (t : List Literal) (l : Literal) (c : List Literal) → satisfied-by (t ++ (l ∷ [])) c ≡ satisfied-by t c || names-as c (l .variable) (l .positive)
+unfolding satisfied-by
+satisfied-snoc [] l c = or-false (names-as c (l .variable) (l .positive))
+satisfied-snoc (k ∷ t) l c =
+    ap (λ (b : Bool). names-as c (k .variable) (k .positive) || b) (satisfied-snoc t l c)
+    ∙ sym (or-assoc (names-as c (k .variable) (k .positive)) (satisfied-by t c) (names-as c (l .variable) (l .positive)))
+
+-- a clause that the trail does not satisfy leaves what is left of it
+pub remaining-in : (t c : List Literal) (cs : List (List Literal)) → distinct t ≡ true → List·Memᴰ c cs → satisfied-by t c ≡ false → List·Memᴰ (less-all t c) (remaining t cs)
+unfolding remaining satisfied-by less-all
+remaining-in [] c cs d m f = m
+remaining-in (l ∷ t) c cs d m f =
+    let r = distinct-rest l t d in
+    let w = or-none (names-as c (l .variable) (l .positive)) (satisfied-by t c) f in
+    remaining-in t (less (l .variable) c) (assign (l .variable) (l .positive) cs) (r .1) (assign-in (l .variable) (l .positive) cs c m (w .0))
+    (satisfied-less (l .variable) t c (r .0) ∙ w .1)
 
 -- one clause more
 pub remaining-cons : (t c : List Literal) (cs : List (List Literal)) → distinct t ≡ true

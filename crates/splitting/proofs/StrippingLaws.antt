@@ -14,7 +14,7 @@ use Rattle.formula.specs.Format.{Literal, names, names-as}
 use Rattle.splitting.specs.Nodes.{less, occurs, named, lowest-with}
 use Rattle.splitting.specs.Stripping.{pure, not-naming, Stripped, note, strip, stripped}
 use Rattle.splitting.specs.Choosing.{among, last}
-use Rattle.splitting.specs.Terms.{Below, NonePure}
+use Rattle.splitting.specs.Terms.{Below, NonePure, left-after}
 use Rattle.splitting.proofs.ClauseLaws.{names-some, names-none, occurs-in, occurs-within, occurs-less, named-some, named-within, pure-named, outside}
 use Rattle.splitting.proofs.CountLaws.{count-le, count-drop}
 use Rattle.splitting.proofs.SearchLaws.{lowest-some, lowest-none, among-here, among-more, among-cases, among-none, last-among}
@@ -172,6 +172,26 @@ unnoted-left n cs c =
     (λ cs _ m off. m)
     (λ cs left l x _ _ rec m off. rec (not-naming-in x cs c m (off x (among-here x l))) (λ y t. off y (among-more y x l t)))
     cs
+
+-- and a clause that is left names none
+pub left-unnoted : (n : ℕ) (cs : List (List Literal)) (c : List Literal) → List·Memᴰ c (stripped n cs .left)
+    → (y : ℕ) → among (stripped n cs .noted) y ≡ true → names c y ≡ false
+left-unnoted n cs c m =
+    strip-ind n (λ cs l left. List·Memᴰ c left → List·Memᴰ c cs × ((y : ℕ) → among l y ≡ true → names c y ≡ false))
+    (λ cs _ m. (m, λ y t. among-none y t))
+    (λ cs left l x _ _ rec m.
+    let w = rec m in
+    let off = unnamed (not-naming x cs) x c (w .0) (not-naming-off x cs) in
+    (sub-within (not-naming-sub x cs) c (w .0), λ y t. ⊎-elim (λ (e : y ≡ x). rw e off) (λ k. w .1 y k) (among-cases y x l t)))
+    cs m .1
+
+-- a clause that names none of the variables is left once they have dropped theirs
+pub still-there : (before : List ℕ) (cs : List (List Literal)) (c : List Literal) → List·Memᴰ c cs → ((y : ℕ) → among before y ≡ true → names c y ≡ false)
+    → List·Memᴰ c (left-after before cs)
+unfolding left-after
+still-there [] cs c m off = m
+still-there (v ∷ vs) cs c m off =
+    still-there vs (not-naming v cs) c (not-naming-in v cs c m (off v (among-here v vs))) (λ y t. off y (among-more y v vs t))
 
 -- ── Lemma 4.5 of the source ──────────────────────────────────────────────────────────────────────────────────────────
 

@@ -2,11 +2,12 @@
 use Prim.Native.Nat.{ℕ, suc, _*_, _^_, _≤_, _<_}
 use mathlib.Core.Path.{_≡_, refl}
 use mathlib.Core.Bool.{Bool, true, false}
-use mathlib.Core.List.{List, [], _∷_, _++_, map, List·Memᴰ·head, List·Memᴰ·not-nil, Sublistᴰ}
+use mathlib.Core.List.{List, [], _∷_, _++_, map, List·Memᴰ, List·Memᴰ·head, List·Memᴰ·not-nil, Sublistᴰ}
 use mathlib.Core.Logic.{_↔_}
 use native.Mathlib.Omega.{arith}
 use lib.ListN.{length}
 use Rattle.lists.specs.Every.{Every}
+use Rattle.lists.proofs.SublistLaws.{sub-length}
 use Rattle.masks.specs.Mask.{bit, size}
 use Rattle.matching.specs.InnerMatched.{Matched}
 use Rattle.formula.specs.Format.{Literal, names, ClauseOver}
@@ -15,7 +16,7 @@ use Rattle.formula.specs.Masked.{variables}
 use Rattle.splitting.specs.Nodes.{assign, remaining, named, lowest-with}
 use Rattle.splitting.specs.Stripping.{pure, not-naming, note, stripped}
 use Rattle.splitting.specs.Choosing.{trial, first-passing, candidates, among, listed, last, emptied, unassigned-of, choice}
-use Rattle.splitting.specs.Terms.{Below, NonePure, Sound, Trail, Agrees, Covers, ModelAt, Unassigned, Assigns, opened}
+use Rattle.splitting.specs.Terms.{Below, NonePure, left-after, Sound, Trail, Agrees, Covers, ModelAt, Unassigned, Assigns, opened}
 use Rattle.splitting.proofs.ClauseLaws.{named-by}
 use Rattle.splitting.proofs.StrippingLaws as stripping
 use Rattle.splitting.proofs.TurnLaws as turns
@@ -51,6 +52,25 @@ stripped-next n cs l = turns.stripped-next n cs l
 -- and it ends only where none is.
 pub stripped-end : (n : ℕ) (cs : List (List Literal)) → n ≤ lowest-with (pure cs) n → stripped n cs ≡ record { noted = []; left = cs }
 stripped-end n cs l = turns.stripped-end n cs l
+
+-- S18.1: a clause is left exactly if it names no noted variable.
+pub left-exactly : (n : ℕ) (cs : List (List Literal)) (c : List Literal) → List·Memᴰ c cs
+    → List·Memᴰ c (stripped n cs .left) ↔ ((y : ℕ) → among (stripped n cs .noted) y ≡ true → names c y ≡ false)
+left-exactly n cs c m = (stripping.left-unnoted n cs c, stripping.unnoted-left n cs c m)
+
+-- A variable is noted while it is pure, the lowest such, in what those noted before it have left,
+pub noted-pure : (n : ℕ) (cs : List (List Literal)) (before after : List ℕ) (v : ℕ) → stripped n cs .noted ≡ before ++ (v ∷ after)
+    → (lowest-with (pure (left-after before cs)) n ≡ v) × (v < n) × (pure (left-after before cs) v ≡ true)
+noted-pure n cs before after v e = turns.noted-pure n cs before after v e
+
+-- and a clause that names none of those is still there.
+pub still-there : (before : List ℕ) (cs : List (List Literal)) (c : List Literal) → List·Memᴰ c cs → ((y : ℕ) → among before y ≡ true → names c y ≡ false)
+    → List·Memᴰ c (left-after before cs)
+still-there before cs c m off = stripping.still-there before cs c m off
+
+-- What is noted at the node of a trail is not assigned there.
+pub noted-unassigned : (n : ℕ) (t : List Literal) (cs : List (List Literal)) (v : ℕ) → among (stripped n (remaining t cs) .noted) v ≡ true → names t v ≡ false
+noted-unassigned n t cs v h = nodes.named-remaining t cs v (stripping.noted-named n (remaining t cs) v h) .1
 
 -- ── Something is left (theorem 5.9 of the source) ────────────────────────────────────────────────────────────────────
 
@@ -179,4 +199,14 @@ pub choice-cost : (n scope : ℕ) (cs : List (List Literal)) (t : List Literal) 
     → choice n scope cs t .expansions ≤ size scope * (length cs * suc (length cs))
 unfolding choice
 choice-cost n scope cs t fits low covers =
-    choices.chosen-cost n (length cs) scope (unassigned-of scope t) (remaining t cs) fits (nodes.below-remaining n t cs low) covers (nodes.length-remaining t cs)
+    let l = sub-length (stripping.left-sub n (remaining t cs)) in
+    choices.chosen-cost n (length cs) scope (unassigned-of scope t) (remaining t cs) fits (nodes.below-remaining n t cs low) covers (omega (arith, nodes.length-remaining t cs))
+
+-- At a sound node it makes at most s × n × (n + 1): what stripping leaves there is matched, so no more clauses than variables.
+pub choice-cost-sound : (n scope : ℕ) (cs : List (List Literal)) (t : List Literal) → n ≤ 64 → Below n cs → Covers scope (remaining t cs) → Sound n (remaining t cs)
+    → choice n scope cs t .expansions ≤ size scope * (n * suc n)
+unfolding choice
+choice-cost-sound n scope cs t fits low covers S =
+    let ds = remaining t cs in
+    let b = nodes.below-remaining n t cs low in
+    choices.chosen-cost n n scope (unassigned-of scope t) ds fits b covers (matchings.matched-few n (stripped n ds .left) (choices.left-below n ds fits b) S)

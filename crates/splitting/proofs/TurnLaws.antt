@@ -1,8 +1,8 @@
 -- One turn of stripping, for a loop: no bound on the turns is seen.
 use Prim.Native.Nat.{ℕ, zero, suc, _≤_, _<_}
-use mathlib.Core.Path.{_≡_, refl, sym, _∙_, ap}
+use mathlib.Core.Path.{_≡_, refl, sym, _∙_, ap, subst}
 use mathlib.Core.Bool.{Bool, true, false}
-use mathlib.Core.List.{List, []}
+use mathlib.Core.List.{List, [], _∷_, _++_}
 use mathlib.Core.Logic.{⊎-elim}
 use native.Mathlib.Omega.{arith}
 use lib.Dec.{ltb}
@@ -12,6 +12,7 @@ use Rattle.matching.proofs.Counting.{count}
 use Rattle.formula.specs.Format.{Literal}
 use Rattle.splitting.specs.Nodes.{named, lowest-with}
 use Rattle.splitting.specs.Stripping.{pure, not-naming, Stripped, note, strip, stripped}
+use Rattle.splitting.specs.Terms.{left-after}
 use Rattle.splitting.proofs.CountLaws.{count-le}
 use Rattle.splitting.proofs.SearchLaws.{lowest-some}
 use Rattle.splitting.proofs.StrippingLaws.{falls}
@@ -71,3 +72,29 @@ stripped-next n cs l =
 -- and then it ends
 pub stripped-end : (n : ℕ) (cs : List (List Literal)) → n ≤ lowest-with (pure cs) n → stripped n cs ≡ record { noted = []; left = cs }
 stripped-end n cs l = strip-end n n cs l
+
+-- the first noted variable is the lowest pure one, and the others are noted once it has dropped its clauses
+noted-first : (n : ℕ) (cs : List (List Literal)) (v : ℕ) (l : List ℕ) → stripped n cs .noted ≡ v ∷ l
+    → (lowest-with (pure cs) n < n) × (lowest-with (pure cs) n ≡ v) × (stripped n (not-naming v cs) .noted ≡ l)
+noted-first n cs v l e =
+    let x = lowest-with (pure cs) n in
+    ⊎-elim
+    (λ t.
+    let k = ltb-true x n t in
+    let q = sym (ap (λ (s : Stripped). s .noted) (stripped-next n cs k)) ∙ e in
+    let same : x ≡ v = cc in
+    (k, same, ap (λ (y : ℕ). stripped n (not-naming y cs) .noted) (sym same) ∙ (cc)))
+    (λ f.
+    let q = sym (ap (λ (s : Stripped). s .noted) (stripped-end n cs (ltb-false x n f))) ∙ e in
+    let z : _≡_ {A = ℕ} 0 1 = cc in
+    absurd (omega arith))
+    (bool-cases (ltb x n))
+
+-- each is so where those before it have dropped theirs
+pub noted-pure : (n : ℕ) (cs : List (List Literal)) (before after : List ℕ) (v : ℕ) → stripped n cs .noted ≡ before ++ (v ∷ after)
+    → (lowest-with (pure (left-after before cs)) n ≡ v) × (v < n) × (pure (left-after before cs) v ≡ true)
+unfolding left-after
+noted-pure n cs [] after v e =
+    let w = noted-first n cs v after e in
+    (w .1, subst (λ y. y < n) (w .1) (w .0), subst (λ y. pure cs y ≡ true) (w .1) (lowest-some (pure cs) n (w .0)))
+noted-pure n cs (x ∷ before) after v e = noted-pure n (not-naming x cs) before after v (noted-first n cs x (before ++ (v ∷ after)) e .2)

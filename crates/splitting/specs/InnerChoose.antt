@@ -5,7 +5,8 @@ use mathlib.Core.List.{List, [], _∷_, _++_, map}
 use lib.Bits.{bitOr, bitXor}
 use lib.Dec.{eqb}
 use lib.ListN.{length, getD}
-use Rattle.limits.specs.Limits.{max-clauses}
+use Rattle.limits.specs.Limits.{max-variables, max-clauses}
+use Rattle.lists.specs.Padded.{padded}
 use Rattle.lists.specs.Tabulated.{tabulated}
 use Rattle.masks.specs.Mask.{bit, with, minus, members}
 use Rattle.masks.specs.InnerMask.{meets, lowest}
@@ -21,6 +22,7 @@ use Rattle.formula.specs.InnerFits.{side, clause-variables}
 use Rattle.splitting.specs.declared.Assignment.{Assignment}
 use Rattle.splitting.specs.declared.Choice.{Choice}
 use Rattle.splitting.specs.declared.Reduced.{Reduced}
+use Rattle.splitting.specs.declared.Stripping.{Stripping}
 use Rattle.splitting.specs.declared.Survey.{Survey}
 use Rattle.splitting.specs.declared.Trial.{Trial}
 use Rattle.splitting.specs.Choosing.{both-open, last}
@@ -127,6 +129,23 @@ reduce-from (suc k) f a noted v =
 
 abbrev pub reduced : Formula → Assignment → Reduced
 reduced f a = reduce-from (f .variables) f a 0 0
+
+-- the variables that it notes, in order
+unfoldable pub noted-from : ℕ → Formula → Assignment → List ℕ
+noted-from zero f a = []
+noted-from (suc k) f a =
+    elim (eqb (pure-of f a) 0) [
+      | true ↦ []
+      | false ↦ lowest (pure-of f a) ∷ noted-from k f (set-to a (lowest (pure-of f a)) (bit (survey-of (node f a) .positive) (lowest (pure-of f a))))
+    ]
+
+-- stripping at a node, as the code gives it
+abbrev pub stripping-at : Formula → Assignment → Stripping
+stripping-at f a = record {
+  assignment = reduced f a .assignment;
+  count = length (noted-from (f .variables) f a);
+  order = padded max-variables 0 (noted-from (f .variables) f a);
+}
 
 -- ---- trials
 

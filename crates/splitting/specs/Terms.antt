@@ -2,7 +2,7 @@
 use Prim.Native.Nat.{ℕ, _<_}
 use mathlib.Core.Path.{_≡_}
 use mathlib.Core.Bool.{Bool, true, false}
-use mathlib.Core.List.{List, map, List·Memᴰ}
+use mathlib.Core.List.{List, [], _∷_, map, List·Memᴰ}
 use mathlib.Core.Logic.{_⊎_}
 use Rattle.masks.specs.Mask.{bit}
 use Rattle.matching.specs.InnerMatched.{Matched}
@@ -11,7 +11,7 @@ use Rattle.formula.specs.Masked.{variables}
 use Rattle.formula.specs.Models.{Model}
 use Rattle.splitting.specs.declared.Choice.{Choice}
 use Rattle.splitting.specs.Nodes.{named}
-use Rattle.splitting.specs.Stripping.{pure, stripped}
+use Rattle.splitting.specs.Stripping.{pure, not-naming, stripped}
 
 -- every named variable is below n
 abbrev pub Below : ℕ → List (List Literal) → Type 0
@@ -20,6 +20,11 @@ Below n cs = (v : ℕ) → named cs v ≡ true → v < n
 -- no variable is pure
 abbrev pub NonePure : List (List Literal) → Type 0
 NonePure cs = (v : ℕ) → pure cs v ≡ false
+
+-- what is left of the clauses once the variables of a list, in order, have dropped theirs
+unfoldable pub left-after : List ℕ → List (List Literal) → List (List Literal)
+left-after [] cs = cs
+left-after (v ∷ vs) cs = left-after vs (not-naming v cs)
 
 -- What stripping leaves is matched (definition 5.2 of the source: pure literal matched). This is the invariant of the walk.
 abbrev pub Sound : ℕ → List (List Literal) → Type 0

@@ -13,7 +13,7 @@ ghost use Rattle.lists.specs.Over.{over};
 ghost use Rattle.masks.specs.Mask.{bit, members};
 ghost use Rattle.formula.specs.InnerFits.{FormulaFits, clause-variables};
 ghost use Rattle.splitting.specs.Choosing.{both-open};
-ghost use Rattle.splitting.specs.InnerChoose.{set-to, satisfied-under, left-under, node, unnamed, survey-of, some-empty, matching-at, unassigned, clause-in, clauses-in, formula-in, formula-at, Small, reduce-from, tried, passing, greatest, listed-last, all-satisfied, free-choice, mask-choice};
+ghost use Rattle.splitting.specs.InnerChoose.{set-to, satisfied-under, left-under, node, unnamed, survey-of, some-empty, matching-at, unassigned, clause-in, clauses-in, formula-in, formula-at, Small, reduce-from, stripping-at, tried, passing, greatest, listed-last, all-satisfied, free-choice, mask-choice};
 use formula::Clause;
 use formula::Formula;
 use matching::Matching;
@@ -45,6 +45,13 @@ struct Reduced {
     noted: u64,
     last: usize,
     survey: Survey,
+}
+
+// Stripping at a node: the assignment with the noted variables, each the way that it is named, and these in order, zeros behind them.
+pub struct Stripping {
+    pub assignment: Assignment,
+    pub count: usize,
+    pub order: [u8; limits::MAX_VARIABLES],
 }
 
 // Both matchings succeeded, and the expansions.
@@ -377,6 +384,48 @@ fn reduce(
         noted,
         last,
         survey: survey_clauses(&left_positives, &left_negatives, left_count),
+    }
+}
+
+// What the formula's open clauses name.
+fn survey_open(f: Formula, a: Assignment) -> Survey
+    requires { ⌜ Small f ⌝ }
+    ensures { λ r. ⌜ r ≡ survey-of (node f a) ⌝ }
+{
+    let mut positives = [0u64; limits::MAX_CLAUSES];
+    let mut negatives = [0u64; limits::MAX_CLAUSES];
+    let count = open_node(f, a, &mut positives, &mut negatives);
+    survey_clauses(&positives, &negatives, count)
+}
+
+// S6.2: strips at a node, and tells the order of noting. (The choice has `reduce`, which drops clauses in place and needs no order.)
+pub fn strip(f: Formula, a: Assignment) -> Stripping
+    requires { ⌜ FormulaFits f ⌝ }
+    ensures { λ r. ⌜ r ≡ stripping-at f a ⌝ }
+{
+    let mut assignment = a;
+    let mut order = [0u8; limits::MAX_VARIABLES];
+    let mut count: usize = 0;
+    while count < f.variables {
+        let s = survey_open(f, assignment);
+        let pure = s.positive ^ s.negative;
+        if pure == 0 {
+            return Stripping {
+                assignment,
+                count,
+                order,
+            };
+        }
+        let v = masks::lowest(pure);
+        let value = masks::member(s.positive, v);
+        assignment = assign(assignment, v, value);
+        order[count] = v as u8;
+        count += 1;
+    }
+    Stripping {
+        assignment,
+        count,
+        order,
     }
 }
 
