@@ -85,7 +85,7 @@ module _ (K : Tree) (B : ℕ) where
   abbrev StopLast : ℕ → ℕ → Type 0
   StopLast c e = (c ≡ K .size) × (e ≡ 0)
 
-module _ (K : Tree) (L : Live K) (B : ℕ) (cheap : (t : Stack) → K .choose t .expansions ≤ B) where
+module _ (K : Tree) (L : Live K) (B : ℕ) (cheap : (t : Stack) → Replayed K t → K .choose t .expansions ≤ B) where
   rose-up : (u : Stack) (c v : ℕ) (b : Bool) (t : Stack) → Replayed K (push v b t) → Begins (push v b t) u → c + depth t ≡ K .size → Rose K B u c b t
   rose-up u c v b t r h n = record { had = subst (λ (x : ℕ). Begins (push x b t) u) (r .2) h; count = n }
 
@@ -107,12 +107,12 @@ module _ (K : Tree) (L : Live K) (B : ℕ) (cheap : (t : Stack) → K .choose t 
       stepping : (p : Position) (x : Entry) (y : ℕ) (q : Position) (c e : ℕ) → Reachable K p → rests.Kind K p x q → Steps x y → later K B u c e p → later K B u (suc c) (e + y) q
       stepping p x y q c e o (k-model h) m i = elim m [ ]
       stepping p x y q c e o (k-assign {t} b h) (s-assign l y′) i =
-          let z = step-cheap B (K .choose t) b (cheap t) in
+          let z = step-cheap B (K .choose t) b (cheap t o) in
           let w = i .0 in
           let k = w .count in
           (record { at = w .at; variable = w .variable; had = w .had; has = b-more _ b (w .has); count = omega arith }, omega (arith, suc-mul (depth t) B, i .1))
       stepping p x y q c e o (k-true {t} h) (s-assign l y′) i =
-          let z = step-cheap B (K .choose t) true (cheap t) in
+          let z = step-cheap B (K .choose t) true (cheap t (o .0)) in
           let k = i .0 .count in
           (record { at = t; variable = K .choose t .variable; had = i .0 .had; has = b-same; count = omega arith }, omega (arith, suc-mul (depth t) B, i .1))
       stepping p x y q c e o (k-undo v b {t} (from-full h)) s-undo i =
@@ -141,7 +141,7 @@ module _ (K : Tree) (L : Live K) (B : ℕ) (cheap : (t : Stack) → K .choose t 
       stepping : (p : Position) (x : Entry) (y : ℕ) (q : Position) (c e : ℕ) → Reachable K p → rests.Kind K p x q → Steps x y → first K B c e p → first K B (suc c) (e + y) q
       stepping p x y q c e o (k-model h) m i = elim m [ ]
       stepping p x y q c e o (k-assign {t} b h) (s-assign l y′) i =
-          let z = step-cheap B (K .choose t) b (cheap t) in (omega arith, omega (arith, suc-mul (depth t) B))
+          let z = step-cheap B (K .choose t) b (cheap t o) in (omega arith, omega (arith, suc-mul (depth t) B))
       stepping p x y q c e o (k-true h) m i = absurd i
       stepping p x y q c e o (k-undo v b (from-full h)) m i = absurd i
       stepping p x y q c e o (k-undo v b (from-back d h)) m i = absurd i

@@ -1,5 +1,5 @@
 -- The walk calls on an input that is walked as a task: none is refused, and they are those of the plain machine.
-use Prim.Native.Nat.{ℕ, _-_, _≤_, _<_}
+use Prim.Native.Nat.{ℕ, suc, _*_, _-_, _≤_, _<_}
 use mathlib.Core.Bool.{Bool, true, false, cond}
 use mathlib.Core.List.{List, [], _∷_, _++_, map, List·Memᴰ}
 use mathlib.Core.Logic.{_⊎_, inl, inr, _↔_}
@@ -46,7 +46,7 @@ use Rattle.walk.proofs.MetLaws.{start-stops, down-spent, all-got}
 use Rattle.walk.proofs.AcceptLaws.{stack-replayed, shown-position, call-shown, accepted-stopped, stopped-accepted}
 use Rattle.walk.proofs.ProperLaws.{stop-proper, proper-stop}
 use Rattle.walk.proofs.ByteLaws.{Below}
-use Rattle.walk.proofs.TreeLaws.{walk-same, trail-over, trail-agrees, agrees-trail, trail-below, live, open-model, model-open, splits, cheap}
+use Rattle.walk.proofs.TreeLaws.{walk-same, trail-over, trail-agrees, agrees-trail, trail-below, live, open-model, model-open, splits, cheap, cheap-sound}
 
 module _ (T : Task) where
   -- the mode and the trail behind k entries, and their checkpoint, are those of the position
@@ -235,7 +235,11 @@ module _ (s : List ℕ) (us : List Assumption) (T : Task) (P : Posed T) (walks :
 
   -- the pace over a list of calls
   pub calls-paced : (bs : List ℕ) → Paced (to-assign T) (step-bound T) (gaps (walk-calls s us start bs))
-  calls-paced bs = rw (calls-results bs) (pace (tree T) alive (step-bound T) (cheap T P) bs)
+  calls-paced bs = rw (calls-results bs) (pace (tree T) alive (step-bound T) (λ t _. cheap T P t) bs)
+
+  -- and the sharper one: what stripping leaves at a node is matched
+  pub calls-paced-sound : (bs : List ℕ) → Paced (to-assign T) (to-assign T * (T .variables * suc (T .variables))) (gaps (walk-calls s us start bs))
+  calls-paced-sound bs = rw (calls-results bs) (pace (tree T) alive (to-assign T * (T .variables * suc (T .variables))) (cheap-sound T P) bs)
 
   -- enough steps are not spent
   not-spent : (a : Answer) → (answer-kind a ≡ says-spent → ⊥) → (answer-kind a ≡ says-model) ⊎ (answer-kind a ≡ says-ended)

@@ -21,7 +21,7 @@ use Rattle.splitting.specs.Nodes.{remaining, named}
 use Rattle.splitting.specs.Terms as terms
 use Rattle.splitting.specs.Terms.{Sound, Trail, Covers, ModelAt, Unassigned, Assigns, opened}
 use Rattle.splitting.proofs.NodeLaws.{named-remaining, remaining-append}
-use Rattle.splitting.proofs.Theorems.{open-sound, sound-model, formula-below, remaining-snoc, trail-lacks, trail-full, full-model, open-means, choice-cost}
+use Rattle.splitting.proofs.Theorems.{open-sound, sound-model, formula-below, remaining-snoc, trail-lacks, trail-full, full-model, open-means, choice-cost, choice-cost-sound}
 use Rattle.walk.specs.Task.{Task, to-assign, ModelFor, Posed}
 use Rattle.walk.specs.Plain.{Entry, end, assignment, choice-literal, node-walk, plain-walk}
 use Rattle.walk.specs.InnerStack.{Stack, empty, push, depth, trail-of, tree}
@@ -262,3 +262,7 @@ module _ (T : Task) (P : Posed T) where
       let m = length (T .clauses) in
       let e : to-assign T * m * (m + 1) ≡ to-assign T * (m * suc m) = mul-assoc (to-assign T) m (m + 1) ∙ rw (add-one m) refl in
       rw e (choice-cost (T .variables) (T .scope) (T .clauses) (assigned t) fits low (covered t))
+
+  -- and at a node of the walk at most s × n × (n + 1)
+  pub cheap-sound : (t : Stack) → Replayed (tree T) t → picked t .expansions ≤ to-assign T * (T .variables * suc (T .variables))
+  cheap-sound t r = choice-cost-sound (T .variables) (T .scope) (T .clauses) (assigned t) fits low (covered t) (node t r .sound)
