@@ -17,8 +17,7 @@ use Rattle.assumptions.specs.declared.Assumption.{Assumption}
 use Rattle.assumptions.specs.Assumed.{literal-of}
 use Rattle.assumptions.specs.FirstBad.{NoneBad}
 use Rattle.assumptions.specs.Bytes.{of-bytes}
-use Rattle.splitting.specs.Nodes.{remaining}
-use Rattle.matched.specs.Pairing.{Pairs}
+use Rattle.matched.specs.Pairing.{Pairs, left-of}
 use Rattle.dimacs.specs.Convert.{Conversion, to-encoded, to-text}
 use Rattle.dimacs.proofs.Demands.{read-untouched, write-untouched}
 use Rattle.walk.specs.Task.{under}
@@ -132,14 +131,14 @@ module _ (s assumptions : List ℕ) (g : length assumptions % assumption-size �
         rw (start-written checkpoint start (checkpoint-bytes start) h refl refl)
         (calls-walked start results bs (ap length (padded-none max-variables 0)) k)
 
-    -- So demand 3 holds of them where the input encodes n and cs, none of the assumptions is bad, and vs is a matching of what remains of
-    -- the clauses.
+    -- So demand 3 holds of them where the input encodes n and cs, none of the assumptions is bad, and vs is a matching of what stripping
+    -- leaves of what remains of the clauses.
     pub demand-3-called :
         (n : ℕ) (cs : List (List Literal)) →
         Encodes s n cs →
         NoneBad n (of-bytes assumptions) →
         (vs : List ℕ) →
-        Pairs (remaining (map literal-of (of-bytes assumptions)) cs) vs →
+        Pairs (left-of n (map literal-of (of-bytes assumptions)) cs) vs →
         (bs : List ℕ) →
         (walks-called s assumptions (start-called checkpoint .1) results bs ≡ map walk-told (walk-calls s (of-bytes assumptions) start bs))
         × Dealt s (of-bytes assumptions) (under n (map literal-of (of-bytes assumptions)) cs) bs

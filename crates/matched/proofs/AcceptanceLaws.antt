@@ -1,18 +1,19 @@
--- What acceptance means: an input is accepted under assumptions exactly if it is readable, none of them is bad and what remains of its
--- clauses can be paired; and then what stripping leaves there is matched.
+-- What acceptance means: an input is accepted under assumptions exactly if it is readable, none of them is bad and what stripping leaves of
+-- what remains of its clauses can be paired; the whole is paired first.
 use Prim.Native.Nat.{ℕ, suc, _≤_}
-use mathlib.Core.Bool.{true}
 use mathlib.Core.List.{List, [], map}
-use mathlib.Core.Path.{_≡_, refl}
+use mathlib.Core.Path.{_≡_, refl, _∙_}
 use native.Mathlib.Omega.{arith}
 use lib.ListN.{length, length-map}
 use Rattle.limits.specs.Limits.{max-clauses}
+use Rattle.lists.proofs.EveryLaws.{every-element, every-of}
+use Rattle.lists.proofs.SublistLaws.{sub-length, sub-within}
 use Rattle.masks.specs.Mask.{size}
 use Rattle.formula.specs.declared.Refusal.{Refusal}
 use Rattle.formula.specs.declared.Refusal.the-variants.{Unmatched, BadAssumption}
 use Rattle.formula.specs.InnerDecode.{decode}
 use Rattle.formula.specs.Decoding.{Decoding, readable, refused}
-use Rattle.formula.specs.Format.{Literal, distinct, Sized, ClauseOver}
+use Rattle.formula.specs.Format.{Literal, Sized, ClauseOver}
 use Rattle.formula.specs.Masked.{variables}
 use Rattle.formula.specs.Refusals.{table-row}
 use Rattle.formula.proofs.Demands.{accepted-only, accepted-all, accepted-fits, numbers}
@@ -24,17 +25,18 @@ use Rattle.matching.specs.Search.{Outcome, success, failure, outcome, marks}
 use Rattle.matching.proofs.MatchedLaws.{length-marks, marks-le}
 use Rattle.matching.proofs.Theorems.{success-matches, failure-unmatched, failure-tight, failure-marked}
 use Rattle.splitting.specs.Nodes.{remaining}
+use Rattle.splitting.specs.Stripping.{stripped}
 use Rattle.splitting.specs.Terms.{Sound}
 use Rattle.splitting.proofs.NodeLaws.{length-remaining}
 use Rattle.splitting.proofs.SatisfiedLaws.{remaining-over}
-use Rattle.splitting.proofs.Theorems.{matched-sound}
-use Rattle.matched.specs.Acceptance.{Acceptance, accepted, declined, spread, by-outcome, by-assumed, by-decoding, acceptance}
+use Rattle.splitting.proofs.Theorems.{left-sub-list, matched-sound}
+use Rattle.matched.specs.Acceptance.{Acceptance, accepted, declined, row-byte, whole-byte, dropped-byte, spread, by-left-outcome, by-outcome, formula-acceptance, by-assumed, by-decoding, acceptance}
 use Rattle.matched.specs.InnerAccept.{row-of}
-use Rattle.matched.specs.Pairing.{Pairs, Pairable, Violator, marked}
+use Rattle.matched.specs.Pairing.{Pairs, noted-of, left-of, Pairable, Walkable, Violator, marked}
 use Rattle.matched.proofs.PairingLaws.{masks-words, matches-pairs, pairs-matches}
 use Rattle.matched.proofs.SpreadLaws.{spread-length}
 
--- what remains of a formula's clauses is as small
+-- what remains of a formula's clauses is as small,
 pub remaining-sized : {n : ℕ} {cs : List (List Literal)} (t : List Literal) → Sized n cs → Sized n (remaining t cs)
 remaining-sized {n} {cs} t z = record {
   some = z .some;
@@ -43,6 +45,117 @@ remaining-sized {n} {cs} t z = record {
   clauses = remaining-over n t cs (z .clauses);
 }
 
+-- and so is what stripping leaves of it
+pub left-sized : {n : ℕ} {cs : List (List Literal)} (t : List Literal) → Sized n cs → Sized n (left-of n t cs)
+left-sized {n} {cs} t z =
+    let r = remaining-sized t z in
+    let s = left-sub-list n (remaining t cs) in
+    record {
+      some = z .some;
+      most = z .most;
+      few = omega (arith, sub-length s, r .few);
+      clauses = every-of (ClauseOver n) (left-of n t cs) (λ c m. every-element (ClauseOver n) (remaining t cs) c (r .clauses) (sub-within s c m));
+    }
+
+-- a pairing of what remains pairs what stripping leaves,
+pairs-left : (n : ℕ) (t : List Literal) (cs : List (List Literal)) (vs : List ℕ) → Pairs (remaining t cs) vs → (ws : List ℕ) × Pairs (left-of n t cs) ws
+pairs-left n t cs vs p =
+    let m = matched-sound n (remaining t cs) (vs, pairs-matches (remaining t cs) vs p) in
+    (m .0, matches-pairs (left-of n t cs) (m .0) (m .1))
+
+-- which is the invariant of the walk
+pub left-sound : (n : ℕ) (t : List Literal) (cs : List (List Literal)) (vs : List ℕ) → Pairs (left-of n t cs) vs → Sound n (remaining t cs)
+left-sound n t cs vs p = (vs, pairs-matches (left-of n t cs) vs p)
+
+-- ---- a search over clauses and what it shows
+
+-- the clauses have a pairing
+paired-by : {n : ℕ} {cs : List (List Literal)} (z : Sized n cs) (vs : List ℕ) (e : ℕ) → outcome (map variables cs) ≡ success vs e → Pairs cs vs
+paired-by {n} {cs} z vs e p = matches-pairs cs vs (success-matches (map variables cs) vs e (masks-words z) p)
+
+-- or none, and the taken ones are a violator
+pub none-by : {n : ℕ} {cs : List (List Literal)} (z : Sized n cs) (taken : List ℕ) (e : ℕ) → outcome (map variables cs) ≡ failure taken e → (vs : List ℕ) → Pairs cs vs → ⊥
+none-by {n} {cs} z taken e p vs w = failure-unmatched (map variables cs) taken e (masks-words z) p (vs, pairs-matches cs vs w)
+
+marked-by : {n : ℕ} {cs : List (List Literal)} (z : Sized n cs) (taken : List ℕ) (e : ℕ) → outcome (map variables cs) ≡ failure taken e
+    → Violator cs (marks (length cs) taken) × (length (marked (marks (length cs) taken) cs) ≡ length taken)
+marked-by {n} {cs} z taken e p =
+    let m : length (map variables cs) ≡ length cs = length-map cs variables in
+    let ms = marks (length cs) taken in
+    let count : length (marked ms cs) ≡ length taken = rw m at (failure-marked (map variables cs) taken e (masks-words z) p) in
+    let tight : suc (size (union (marked ms cs))) ≡ length (marked ms cs) = rw m at (failure-tight (map variables cs) taken e (masks-words z) p) in
+    (record { one-each = length-marks (length cs) taken; low = λ i h. marks-le (length cs) taken i h; fewer = tight }, count)
+
+-- ---- a formula under assumptions
+
+-- The cases of what comes of it: a pairing of what remains; one of what stripping leaves of it; or the marks of a violator of that.
+pub data FormulaComes (n : ℕ) (t : List Literal) (cs : List (List Literal)) : Acceptance → Type 0 where
+  paired : (vs : List ℕ) → Pairs (remaining t cs) vs → FormulaComes n t cs (accepted n t cs (spread (whole-byte t) cs (map suc vs)))
+  strips : (vs : List ℕ) → ((ws : List ℕ) → Pairs (remaining t cs) ws → ⊥) → Pairs (left-of n t cs) vs
+      → FormulaComes n t cs (accepted n t cs (spread (row-byte t (noted-of n t cs) dropped-byte) cs (map suc vs)))
+  unpaired : (ms : List ℕ) → Violator (left-of n t cs) ms → ((vs : List ℕ) → Pairs (left-of n t cs) vs → ⊥)
+      → FormulaComes n t cs (declined (Unmatched (length (marked ms (left-of n t cs)))) (spread (row-byte t (noted-of n t cs) (λ v. 0)) cs ms))
+
+module _ (n : ℕ) (t : List Literal) (cs : List (List Literal)) (z : Sized n cs) where
+  formula-comes : FormulaComes n t cs (formula-acceptance n t cs)
+  formula-comes = at (outcome (map variables (remaining t cs))) refl
+    where
+      strip : ((ws : List ℕ) → Pairs (remaining t cs) ws → ⊥) → (o : Outcome) → outcome (map variables (left-of n t cs)) ≡ o
+          → FormulaComes n t cs (by-left-outcome n t cs (stripped n (remaining t cs)) o)
+      strip none (success vs e) p = strips vs none (paired-by (left-sized t z) vs e p)
+      strip none (failure taken e) p =
+          let v = marked-by (left-sized t z) taken e p in
+          rw (← (v .1)) (unpaired (marks (length (left-of n t cs)) taken) (v .0) (none-by (left-sized t z) taken e p))
+
+      at : (o : Outcome) → outcome (map variables (remaining t cs)) ≡ o → FormulaComes n t cs (by-outcome n t cs o)
+      at (success vs e) p = paired vs (paired-by (remaining-sized t z) vs e p)
+      at (failure taken e) p = strip (none-by (remaining-sized t z) taken e p) (outcome (map variables (left-of n t cs))) refl
+
+  -- what remains can be paired: accepted, with such a pairing
+  whole-is : (vs : List ℕ) → Pairs (remaining t cs) vs
+      → (ws : List ℕ) × Pairs (remaining t cs) ws × (formula-acceptance n t cs ≡ accepted n t cs (spread (whole-byte t) cs (map suc ws)))
+  whole-is vs w = by formula-comes
+    where
+      by : {a : Acceptance} → FormulaComes n t cs a → (ws : List ℕ) × Pairs (remaining t cs) ws × (a ≡ accepted n t cs (spread (whole-byte t) cs (map suc ws)))
+      by (paired ws p) = (ws, p, refl)
+      by (strips ws none p) = absurd (none vs w)
+      by (unpaired ms v none) = let x = pairs-left n t cs vs w in absurd (none (x .0) (x .1))
+
+  -- it can't, but what stripping leaves of it can: accepted, with a pairing of that
+  stripped-is : (vs : List ℕ) → Pairs (left-of n t cs) vs → ((ws : List ℕ) → Pairs (remaining t cs) ws → ⊥)
+      → (ws : List ℕ) × Pairs (left-of n t cs) ws × (formula-acceptance n t cs ≡ accepted n t cs (spread (row-byte t (noted-of n t cs) dropped-byte) cs (map suc ws)))
+  stripped-is vs w none = by formula-comes
+    where
+      by : {a : Acceptance} → FormulaComes n t cs a
+          → (ws : List ℕ) × Pairs (left-of n t cs) ws × (a ≡ accepted n t cs (spread (row-byte t (noted-of n t cs) dropped-byte) cs (map suc ws)))
+      by (paired ws p) = absurd (none ws p)
+      by (strips ws _ p) = (ws, p, refl)
+      by (unpaired ms v some) = absurd (some vs w)
+
+  -- either way accepted
+  left-is : (vs : List ℕ) → Pairs (left-of n t cs) vs → (row : List ℕ) × (formula-acceptance n t cs ≡ accepted n t cs row)
+  left-is vs w = by formula-comes
+    where
+      by : {a : Acceptance} → FormulaComes n t cs a → (row : List ℕ) × (a ≡ accepted n t cs row)
+      by (paired ws p) = (spread (whole-byte t) cs (map suc ws), refl)
+      by (strips ws _ p) = (spread (row-byte t (noted-of n t cs) dropped-byte) cs (map suc ws), refl)
+      by (unpaired ms v none) = absurd (none vs w)
+
+  -- what stripping leaves can't be paired: declined by 10, and the marks are a violator
+  unpaired-is : ((vs : List ℕ) → Pairs (left-of n t cs) vs → ⊥)
+      → (ms : List ℕ) × Violator (left-of n t cs) ms
+      × (formula-acceptance n t cs ≡ declined (Unmatched (length (marked ms (left-of n t cs)))) (spread (row-byte t (noted-of n t cs) (λ v. 0)) cs ms))
+  unpaired-is none = by formula-comes
+    where
+      by : {a : Acceptance} → FormulaComes n t cs a
+          → (ms : List ℕ) × Violator (left-of n t cs) ms
+          × (a ≡ declined (Unmatched (length (marked ms (left-of n t cs)))) (spread (row-byte t (noted-of n t cs) (λ v. 0)) cs ms))
+      by (paired vs w) = let x = pairs-left n t cs vs w in absurd (none (x .0) (x .1))
+      by (strips vs _ w) = absurd (none vs w)
+      by (unpaired ms v _) = (ms, v, refl)
+
+-- ---- an input
+
 -- what an accepted input is
 pub record AcceptedInput (s : List ℕ) (us : List Assumption) (n : ℕ) (t : List Literal) (cs : List (List Literal)) (row : List ℕ) : Type 0 where
   pub reads : decode s ≡ readable n cs
@@ -50,19 +163,11 @@ pub record AcceptedInput (s : List ℕ) (us : List Assumption) (n : ℕ) (t : Li
   pub sized : Sized n cs
   pub over : ClauseOver n t
   pub vs : List ℕ
-  pub pairs : Pairs (remaining t cs) vs
-  -- the row has the paired variables, from 1
-  pub from-1 : row ≡ spread t cs (map suc vs)
-  -- what stripping leaves is matched
-  pub sound : Sound n (remaining t cs)
+  pub pairs : Pairs (left-of n t cs) vs
 
--- The cases of what comes of an input: a pairing, the marks of a violator, a bad assumption, or the reader's refusal.
+-- The cases of what comes of an input: that of its formula, a bad assumption, or the reader's refusal.
 pub data Comes (s : List ℕ) (us : List Assumption) : Acceptance → Type 0 where
-  paired : (n : ℕ) (t : List Literal) (cs : List (List Literal)) (vs : List ℕ) → decode s ≡ readable n cs → assumed n us ≡ literals t → Pairs (remaining t cs) vs
-      → Comes s us (accepted n t cs (spread t cs (map suc vs)))
-  unpaired : (n : ℕ) (t : List Literal) (cs : List (List Literal)) (ms : List ℕ) → decode s ≡ readable n cs → assumed n us ≡ literals t → Violator (remaining t cs) ms
-      → ((vs : List ℕ) → Pairs (remaining t cs) vs → ⊥)
-      → Comes s us (declined (Unmatched (length (marked ms (remaining t cs)))) (spread t cs ms))
+  of-formula : (n : ℕ) (t : List Literal) (cs : List (List Literal)) {a : Acceptance} → decode s ≡ readable n cs → assumed n us ≡ literals t → FormulaComes n t cs a → Comes s us a
   bad-assumed : (n : ℕ) (cs : List (List Literal)) (i : ℕ) → decode s ≡ readable n cs → assumed n us ≡ bad i → Comes s us (declined (BadAssumption i) [])
   unreadable : (r : Refusal) → decode s ≡ refused r → Comes s us (declined r [])
 
@@ -71,24 +176,8 @@ module _ (s : List ℕ) (us : List Assumption) where
   unfolding acceptance
   comes = by (decode s) refl
     where
-      at : (n : ℕ) (t : List Literal) (cs : List (List Literal)) → decode s ≡ readable n cs → assumed n us ≡ literals t
-          → (o : Outcome) → outcome (map variables (remaining t cs)) ≡ o → Comes s us (by-outcome n t cs o)
-      at n t cs reads assumes (success vs e) p =
-          let rs = remaining t cs in
-          paired n t cs vs reads assumes (matches-pairs rs vs (success-matches (map variables rs) vs e (masks-words (remaining-sized t (accepted-fits s n cs reads))) p))
-      at n t cs reads assumes (failure taken e) p =
-          let rs = remaining t cs in
-          let w = masks-words (remaining-sized t (accepted-fits s n cs reads)) in
-          let m : length (map variables rs) ≡ length rs = length-map rs variables in
-          let ms = marks (length rs) taken in
-          let count : length (marked ms rs) ≡ length taken = rw m at (failure-marked (map variables rs) taken e w p) in
-          let tight : suc (size (union (marked ms rs))) ≡ length (marked ms rs) = rw m at (failure-tight (map variables rs) taken e w p) in
-          rw (← count)
-          (unpaired n t cs ms reads assumes (record { one-each = length-marks (length rs) taken; low = λ i h. marks-le (length rs) taken i h; fewer = tight })
-          (λ vs q. failure-unmatched (map variables rs) taken e w p (vs, pairs-matches rs vs q)))
-
       under : (n : ℕ) (cs : List (List Literal)) → decode s ≡ readable n cs → (x : Assumed) → assumed n us ≡ x → Comes s us (by-assumed n cs x)
-      under n cs reads (literals t) assumes = at n t cs reads assumes (outcome (map variables (remaining t cs))) refl
+      under n cs reads (literals t) assumes = of-formula n t cs reads assumes (formula-comes n t cs (accepted-fits s n cs reads))
       under n cs reads (bad i) assumes = bad-assumed n cs i reads assumes
 
       by : (d : Decoding) → decode s ≡ d → Comes s us (by-decoding d us)
@@ -98,49 +187,50 @@ module _ (s : List ℕ) (us : List Assumption) where
   pub accepted-is : (n : ℕ) (t : List Literal) (cs : List (List Literal)) (row : List ℕ) → acceptance s us ≡ accepted n t cs row → AcceptedInput s us n t cs row
   accepted-is n t cs row = by comes
     where
-      by : {a : Acceptance} → Comes s us a → a ≡ accepted n t cs row → AcceptedInput s us n t cs row
-      by (paired k u ds vs reads assumes w) q =
+      is : (k : ℕ) (u : List Literal) (ds : List (List Literal)) (r ws : List ℕ) → decode s ≡ readable k ds → assumed k us ≡ literals u → Pairs (left-of k u ds) ws
+          → accepted k u ds r ≡ accepted n t cs row → AcceptedInput s us n t cs row
+      is k u ds r ws reads assumes w q =
           let a : k ≡ n = cc in
           let b : ds ≡ cs = cc in
           let d : u ≡ t = cc in
-          let c : spread u ds (map suc vs) ≡ row = cc in
-          rw (← a, ← b, ← c, ← d)
-          (record {
-            reads = reads;
-            assumes = assumes;
-            sized = accepted-fits s k ds reads;
-            over = literals-over k us u assumes;
-            vs = vs;
-            pairs = w;
-            from-1 = refl;
-            sound = matched-sound k (remaining u ds) (vs, pairs-matches (remaining u ds) vs w);
-          })
-      by (unpaired k u ds ms reads assumes v none) q = let z : _≡_ {A = ℕ} 0 1 = cc in absurd (omega arith)
+          let c : r ≡ row = cc in
+          rw (← a, ← b, ← c, ← d) (record { reads = reads; assumes = assumes; sized = accepted-fits s k ds reads; over = literals-over k us u assumes; vs = ws; pairs = w })
+
+      by : {a : Acceptance} → Comes s us a → a ≡ accepted n t cs row → AcceptedInput s us n t cs row
+      by (of-formula k u ds reads assumes (paired vs w)) q = let x = pairs-left k u ds vs w in is k u ds _ (x .0) reads assumes (x .1) q
+      by (of-formula k u ds reads assumes (strips vs none w)) q = is k u ds _ vs reads assumes w q
+      by (of-formula k u ds reads assumes (unpaired ms v none)) q = let z : _≡_ {A = ℕ} 0 1 = cc in absurd (omega arith)
       by (bad-assumed k ds i reads assumes) q = let z : _≡_ {A = ℕ} 0 1 = cc in absurd (omega arith)
       by (unreadable r e) q = let z : _≡_ {A = ℕ} 0 1 = cc in absurd (omega arith)
 
-  -- a readable input whose remaining clauses can be paired is accepted
-  pub pairs-accepted : (n : ℕ) (t : List Literal) (cs : List (List Literal)) (vs : List ℕ) → decode s ≡ readable n cs → assumed n us ≡ literals t → Pairs (remaining t cs) vs
-      → (row : List ℕ) × (acceptance s us ≡ accepted n t cs row)
-  pairs-accepted n t cs vs reads assumes w = by comes
-    where
-      by : {a : Acceptance} → Comes s us a → (row : List ℕ) × (a ≡ accepted n t cs row)
-      by (paired k u ds ws e f _) =
-          let a : k ≡ n = cc in
-          let b : ds ≡ cs = cc in
-          let d : u ≡ t = cc in
-          (spread u ds (map suc ws), rw (a, b, d))
-      by (unpaired k u ds ms e f v none) =
-          let a : k ≡ n = cc in
-          let b : ds ≡ cs = cc in
-          let d : u ≡ t = cc in
-          absurd (none vs (rw (b, d) w))
-      by (bad-assumed k ds i e f) = let a : k ≡ n = cc in let z : _≡_ {A = ℕ} 0 1 = cc in absurd (omega arith)
-      by (unreadable r e) = let z : _≡_ {A = ℕ} 0 1 = cc in absurd (omega arith)
+  -- A readable input, and no bad assumption: what comes of its formula.
+  module _ (n : ℕ) (t : List Literal) (cs : List (List Literal)) (reads : decode s ≡ readable n cs) (assumes : assumed n us ≡ literals t) where
+    pub read-acceptance : acceptance s us ≡ formula-acceptance n t cs
+    unfolding acceptance
+    read-acceptance = rw (reads, assumes)
 
-  -- so what is accepted is what is pairable
-  pub accepted-pairable : (n : ℕ) (t : List Literal) (cs : List (List Literal)) (row : List ℕ) → acceptance s us ≡ accepted n t cs row → Pairable s us
-  accepted-pairable n t cs row e =
+    fits : Sized n cs
+    fits = accepted-fits s n cs reads
+
+    pub whole-accepted : (vs : List ℕ) → Pairs (remaining t cs) vs
+        → (ws : List ℕ) × Pairs (remaining t cs) ws × (acceptance s us ≡ accepted n t cs (spread (whole-byte t) cs (map suc ws)))
+    whole-accepted vs w = let x = whole-is n t cs fits vs w in (x .0, x .1, read-acceptance ∙ x .2)
+
+    pub stripped-accepted : (vs : List ℕ) → Pairs (left-of n t cs) vs → ((ws : List ℕ) → Pairs (remaining t cs) ws → ⊥)
+        → (ws : List ℕ) × Pairs (left-of n t cs) ws × (acceptance s us ≡ accepted n t cs (spread (row-byte t (noted-of n t cs) dropped-byte) cs (map suc ws)))
+    stripped-accepted vs w none = let x = stripped-is n t cs fits vs w none in (x .0, x .1, read-acceptance ∙ x .2)
+
+    pub left-accepted : (vs : List ℕ) → Pairs (left-of n t cs) vs → (row : List ℕ) × (acceptance s us ≡ accepted n t cs row)
+    left-accepted vs w = let x = left-is n t cs fits vs w in (x .0, read-acceptance ∙ x .1)
+
+    pub unpaired-declined : ((vs : List ℕ) → Pairs (left-of n t cs) vs → ⊥)
+        → (ms : List ℕ) × Violator (left-of n t cs) ms
+        × (acceptance s us ≡ declined (Unmatched (length (marked ms (left-of n t cs)))) (spread (row-byte t (noted-of n t cs) (λ v. 0)) cs ms))
+    unpaired-declined none = let x = unpaired-is n t cs fits none in (x .0, x .1, read-acceptance ∙ x .2)
+
+  -- so what is accepted is what is walkable
+  pub accepted-walkable : (n : ℕ) (t : List Literal) (cs : List (List Literal)) (row : List ℕ) → acceptance s us ≡ accepted n t cs row → Walkable s us
+  accepted-walkable n t cs row e =
       let a = accepted-is n t cs row e in
       record {
         variables = n;
@@ -151,35 +241,18 @@ module _ (s : List ℕ) (us : List Assumption) where
         pairs = rw (← (literals-are n us t (a .assumes))) (a .pairs);
       }
 
-  -- its assumptions have none twice
-  pub pairable-once : (w : Pairable s us) → distinct (map literal-of us) ≡ true
-  pairable-once w = literals-over (w .variables) us (map literal-of us) (none-bad-literals (w .variables) us (w .none-bad)) .once
+  pub walkable-accepted : (w : Walkable s us) → (row : List ℕ) × (acceptance s us ≡ accepted (w .variables) (map literal-of us) (w .clauses) row)
+  walkable-accepted w =
+      left-accepted (w .variables) (map literal-of us) (w .clauses) (accepted-all s (w .variables) (w .clauses) (w .encodes))
+      (none-bad-literals (w .variables) us (w .none-bad)) (w .vs) (w .pairs)
 
-  pub pairable-accepted : (w : Pairable s us) → (row : List ℕ) × (acceptance s us ≡ accepted (w .variables) (map literal-of us) (w .clauses) row)
-  pairable-accepted w =
-      pairs-accepted (w .variables) (map literal-of us) (w .clauses) (w .vs) (accepted-all s (w .variables) (w .clauses) (w .encodes))
-      (none-bad-literals (w .variables) us (w .none-bad)) (w .pairs)
+  -- what is pairable is walkable
+  pub pairable-walkable : Pairable s us → Walkable s us
+  pairable-walkable w =
+      let x = pairs-left (w .variables) (map literal-of us) (w .clauses) (w .vs) (w .pairs) in
+      record { variables = w .variables; clauses = w .clauses; encodes = w .encodes; none-bad = w .none-bad; vs = x .0; pairs = x .1 }
 
-  -- one whose remaining clauses can't is declined by 10, and the marks are a violator
-  pub unpaired-declined : (n : ℕ) (t : List Literal) (cs : List (List Literal)) → decode s ≡ readable n cs → assumed n us ≡ literals t → ((vs : List ℕ) → Pairs (remaining t cs) vs → ⊥)
-      → (ms : List ℕ) × Violator (remaining t cs) ms × (acceptance s us ≡ declined (Unmatched (length (marked ms (remaining t cs)))) (spread t cs ms))
-  unpaired-declined n t cs reads assumes none = by comes
-    where
-      by : {a : Acceptance} → Comes s us a → (ms : List ℕ) × Violator (remaining t cs) ms × (a ≡ declined (Unmatched (length (marked ms (remaining t cs)))) (spread t cs ms))
-      by (paired k u ds vs e f w) =
-          let a : k ≡ n = cc in
-          let b : ds ≡ cs = cc in
-          let d : u ≡ t = cc in
-          absurd (none vs (rw (b, d) at w))
-      by (unpaired k u ds ms e f v _) =
-          let a : k ≡ n = cc in
-          let b : ds ≡ cs = cc in
-          let d : u ≡ t = cc in
-          (ms, rw (b, d) at v, rw (b, d))
-      by (bad-assumed k ds i e f) = let a : k ≡ n = cc in let z : _≡_ {A = ℕ} 0 1 = cc in absurd (omega arith)
-      by (unreadable r e) = let z : _≡_ {A = ℕ} 0 1 = cc in absurd (omega arith)
-
-  -- a readable one with a bad assumption by 16
+  -- a readable input with a bad assumption is declined by 16
   pub bad-declined : (n : ℕ) (cs : List (List Literal)) (i : ℕ) → decode s ≡ readable n cs → assumed n us ≡ bad i → acceptance s us ≡ declined (BadAssumption i) []
   unfolding acceptance
   bad-declined n cs i e f = rw (e, f)
@@ -194,8 +267,9 @@ module _ (s : List ℕ) (us : List Assumption) where
   declined-number r row = by comes
     where
       by : {a : Acceptance} → Comes s us a → a ≡ declined r row → 2 ≤ table-row r .number
-      by (paired n t cs vs reads assumes w) q = let z : _≡_ {A = ℕ} 0 1 = cc in absurd (omega arith)
-      by (unpaired n t cs ms reads assumes v none) q = let e : Unmatched (length (marked ms (remaining t cs))) ≡ r = cc in rw (← e) (omega arith)
+      by (of-formula n t cs reads assumes (paired vs w)) q = let z : _≡_ {A = ℕ} 0 1 = cc in absurd (omega arith)
+      by (of-formula n t cs reads assumes (strips vs none w)) q = let z : _≡_ {A = ℕ} 0 1 = cc in absurd (omega arith)
+      by (of-formula n t cs reads assumes (unpaired ms v none)) q = let e : Unmatched (length (marked ms (left-of n t cs))) ≡ r = cc in rw (← e) (omega arith)
       by (bad-assumed n cs i reads assumes) q = let e : BadAssumption i ≡ r = cc in rw (← e) (omega arith)
       by (unreadable t reads) q = let e : t ≡ r = cc in rw (← e) (numbers s t reads .0)
 
@@ -204,7 +278,10 @@ module _ (s : List ℕ) (us : List Assumption) where
   row-few = by comes
     where
       by : {a : Acceptance} → Comes s us a → length (row-of a) ≤ max-clauses
-      by (paired n t cs vs reads assumes w) = omega (arith, spread-length t cs (map suc vs), accepted-fits s n cs reads .few)
-      by (unpaired n t cs ms reads assumes v none) = omega (arith, spread-length t cs ms, accepted-fits s n cs reads .few)
+      by (of-formula n t cs reads assumes (paired vs w)) = omega (arith, spread-length (whole-byte t) cs (map suc vs), accepted-fits s n cs reads .few)
+      by (of-formula n t cs reads assumes (strips vs none w)) =
+          omega (arith, spread-length (row-byte t (noted-of n t cs) dropped-byte) cs (map suc vs), accepted-fits s n cs reads .few)
+      by (of-formula n t cs reads assumes (unpaired ms v none)) =
+          omega (arith, spread-length (row-byte t (noted-of n t cs) (λ v. 0)) cs ms, accepted-fits s n cs reads .few)
       by (bad-assumed n cs i reads assumes) = omega arith
       by (unreadable r e) = omega arith

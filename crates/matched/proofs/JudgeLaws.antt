@@ -1,5 +1,5 @@
 -- What judge is by what comes of the input, and that it is what the code writes and answers.
-use Prim.Native.Nat.{ℕ, suc, _≤_, _<_}
+use Prim.Native.Nat.{ℕ, _≤_, _<_}
 use mathlib.Core.List.{List, map}
 use mathlib.Core.Path.{_≡_, refl, sym, ap, _∙_}
 use native.Mathlib.Omega.{arith}
@@ -10,20 +10,19 @@ use Rattle.lists.specs.Over.{over}
 use Rattle.formula.specs.declared.Formula.{Formula}
 use Rattle.formula.specs.declared.Outcome.the-variants as outcomes
 use Rattle.formula.specs.declared.Refusal.{Refusal}
-use Rattle.formula.specs.declared.Refusal.the-variants.{ShortBuffer, Unmatched}
+use Rattle.formula.specs.declared.Refusal.the-variants.{ShortBuffer}
 use Rattle.formula.specs.InnerDecode.{decode}
 use Rattle.formula.specs.Decoding.{readable}
 use Rattle.formula.specs.Format.{Literal}
 use Rattle.formula.proofs.Demands.{numbers}
 use Rattle.assumptions.specs.declared.Assumption.{Assumption}
 use Rattle.assumptions.specs.Assumed.{literals, bad, literal-of, assumed}
-use Rattle.splitting.specs.Nodes.{remaining}
 use Rattle.matched.specs.declared.Row.{Row}
-use Rattle.matched.specs.Acceptance.{Acceptance, accepted, declined, spread, acceptance}
+use Rattle.matched.specs.Acceptance.{Acceptance, accepted, declined, acceptance}
 use Rattle.matched.specs.InnerAccept.{Represents}
 use Rattle.matched.specs.Judge.{JudgementValues, Judged, accepted-values, refused-values, judgement-of, judge}
-use Rattle.matched.specs.Pairing.{Pairs, Pairable, Violator, marked}
-use Rattle.matched.proofs.AcceptanceLaws.{Comes, paired, unpaired, bad-assumed, unreadable, comes, accepted-is, accepted-pairable, pairable-accepted, unpaired-declined, declined-number}
+use Rattle.matched.specs.Pairing.{Pairs, left-of, Walkable}
+use Rattle.matched.proofs.AcceptanceLaws.{paired, strips, unpaired, Comes, of-formula, bad-assumed, unreadable, comes, accepted-walkable, walkable-accepted, declined-number}
 
 -- the parts of what judge is
 pub told : {j : Judged} {a : JudgementValues} {row left : List ℕ} → j ≡ record { answer = a; buffer = row } → left ≡ row → (a ≡ j .answer) × (left ≡ j .buffer)
@@ -66,35 +65,19 @@ module _ (s : List ℕ) (us : List Assumption) (b : List ℕ) (l : max-clauses �
   pub judge-declined : (r : Refusal) (row : List ℕ) → acceptance s us ≡ declined r row → judge s us b ≡ record { answer = refused-values r; buffer = over row b }
   judge-declined r row e = rw (judge-long, e)
 
-  -- an answer without a number is for a pairing
-  pub numberless-pairable : judge s us b .answer .number ≡ 0 → Pairable s us
-  numberless-pairable q = by (acceptance s us) refl
+  -- an answer without a number is for a walkable input,
+  pub numberless-walkable : judge s us b .answer .number ≡ 0 → Walkable s us
+  numberless-walkable q = by (acceptance s us) refl
     where
-      by : (a : Acceptance) → acceptance s us ≡ a → Pairable s us
-      by (accepted n t cs row) e = accepted-pairable s us n t cs row e
+      by : (a : Acceptance) → acceptance s us ≡ a → Walkable s us
+      by (accepted n t cs row) e = accepted-walkable s us n t cs row e
       by (declined r row) e = absurd (omega (arith, declined-number s us r row e, ap (λ (j : Judged). j .answer .number) (judge-declined r row e)))
 
-  -- a pairable input is accepted, with a pairing of what remains in the buffer
-  pub pairable-judged : (w : Pairable s us)
-      → (let t = map literal-of us in
-      (vs : List ℕ) × Pairs (remaining t (w .clauses)) vs
-      × (judge s us b ≡ record { answer = accepted-values (w .variables) (length (w .clauses)); buffer = over (spread t (w .clauses) (map suc vs)) b }))
-  pairable-judged w =
-      let t = map literal-of us in
-      let x = pairable-accepted s us w in
-      let a = accepted-is s us (w .variables) t (w .clauses) (x .0) (x .1) in (
-        a .vs,
-        a .pairs,
-        judge-accepted (w .variables) t (w .clauses) (x .0) (x .1)
-            ∙ ap (λ (l : List ℕ). record { answer = accepted-values (w .variables) (length (w .clauses)); buffer = over l b }) (a .from-1),
-      )
-
-  -- a readable input with no bad assumption that is not pairable is refused, with a violator of what remains in the buffer
-  pub unpaired-judged : (n : ℕ) (t : List Literal) (cs : List (List Literal)) → decode s ≡ readable n cs → assumed n us ≡ literals t
-      → ((vs : List ℕ) → Pairs (remaining t cs) vs → ⊥)
-      → (ms : List ℕ) × Violator (remaining t cs) ms
-      × (judge s us b ≡ record { answer = refused-values (Unmatched (length (marked ms (remaining t cs)))); buffer = over (spread t cs ms) b })
-  unpaired-judged n t cs e f none = let x = unpaired-declined s us n t cs e f none in (x .0, x .1, judge-declined _ _ (x .2))
+  -- and such an input gets none
+  pub walkable-numberless : Walkable s us → judge s us b .answer .number ≡ 0
+  walkable-numberless w =
+      let x = walkable-accepted s us w in
+      ap (λ (j : Judged). j .answer .number) (judge-accepted (w .variables) (map literal-of us) (w .clauses) (x .0) (x .1))
 
   -- an input is refused by 16 only where it is readable and an assumption is bad, the first at the place
   pub judged-bad : (i : ℕ) → judge s us b .answer .number ≡ 16 → judge s us b .answer .place ≡ i
@@ -103,7 +86,21 @@ module _ (s : List ℕ) (us : List Assumption) (b : List ℕ) (l : max-clauses �
     where
       by : {a : Acceptance} → Comes s us a → judgement-of a b .answer .number ≡ 16 → judgement-of a b .answer .place ≡ i
           → (n : ℕ) × (cs : List (List Literal)) × (decode s ≡ readable n cs) × (assumed n us ≡ bad i)
-      by (paired n t cs vs reads assumes w) e p = absurd (omega arith)
-      by (unpaired n t cs ms reads assumes v none) e p = absurd (omega arith)
+      by (of-formula n t cs reads assumes (paired vs w)) e p = absurd (omega arith)
+      by (of-formula n t cs reads assumes (strips vs none w)) e p = absurd (omega arith)
+      by (of-formula n t cs reads assumes (unpaired ms v none)) e p = absurd (omega arith)
       by (bad-assumed n cs j reads assumes) e p = (n, cs, reads, assumes ∙ ap bad p)
       by (unreadable r reads) e p = absurd (omega (arith, numbers s r reads .1))
+
+  -- and by 10 only where what stripping leaves can't be paired
+  pub judged-unmatched : judge s us b .answer .number ≡ 10
+      → (n : ℕ) × (t : List Literal) × (cs : List (List Literal)) × (decode s ≡ readable n cs) × (assumed n us ≡ literals t) × ((vs : List ℕ) → Pairs (left-of n t cs) vs → ⊥)
+  judged-unmatched q = by (comes s us) (ap (λ (j : Judged). j .answer .number) (sym judge-long) ∙ q)
+    where
+      by : {a : Acceptance} → Comes s us a → judgement-of a b .answer .number ≡ 10
+          → (n : ℕ) × (t : List Literal) × (cs : List (List Literal)) × (decode s ≡ readable n cs) × (assumed n us ≡ literals t) × ((vs : List ℕ) → Pairs (left-of n t cs) vs → ⊥)
+      by (of-formula n t cs reads assumes (paired vs w)) e = absurd (omega arith)
+      by (of-formula n t cs reads assumes (strips vs none w)) e = absurd (omega arith)
+      by (of-formula n t cs reads assumes (unpaired ms v none)) e = (n, t, cs, reads, assumes, none)
+      by (bad-assumed n cs j reads assumes) e = absurd (omega arith)
+      by (unreadable r reads) e = absurd (omega (arith, numbers s r reads .1))

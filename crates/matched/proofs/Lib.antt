@@ -1,8 +1,11 @@
-pub mod AcceptanceLaws
-pub mod AcceptLaws
-pub mod Demands
-pub mod JudgeLaws
 pub mod PairingLaws
 pub mod SpreadLaws
+pub mod DroppedLaws
+pub mod TellLaws
 pub mod UnderLaws
+pub mod AcceptanceLaws
+pub mod AcceptLaws
+pub mod JudgeLaws
+pub mod KeptLaws
 pub mod UnassumedLaws
+pub mod Demands

@@ -4,3 +4,4 @@ pub mod InnerSpread
 pub mod Judge
 pub mod Pairing
 pub mod WithoutAssumptions
+pub mod WithoutStripping

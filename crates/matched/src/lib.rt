@@ -1,4 +1,4 @@
-// Which inputs are accepted, each with its matching or a violator, and the act judge (S5.6, S5.7, S17.2).
+// Which inputs are accepted, each with its matching or a violator, and the act judge (S5.6, S5.7, S17.2, S18).
 //
 // `accept` says what comes of an input (`acceptance`) to judge, walk, list and print, which have read it; judge writes it into a lent
 // buffer.
@@ -15,20 +15,24 @@ ghost use Rattle.formula.specs.InnerFits.{FormulaFits};
 ghost use Rattle.assumptions.specs.declared.Assumption.{Assumption};
 ghost use Rattle.assumptions.specs.InnerAssumed.{MasksOf};
 ghost use Rattle.splitting.specs.InnerChoose.{assignment-of};
-ghost use Rattle.matched.specs.Acceptance.{acceptance, formula-acceptance};
+ghost use Rattle.splitting.specs.Nodes.{remaining};
+ghost use Rattle.splitting.specs.Stripping.{stripped};
+ghost use Rattle.matched.specs.Acceptance.{acceptance, by-stripped, formula-acceptance};
 ghost use Rattle.matched.specs.InnerAccept.{ReaderGives, assigned-by, refused-row, Represents};
-ghost use Rattle.matched.specs.InnerSpread.{bytes-at};
+ghost use Rattle.matched.specs.InnerSpread.{bytes-at, NotesFit, first-noted, told-byte, told-bytes};
 ghost use Rattle.matched.specs.Judge.{judgement-values, judge};
 use assumptions::Assumption;
 use assumptions::Assumptions;
+use formula::Clause;
 use formula::Formula;
 use formula::Outcome;
 use formula::Refusal;
 use splitting::Assignment;
+use splitting::Stripping;
 
 // What comes of an input (`acceptance`), beside its formula: whether it is accepted, and the first `length` bytes of the table: for each
-// clause 0 if an assumption satisfies it, else its variable, from 1; or, where what remains can't be matched, 1 for a marked clause and 0
-// for another. Another refused input has no bytes. Zeros follow.
+// clause 0 if an assumption satisfies it, else its variable, from 1, or, if stripping dropped it, 128 and the variable that dropped it; or,
+// where what stripping leaves can't be matched, 1 for a marked clause and 0 for another. Another refused input has no bytes. Zeros follow.
 pub struct Row {
     pub outcome: Outcome,
     pub length: usize,
@@ -74,7 +78,79 @@ fn spread(
     table
 }
 
-// What comes of a formula that was read, under assumptions of which none is bad.
+// The first noted variable that the clause names, 0 if it names none.
+fn first_noted(s: Stripping, c: Clause) -> usize
+    requires { ⌜ NotesFit s ⌝ }
+    ensures { λ r. ⌜ r ≡ first-noted s c ⌝ }
+{
+    let names = c.positive | c.negative;
+    let mut i: usize = 0;
+    while i < s.count {
+        let v = s.order[i] as usize;
+        if masks::member(names, v) {
+            return v;
+        }
+        i += 1;
+    }
+    0
+}
+
+// The byte of a clause: 128 and the variable, from 1, that dropped it, or the given one if stripping did not drop it.
+fn tell(a: Assignment, s: Stripping, c: Clause, byte: u8) -> u8
+    requires { ⌜ NotesFit s ⌝ }
+    ensures { λ r. ⌜ r ≡ told-byte a s c byte ⌝ }
+{
+    if splitting::is_satisfied(s.assignment, c) & !splitting::is_satisfied(a, c) {
+        return (first_noted(s, c) + 129) as u8;
+    }
+    byte
+}
+
+// The bytes of the clauses that stripping dropped, and those of the others as in the table.
+fn tell_dropped(
+    f: Formula,
+    a: Assignment,
+    s: Stripping,
+    table: [u8; limits::MAX_CLAUSES],
+) -> [u8; limits::MAX_CLAUSES]
+    requires { ⌜ (f .count ≤ max-clauses) × NotesFit s ⌝ }
+    ensures { λ r. ⌜ r ≡ padded max-clauses 0 (told-bytes (f .clauses) a s table (f .count)) ⌝ }
+{
+    let mut told = [0u8; limits::MAX_CLAUSES];
+    let mut i: usize = 0;
+    while i < f.count {
+        told[i] = tell(a, s, f.clauses[i], table[i]);
+        i += 1;
+    }
+    told
+}
+
+// S18.1: what comes of a formula of which what remains is not matched: what stripping leaves of it is matched.
+fn strip_row(f: Formula, a: Assignment) -> Row
+    requires { ⌜ FormulaFits f ⌝ }
+    ensures { λ r. ⌜ ((n : ℕ) (t : List Literal) (cs : List (List Literal)) → Sized n cs → ClauseOver n t → f ≡ formula-of n cs → a ≡ assignment-of t
+        → Represents (by-stripped n t cs (stripped n (remaining t cs))) f r) ⌝ }
+{
+    let count = f.count;
+    let s = splitting::strip(f, a);
+    let m = splitting::match_open(f, s.assignment);
+    let answers = m.table;
+    if m.complete {
+        let table = spread(f, s.assignment, answers, 1);
+        return Row {
+            outcome: Outcome::Accepted,
+            length: count,
+            table: tell_dropped(f, a, s, table),
+        };
+    }
+    Row {
+        outcome: Outcome::Refused(Refusal::Unmatched(m.marked)),
+        length: count,
+        table: spread(f, s.assignment, answers, 0),
+    }
+}
+
+// What comes of a formula that was read, under assumptions of which none is bad: what remains is matched whole, or stripped.
 fn match_row(f: Formula, a: Assignment) -> Row
     requires { ⌜ FormulaFits f ⌝ }
     ensures { λ r. ⌜ ((n : ℕ) (t : List Literal) (cs : List (List Literal)) → Sized n cs → ClauseOver n t → f ≡ formula-of n cs → a ≡ assignment-of t
@@ -90,11 +166,7 @@ fn match_row(f: Formula, a: Assignment) -> Row
             table: spread(f, a, answers, 1),
         };
     }
-    Row {
-        outcome: Outcome::Refused(Refusal::Unmatched(m.marked)),
-        length: count,
-        table: spread(f, a, answers, 0),
-    }
+    strip_row(f, a)
 }
 
 // A refusal without bytes.
@@ -108,7 +180,7 @@ fn no_row(refusal: Refusal) -> Row
     }
 }
 
-// S5.6, S17.2: what comes of an input, by the reader's answer and the assumptions. The formula stays with the caller: to hand it on would be to
+// S5.6, S17.2, S18.1: what comes of an input, by the reader's answer and the assumptions. The formula stays with the caller: to hand it on would be to
 // copy it.
 pub fn accept(outcome: Outcome, f: Formula, u: Assumptions) -> Row
     requires { ⌜ ((s : List ℕ) × (us : List Assumption) × ReaderGives s outcome f × MasksOf s us u) ⌝ }
@@ -138,7 +210,7 @@ fn write(table: [u8; limits::MAX_CLAUSES], n: usize, buffer: &mut [u8])
 }
 
 // S5.7: the act judge, over the masks of the assumptions: the numbers of variables and clauses and, in the buffer, the matching; or the
-// refusal, with the violator in the buffer if what remains is not matched.
+// refusal, with the violator in the buffer if what stripping leaves is not matched.
 pub fn find_matching_under(input: &[u8], u: Assumptions, buffer: &mut [u8]) -> Judgement
     requires { ⌜ ((us : List Assumption) × MasksOf (now input) us u) ⌝ }
     ensures { λ r. ⌜ ((us : List Assumption) → MasksOf (now (input .entry)) us u

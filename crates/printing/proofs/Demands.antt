@@ -1,25 +1,35 @@
 -- What the print owes to the limit of its input (S12.2): of a longer input the program takes the first 16,384 bytes as the whole. And that
 -- assumptions, of which it takes none, change nothing in it (S17.6).
-use Prim.Native.Nat.{ℕ, _<_}
-use mathlib.Core.List.{List, _++_, map}
+use Prim.Native.Nat.{ℕ, _≤_, _<_}
+use mathlib.Core.List.{List, [], _++_, map}
 use mathlib.Core.Path.{_≡_, refl, sym, ap, _∙_}
 use native.Mathlib.Omega.{arith}
 use lib.ListN.{length, take, drop, length-drop, take-append-drop}
 use lib.Seq.{length-take-le, take-append-seam}
+use Rattle.limits.specs.Limits.{max-clauses}
+use Rattle.formula.specs.declared.Refusal.the-variants.{Unmatched}
 use Rattle.formula.specs.Format.{Literal, Encodes}
 use Rattle.formula.specs.InnerDecode.{decode}
 use Rattle.formula.specs.Decoding.{Decoding, readable, refused}
 use Rattle.formula.specs.Masked.{variables}
-use Rattle.formula.proofs.Demands.{cut}
+use Rattle.formula.proofs.Demands.{cut, accepted-all}
+use Rattle.assumptions.proofs.Demands.{no-assumptions}
 use Rattle.matching.specs.Search.{Outcome, success, failure, outcome}
+use Rattle.splitting.specs.Stripping.{Stripped, stripped}
 use Rattle.matched.specs.Acceptance.{acceptance}
-use Rattle.matched.specs.WithoutAssumptions.{plain-by-outcome, plain-by-decoding, plain-acceptance}
-use Rattle.matched.proofs.Demands.{acceptance-unassumed}
+use Rattle.matched.specs.Judge.{Judged, refused-values, judge}
+use Rattle.matched.specs.Pairing.{Pairs, left-of, Pairable, marked}
+use Rattle.matched.specs.WithoutAssumptions.{plain-by-left, plain-by-outcome, plain-by-decoding, plain-acceptance}
+use Rattle.matched.specs.WithoutStripping.{whole-acceptance}
+use Rattle.matched.proofs.AcceptanceLaws.{unpaired-declined}
+use Rattle.matched.proofs.Demands.{acceptance-unassumed, acceptance-kept}
+use Rattle.matched.proofs.JudgeLaws.{judge-declined}
 use Rattle.walk.specs.Task.{Task}
 use Rattle.walk.proofs.Demands.{task-unassumed}
 use Rattle.printing.specs.Printed.{header, refused-line, max-models, walk-lines, acceptance-lines, printed}
 use Rattle.printing.specs.Printing.{max-input}
 use Rattle.printing.specs.WithoutAssumptions.{plain-lines}
+use Rattle.printing.proofs.PrintLaws.{declined-prints}
 
 -- an input that is cut prints its refusal, by 2 at the length that is left
 pub cut-printed : (s t : List ℕ) (n : ℕ) (cs : List (List Literal)) → Encodes (s ++ t) n cs → 0 < length t → printed s ≡ refused-line 2 (length s)
@@ -42,10 +52,27 @@ pub printed-unassumed : (s : List ℕ) → printed s ≡ plain-lines (plain-acce
 unfolding printed plain-acceptance
 printed-unassumed s = ap acceptance-lines (acceptance-unassumed s) ∙ by (decode s)
   where
+    stripped-at : (n : ℕ) (cs : List (List Literal)) (st : Stripped) (o : Outcome) → acceptance-lines (plain-by-left n cs st o) ≡ plain-lines (plain-by-left n cs st o)
+    stripped-at n cs st (success vs e) = ap (λ (T : Task). header n (length cs) ++ walk-lines T max-models 0) (task-unassumed n cs)
+    stripped-at n cs st (failure taken e) = refl
+
     at : (n : ℕ) (cs : List (List Literal)) (o : Outcome) → acceptance-lines (plain-by-outcome n cs o) ≡ plain-lines (plain-by-outcome n cs o)
     at n cs (success vs e) = ap (λ (T : Task). header n (length cs) ++ walk-lines T max-models 0) (task-unassumed n cs)
-    at n cs (failure taken e) = refl
+    at n cs (failure taken e) = stripped-at n cs (stripped n cs) (outcome (map variables (stripped n cs .left)))
 
     by : (d : Decoding) → acceptance-lines (plain-by-decoding d) ≡ plain-lines (plain-by-decoding d)
     by (readable n cs) = at n cs (outcome (map variables cs))
     by (refused r) = refl
+
+-- S18.4: and for an input of which what remains is matched itself, it is what it is if nothing is stripped
+pub printed-kept : (s : List ℕ) → Pairable s [] → printed s ≡ acceptance-lines (whole-acceptance s [])
+unfolding printed
+printed-kept s w = ap acceptance-lines (acceptance-kept s [] w)
+
+-- S18.3: of a readable input of which what stripping leaves is not matched 10 is printed, with the number of marks that judge gives
+pub unmatched-printed : (s buffer : List ℕ) (n : ℕ) (cs : List (List Literal)) → max-clauses ≤ length buffer → Encodes s n cs → ((vs : List ℕ) → Pairs (left-of n [] cs) vs → ⊥)
+    → (k : ℕ) × (judge s [] buffer .answer ≡ refused-values (Unmatched k)) × (printed s ≡ refused-line 10 k)
+unmatched-printed s buffer n cs l w none =
+    let x = unpaired-declined s [] n [] cs (accepted-all s n cs w) (no-assumptions n) none in
+    let k = length (marked (x .0) (left-of n [] cs)) in
+    (k, ap (λ (j : Judged). j .answer) (judge-declined s [] buffer l (Unmatched k) _ (x .2)), declined-prints s (Unmatched k) _ (x .2))

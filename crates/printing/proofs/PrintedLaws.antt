@@ -1,45 +1,36 @@
 -- How long the whole print is, and that no call that it makes says spent.
 use Prim.Native.Nat.{ℕ, zero, suc, _+_, _*_, _^_, _≤_, _<_}
-use mathlib.Core.List.{List, [], _∷_, _++_, map}
+use mathlib.Core.List.{List, [], _++_, map}
 use mathlib.Core.Logic.{_⊎_, inl, inr}
 use mathlib.Core.Path.{_≡_, refl, ap, _∙_}
 use native.Mathlib.Nat.{mul-le-mul}
 use native.Mathlib.Omega.{arith}
-use lib.Bits.{or-lt}
-use lib.ListN.{length, getD, replicate, length-append, length-map, List·getD-map}
-use lib.Pow.{pow-pos}
+use lib.ListN.{length, replicate, length-append, length-map}
 use Rattle.limits.specs.Limits.{max-variables}
-use Rattle.lists.proofs.EveryLaws.{every-getD}
-use Rattle.masks.proofs.SizeLaws.{size-le}
 use Rattle.formula.specs.declared.Refusal.{Refusal}
 use Rattle.formula.specs.declared.Refusal.the-variants.{Unmatched}
 use Rattle.formula.specs.InnerDecode.{decode}
 use Rattle.formula.specs.Decoding.{refused}
-use Rattle.formula.specs.Format.{Literal, ClauseOver, Sized, Encodes}
+use Rattle.formula.specs.Format.{Literal, Encodes}
 use Rattle.formula.specs.Masked.{variables}
 use Rattle.formula.specs.Refusals.{table-row}
 use Rattle.formula.specs.Table.{Beginning, written, Given, no-kind, kind-unknown, kind-misplaced, no-body, count-bad, variable-unknown, literal-complementary, clause-extra, byte-extra}
-use Rattle.formula.proofs.ClauseLaws.{variables-lt}
 use Rattle.formula.proofs.Demands.{accepted-only, accepted-all, accepted-fits, refused-only, numbers}
 use Rattle.assumptions.specs.FirstBad.{NoneBad}
 use Rattle.assumptions.proofs.Demands.{literals-exactly, literals-are, no-assumptions}
-use Rattle.matching.specs.Sets.{union}
 use Rattle.matching.proofs.MatchedLaws.{selected-few}
-use Rattle.matching.proofs.Theorems.{pigeonhole}
 use Rattle.splitting.specs.Nodes.{remaining}
-use Rattle.splitting.proofs.NodeLaws.{length-remaining}
 use Rattle.matched.specs.Acceptance.{Acceptance, accepted, declined, acceptance}
-use Rattle.matched.specs.Pairing.{Pairs, marked}
-use Rattle.matched.proofs.AcceptanceLaws.{AcceptedInput, Comes, paired, unpaired, bad-assumed, unreadable, comes, accepted-is, pairs-accepted}
-use Rattle.matched.proofs.PairingLaws.{masks-words, pairs-matches}
+use Rattle.matched.specs.Pairing.{Pairs, left-of, marked}
+use Rattle.matched.proofs.AcceptanceLaws.{left-sized, paired, strips, unpaired, AcceptedInput, Comes, of-formula, bad-assumed, unreadable, comes, accepted-is, left-accepted}
 use Rattle.walk.specs.Task.{Task, under, to-assign, Posed}
 use Rattle.walk.specs.Checkpoints.{Checkpoint}
 use Rattle.walk.specs.PlainMachine.{Answer, found, spent, ended, plain-call, plain-calls, state-after}
 use Rattle.walk.specs.WalkCall.{walk-call}
 use Rattle.walk.specs.InnerLocate.{task-call}
 use Rattle.walk.specs.Results.{says-model, says-ended, answer-kind, plain-result}
-use Rattle.walk.specs.Gaps.{ample-budget, step-bound, gap-after, gaps-from, gaps, PacedLater, Paced}
-use Rattle.walk.proofs.Demands.{under-size, demand-3}
+use Rattle.walk.specs.Gaps.{ample-budget, gap-after, gaps-from, gaps, PacedLater, Paced}
+use Rattle.walk.proofs.Demands.{under-size, demand-3, sharper}
 use Rattle.walk.proofs.TaskLaws.{call-plain, last-plain}
 use Rattle.walk.proofs.RefusalLaws.{accepted-posed, call-accepted}
 use Rattle.printing.specs.Printing.{max-input, max-model-line, max-print}
@@ -91,31 +82,11 @@ module _ (T : Task) (m B : ℕ) (few : T .variables ≤ max-variables) (fewer : 
       go spent s e b bytes p = omega arith
       go ended s e b bytes p = absurd p
 
--- ---- a matched formula has at most as many clauses as variables
-
-union-lt : (n : ℕ) (sets : List ℕ) → ((i : ℕ) → i < length sets → getD sets i 0 < 2 ^ n) → union sets < 2 ^ n
-unfolding union
-union-lt n [] h = pow-pos n
-union-lt n (x ∷ sets) h = or-lt n x (union sets) (h 0 (omega arith)) (union-lt n sets (λ i l. h (suc i) (omega arith)))
-
-clause-lt : (n : ℕ) (cs : List (List Literal)) → Sized n cs → (i : ℕ) → i < length (map variables cs) → getD (map variables cs) i 0 < 2 ^ n
-unfolding variables
-clause-lt n cs z i l =
-    let m : i < length cs = rw (length-map cs variables) at l in
-    rw (List·getD-map variables cs i []) (variables-lt n (getD cs i []) (every-getD (ClauseOver n) cs i [] m (z .clauses) .below))
-
-pub clauses-few : (n : ℕ) (cs : List (List Literal)) (vs : List ℕ) → Sized n cs → Pairs cs vs → length cs ≤ n
-clauses-few n cs vs z w =
-    let m : length (map variables cs) ≡ length cs = length-map cs variables in
-    let p = pigeonhole (map variables cs) (masks-words z) (vs, pairs-matches cs vs w) in
-    let u = size-le n (union (map variables cs)) (union-lt n (map variables cs) (clause-lt n cs z)) in
-    omega arith
-
 -- ---- the whole
 
--- S9.5: the bound n × n × m × (m + 1) is at most 5,419,008, for n and m up to 48
-cost : (n m : ℕ) → n ≤ max-variables → m ≤ max-variables → n * (n * m * (m + 1)) ≤ 5419008
-cost n m h k = let l : m + 1 ≤ 49 = omega arith in let c = mul-le-mul h (mul-le-mul (mul-le-mul h k) l) in omega arith
+-- the bound s × s × n × (n + 1) is at most 5,419,008, for s and n up to 48
+cost : (s n : ℕ) → s ≤ max-variables → n ≤ max-variables → s * (s * (n * suc n)) ≤ 5419008
+cost s n h k = let l : suc n ≤ 49 = omega arith in let c = mul-le-mul h (mul-le-mul h (mul-le-mul k l)) in omega arith
 
 -- in an empty list no assumption is bad
 none-bad : (n : ℕ) → NoneBad n []
@@ -123,14 +94,16 @@ none-bad n = literals-exactly n [] .0 ([], no-assumptions n)
 
 walk-short : (s : List ℕ) (n : ℕ) (cs : List (List Literal)) (row : List ℕ) (w : AcceptedInput s [] n [] cs row) (j : ℕ)
     → length (walk-lines (under n [] cs) j 0) ≤ max-model-line * j + length more-line
-unfolding remaining
 walk-short s n cs row w j =
     let z = w .sized in
-    let m = clauses-few n cs (w .vs) z (w .pairs) in
+    let T = under n [] cs in
     let t = under-size n [] cs (z .most) (none-bad n) in
-    let c = cost (to-assign (under n [] cs)) (length cs) (omega (arith, z .most)) (omega (arith, z .most)) in
-    let d = demand-3 s [] n cs (accepted-only s n cs (w .reads)) (none-bad n) (w .vs) (w .pairs) (replicate j ample-budget) in
-    first-short (under n [] cs) (to-assign (under n [] cs)) (step-bound (under n [] cs)) (z .most) (omega (arith, z .most)) (omega arith) j 0 (rw (d .plain) at (d .paced))
+    let c = cost (to-assign T) n (omega (arith, z .most)) (z .most) in
+    let e = accepted-only s n cs (w .reads) in
+    let bs = replicate j ample-budget in
+    let d = demand-3 s [] n cs e (none-bad n) (w .vs) (w .pairs) bs .plain in
+    let p = sharper s [] n cs e (none-bad n) (w .vs) (w .pairs) bs in
+    first-short T (to-assign T) (to-assign T * (n * suc n)) (z .most) (omega (arith, z .most)) (omega arith) j 0 (rw d at p)
 
 -- a refusal's place is within the input
 place-le : {len at : ℕ} {b : Beginning} {s : List ℕ} {r : Refusal} → Given len at b s r → len ≡ at + length s → table-row r .place ≤ len
@@ -152,14 +125,13 @@ refused-short s r e h =
 
 -- the most bytes that are printed, 60,026
 pub printed-length : (s : List ℕ) → length s ≤ max-input → length (printed s) ≤ max-print
-unfolding printed remaining
+unfolding printed
 printed-length s h = go (acceptance s []) refl
   where
     walked : (n : ℕ) (cs : List (List Literal)) (row : List ℕ) → AcceptedInput s [] n [] cs row → length (header n (length cs) ++ walk-lines (under n [] cs) max-models 0) ≤ max-print
     walked n cs row w =
         let z = w .sized in
-        let m = clauses-few n cs (w .vs) z (w .pairs) in
-        let a = header-length n (length cs) (omega (arith, z .most)) (omega (arith, z .most)) in
+        let a = header-length n (length cs) (omega (arith, z .most)) (omega (arith, z .few)) in
         let b = walk-short s n cs row w max-models in
         rw (length-append (header n (length cs)) (walk-lines (under n [] cs) max-models 0)) (omega arith)
 
@@ -167,14 +139,14 @@ printed-length s h = go (acceptance s []) refl
     refused-within r row = by (comes s [])
       where
         by : {a : Acceptance} → Comes s [] a → a ≡ declined r row → length (refusal-line r) ≤ max-print
-        by (paired n t cs vs reads assumes w) q = let z : _≡_ {A = ℕ} 0 1 = cc in absurd (omega arith)
-        by (unpaired n t cs ms reads assumes v none) q =
-            let rs = remaining t cs in
-            let e : Unmatched (length (marked ms rs)) ≡ r = cc in
-            let f = accepted-fits s n cs reads .few in
-            let g = length-remaining t cs in
-            let k = selected-few ms (map variables rs) in
-            let l = refused-line-length 10 (length (marked ms rs)) (omega arith) (omega (arith, length-map rs variables)) in
+        by (of-formula n t cs reads assumes (paired vs w)) q = let z : _≡_ {A = ℕ} 0 1 = cc in absurd (omega arith)
+        by (of-formula n t cs reads assumes (strips vs none w)) q = let z : _≡_ {A = ℕ} 0 1 = cc in absurd (omega arith)
+        by (of-formula n t cs reads assumes (unpaired ms v none)) q =
+            let ls = left-of n t cs in
+            let e : Unmatched (length (marked ms ls)) ≡ r = cc in
+            let f = left-sized t (accepted-fits s n cs reads) .few in
+            let k = selected-few ms (map variables ls) in
+            let l = refused-line-length 10 (length (marked ms ls)) (omega arith) (omega (arith, length-map ls variables)) in
             rw (← e) (omega arith)
         by (bad-assumed n cs i reads assumes) q = let z : _≡_ {A = ℕ} 0 1 = cc (no-assumptions n) in absurd (omega arith)
         by (unreadable t reads) q = let e : t ≡ r = cc in let l = refused-short s t reads h in rw (← e) (omega arith)
@@ -193,7 +165,7 @@ not-spent a (inl h) e = let z : _≡_ {A = ℕ} 0 1 = cc in omega arith
 not-spent a (inr h) e = let z : _≡_ {A = ℕ} 0 1 = cc in omega arith
 
 -- after j calls on an ample budget, the next one on it brings a model or the end
-pub never-spent : (s : List ℕ) (n : ℕ) (cs : List (List Literal)) (vs : List ℕ) → Encodes s n cs → Pairs cs vs → (j : ℕ)
+pub never-spent : (s : List ℕ) (n : ℕ) (cs : List (List Literal)) (vs : List ℕ) → Encodes s n cs → Pairs (left-of n [] cs) vs → (j : ℕ)
     → plain-call (under n [] cs) ample-budget (state-after (under n [] cs) 0 (replicate j ample-budget)) .answer ≡ spent → ⊥
 unfolding remaining
 never-spent s n cs vs e w j =
@@ -207,7 +179,7 @@ never-spent s n cs vs e w j =
     T = under n [] cs
 
     a : (row : List ℕ) × (acceptance s [] ≡ accepted n [] cs row)
-    a = pairs-accepted s [] n [] cs vs (accepted-all s n cs e) (no-assumptions n) w
+    a = left-accepted s [] n [] cs (accepted-all s n cs e) (no-assumptions n) vs w
 
     P : Posed (under n [] cs)
     P = accepted-posed s [] n [] cs (a .0) (a .1)

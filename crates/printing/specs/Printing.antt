@@ -12,7 +12,7 @@ use Rattle.printing.specs.Printed.{more-line, max-models, printed}
 abbrev pub max-input : ℕ
 max-input = 16384
 
--- the longest first line, `switches 48 rules 48`: a matched formula has no more clauses than variables
+-- the longest first line, `switches 48 rules 96`: two digits each
 abbrev pub max-header : ℕ
 max-header = 21
 

@@ -1,5 +1,5 @@
 -- S10, demand 3, as one record about any list of walk calls; then what demands 1 and 2 ask of the walk.
-use Prim.Native.Nat.{ℕ, _-_, _≤_, _<_}
+use Prim.Native.Nat.{ℕ, suc, _*_, _-_, _≤_, _<_}
 use mathlib.Core.Bool.{Bool, true, false}
 use mathlib.Core.List.{List, [], _∷_, _++_, map, List·Memᴰ}
 use mathlib.Core.Logic.{_⊎_, _↔_}
@@ -20,18 +20,19 @@ use Rattle.assumptions.specs.declared.Assumption.{Assumption}
 use Rattle.assumptions.specs.Assumed.{literal-of}
 use Rattle.assumptions.specs.FirstBad.{NoneBad, FirstBad}
 use Rattle.assumptions.proofs.Demands.{bad-exactly, none-bad-literals, literals-over}
-use Rattle.matched.specs.Acceptance.{accepted, acceptance}
+use Rattle.matched.specs.Acceptance.{Acceptance, accepted, acceptance}
 use Rattle.matched.specs.Judge.{refused-values, judge}
-use Rattle.matched.specs.Pairing.{Pairs, Pairable}
+use Rattle.matched.specs.Pairing.{Pairs, left-of, Pairable, Walkable}
 use Rattle.matched.specs.WithoutAssumptions.{plain-acceptance}
-use Rattle.matched.proofs.AcceptanceLaws.{pairs-accepted}
-use Rattle.splitting.specs.Nodes.{remaining}
+use Rattle.matched.specs.WithoutStripping.{whole-acceptance}
+use Rattle.matched.proofs.Demands.{acceptance-kept}
+use Rattle.matched.proofs.AcceptanceLaws.{left-accepted}
 use Rattle.splitting.specs.Terms.{Agrees, opened}
 use Rattle.walk.specs.Task.{Task, whole, under, to-assign, choice-at, ModelFor, Posed}
 use Rattle.walk.specs.Plain.{assigns, assignment, plain-walk, listing}
 use Rattle.walk.specs.Checkpoints.{Checkpoint, checkpoint-of, start, behind}
 use Rattle.walk.specs.PlainMachine.{found, spent, ended, plain-call, plain-calls, state-after, Has}
-use Rattle.walk.specs.WalkCall.{walk-call, walk-calls, last-checkpoint}
+use Rattle.walk.specs.WalkCall.{call-on, walk-call, walk-calls, last-checkpoint}
 use Rattle.walk.specs.WithoutAssumptions.{plain-call-on}
 use Rattle.walk.specs.InnerLocate.{task-call}
 use Rattle.walk.specs.Results.{says-model, says-spent, says-ended, says-refused, Result, answered, refusing, plain-result}
@@ -96,19 +97,19 @@ module _ (s : List ℕ) (us : List Assumption) (T : Task) (P : Posed T) (walks :
     ample = laws.calls-ample s us T P walks bs;
   }
 
--- S5.6, S17.2: an accepted formula: the input encodes n and cs, none of the assumptions is bad, and vs is a matching of what remains of the
--- clauses.
+-- S5.6, S17.2, S18.1: an accepted formula: the input encodes n and cs, none of the assumptions is bad, and vs is a matching of what stripping
+-- leaves of what remains of the clauses.
 module _ (s : List ℕ) (us : List Assumption) (n : ℕ) (cs : List (List Literal)) (encodes : Encodes s n cs) (good : NoneBad n us)
-    (vs : List ℕ) (pairs : Pairs (remaining (map literal-of us) cs) vs) where
+    (vs : List ℕ) (pairs : Pairs (left-of n (map literal-of us) cs) vs) where
   -- what its walk is over
   abbrev pub task : Task
   task = under n (map literal-of us) cs
 
   abbrev row : List ℕ
-  row = pairs-accepted s us n (map literal-of us) cs vs (accepted-all s n cs encodes) (none-bad-literals n us good) pairs .0
+  row = left-accepted s us n (map literal-of us) cs (accepted-all s n cs encodes) (none-bad-literals n us good) vs pairs .0
 
   accepts : acceptance s us ≡ accepted n (map literal-of us) cs row
-  accepts = pairs-accepted s us n (map literal-of us) cs vs (accepted-all s n cs encodes) (none-bad-literals n us good) pairs .1
+  accepts = left-accepted s us n (map literal-of us) cs (accepted-all s n cs encodes) (none-bad-literals n us good) vs pairs .1
 
   P : Posed task
   P = refusals.accepted-posed s us n (map literal-of us) cs row accepts
@@ -119,6 +120,11 @@ module _ (s : List ℕ) (us : List Assumption) (n : ℕ) (cs : List (List Litera
   -- S10, demand 3
   pub demand-3 : (bs : List ℕ) → Dealt s us task bs
   demand-3 = dealt s us task P walks
+
+  -- S9.5: the waits in expansions, sharper: what stripping leaves at a node is matched, so that it has no more clauses than variables, and
+  -- an assignment makes at most s × n × (n + 1), s the variables to assign. In Dealt the bound has the number of clauses.
+  pub sharper : (bs : List ℕ) → Paced (to-assign task) (to-assign task * (n * suc n)) (gaps (walk-calls s us start bs))
+  sharper = laws.calls-paced-sound s us task P walks
 
   -- S10, demands 2 and 3: the listing has the models of the formula that keep the assumptions and no others: `exact`, over the formula
   -- itself
@@ -203,15 +209,20 @@ module _ (s : List ℕ) (us : List Assumption) (n : ℕ) (cs : List (List Litera
     pub none-left-checkpoints : (c : Checkpoint) → Has task c ↔ ((c ≡ start) ⊎ ((c ≡ checkpoint-of 1 []) ⊎ (c ≡ checkpoint-of 4 [])))
     none-left-checkpoints = lefts.three-checkpoints task none
 
--- S10, demand 2: an input is walked exactly if it is readable, none of the assumptions is bad and what remains is matched: from the start,
--- on any budget.
-pub walked-exactly : (s : List ℕ) (us : List Assumption) (b : ℕ) → (walk-call s us start b .kind ≡ says-refused → ⊥) ↔ Pairable s us
+-- S10, demand 2: an input is walked exactly if it is readable, none of the assumptions is bad and what stripping leaves of what remains is
+-- matched: from the start, on any budget.
+pub walked-exactly : (s : List ℕ) (us : List Assumption) (b : ℕ) → (walk-call s us start b .kind ≡ says-refused → ⊥) ↔ Walkable s us
 walked-exactly = refusals.walked-exactly
 
--- S3.2: 10 before 11: whatever the checkpoint, a readable input with no bad assumption of which what remains is not matched is refused by
--- 10 with the number of marks that judge gives.
+-- S18.4: where what remains is matched itself, every call is what it is if nothing is stripped, from any checkpoint and on any budget.
+pub call-kept : (s : List ℕ) (us : List Assumption) (c : Checkpoint) (b : ℕ) → Pairable s us → walk-call s us c b ≡ call-on (whole-acceptance s us) c b
+unfolding walk-call
+call-kept s us c b w = ap (λ (a : Acceptance). call-on a c b) (acceptance-kept s us w)
+
+-- S3.2: 10 before 11: whatever the checkpoint, a readable input with no bad assumption of which what stripping leaves is not matched is
+-- refused by 10 with the number of marks that judge gives.
 pub unmatched : (s : List ℕ) (us : List Assumption) (buffer : List ℕ) (n : ℕ) (cs : List (List Literal)) (c : Checkpoint) (b : ℕ) → max-clauses ≤ length buffer
-    → Encodes s n cs → NoneBad n us → ((vs : List ℕ) → Pairs (remaining (map literal-of us) cs) vs → ⊥)
+    → Encodes s n cs → NoneBad n us → ((vs : List ℕ) → Pairs (left-of n (map literal-of us) cs) vs → ⊥)
     → (k : ℕ) × (judge s us buffer .answer ≡ refused-values (Unmatched k)) × (walk-call s us c b ≡ refusing (Unmatched k) c)
 unmatched s us buffer n cs c b l w good = refusals.call-unmatched s us buffer n (map literal-of us) cs c b l (accepted-all s n cs w) (none-bad-literals n us good)
 

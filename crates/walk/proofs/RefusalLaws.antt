@@ -16,14 +16,14 @@ use Rattle.formula.proofs.Demands.{numbers}
 use Rattle.assumptions.specs.declared.Assumption.{Assumption}
 use Rattle.assumptions.specs.Assumed.{literals, bad, literal-of, assumed}
 use Rattle.matching.specs.Search.{Outcome, success, failure, outcome}
-use Rattle.splitting.specs.Nodes.{remaining}
+use Rattle.splitting.specs.Stripping.{Stripped, stripped}
 use Rattle.matched.specs.Acceptance.{Acceptance, accepted, declined, acceptance}
 use Rattle.matched.specs.Judge.{Judged, refused-values, judge}
-use Rattle.matched.specs.Pairing.{Pairs, Pairable, marked}
-use Rattle.matched.specs.WithoutAssumptions.{plain-by-outcome, plain-by-decoding, plain-acceptance}
+use Rattle.matched.specs.Pairing.{Pairs, left-of, Walkable, marked}
+use Rattle.matched.specs.WithoutAssumptions.{plain-by-left, plain-by-outcome, plain-by-decoding, plain-acceptance}
 use Rattle.matched.proofs.Demands.{acceptance-unassumed}
 use Rattle.matched.proofs.JudgeLaws.{judge-declined}
-use Rattle.matched.proofs.AcceptanceLaws.{Comes, paired, unpaired, bad-assumed, unreadable, comes, accepted-is, accepted-pairable, pairable-accepted, unpaired-declined, bad-declined, unreadable-declined}
+use Rattle.matched.proofs.AcceptanceLaws.{left-sound, paired, strips, unpaired, Comes, of-formula, bad-assumed, unreadable, comes, accepted-is, accepted-walkable, walkable-accepted, unpaired-declined, bad-declined, unreadable-declined}
 use Rattle.walk.specs.Task.{Task, under, Posed}
 use Rattle.walk.specs.Checkpoints.{Checkpoint, start}
 use Rattle.walk.specs.PlainMachine.{plain-call}
@@ -48,7 +48,7 @@ module _ (s : List ℕ) (us : List Assumption) where
 
   -- which is as the walk asks it
   pub accepted-posed : (n : ℕ) (t : List Literal) (cs : List (List Literal)) (row : List ℕ) → acceptance s us ≡ accepted n t cs row → Posed (under n t cs)
-  accepted-posed n t cs row e = let w = accepted-is s us n t cs row e in under-posed n t cs (w .sized) (w .over) (w .sound)
+  accepted-posed n t cs row e = let w = accepted-is s us n t cs row e in under-posed n t cs (w .sized) (w .over) (left-sound n t cs (w .vs) (w .pairs))
 
   -- an unreadable input gets the reader's refusal
   pub call-unreadable : (r : Refusal) (c : Checkpoint) (b : ℕ) → decode s ≡ refused r → walk-call s us c b ≡ refusing r c
@@ -59,35 +59,35 @@ module _ (s : List ℕ) (us : List Assumption) where
       → walk-call s us c b ≡ refusing (BadAssumption i) c
   call-bad n cs i c b e f = call-declined (BadAssumption i) [] c b (bad-declined s us n cs i e f)
 
-  -- a readable one of which what remains is not matched gets 10 with the number of marks that judge gives
+  -- a readable one of which what stripping leaves is not matched gets 10 with the number of marks that judge gives
   pub call-unmatched : (buffer : List ℕ) (n : ℕ) (t : List Literal) (cs : List (List Literal)) (c : Checkpoint) (b : ℕ) → max-clauses ≤ length buffer
-      → decode s ≡ readable n cs → assumed n us ≡ literals t → ((vs : List ℕ) → Pairs (remaining t cs) vs → ⊥)
+      → decode s ≡ readable n cs → assumed n us ≡ literals t → ((vs : List ℕ) → Pairs (left-of n t cs) vs → ⊥)
       → (k : ℕ) × (judge s us buffer .answer ≡ refused-values (Unmatched k)) × (walk-call s us c b ≡ refusing (Unmatched k) c)
   call-unmatched buffer n t cs c b l reads assumes none =
       let w = unpaired-declined s us n t cs reads assumes none in
-      let k = length (marked (w .0) (remaining t cs)) in
+      let k = length (marked (w .0) (left-of n t cs)) in
       (k, ap (λ (j : Judged). j .answer) (judge-declined s us buffer l (Unmatched k) _ (w .2)), call-declined (Unmatched k) _ c b (w .2))
 
-  -- a call that is not refused: the input can be paired
-  unrefused-pairable : (c : Checkpoint) (b : ℕ) → (walk-call s us c b .kind ≡ says-refused → ⊥) → Pairable s us
-  unrefused-pairable c b h = by (acceptance s us) refl
+  -- a call that is not refused: the input is walkable
+  unrefused-walkable : (c : Checkpoint) (b : ℕ) → (walk-call s us c b .kind ≡ says-refused → ⊥) → Walkable s us
+  unrefused-walkable c b h = by (acceptance s us) refl
     where
-      by : (x : Acceptance) → acceptance s us ≡ x → Pairable s us
-      by (accepted n t cs row) e = accepted-pairable s us n t cs row e
+      by : (x : Acceptance) → acceptance s us ≡ x → Walkable s us
+      by (accepted n t cs row) e = accepted-walkable s us n t cs row e
       by (declined r row) e = absurd (h (ap (λ (x : Result). x .kind) (call-declined r row c b e)))
 
-  pairable-unrefused : (b : ℕ) → Pairable s us → walk-call s us start b .kind ≡ says-refused → ⊥
+  walkable-unrefused : (b : ℕ) → Walkable s us → walk-call s us start b .kind ≡ says-refused → ⊥
   unfolding walk-calls
-  pairable-unrefused b w =
+  walkable-unrefused b w =
       let n = w .variables in
       let t = map literal-of us in
       let cs = w .clauses in
-      let a = pairable-accepted s us w in
+      let a = walkable-accepted s us w in
       calls-unrefused s us (under n t cs) (accepted-posed n t cs (a .0) (a .1)) (call-accepted n t cs (a .0) (a .1)) (b ∷ []) .0
 
-  -- from the start a call is refused exactly if the input cannot be paired
-  pub walked-exactly : (b : ℕ) → (walk-call s us start b .kind ≡ says-refused → ⊥) ↔ Pairable s us
-  walked-exactly b = (unrefused-pairable start b, pairable-unrefused b)
+  -- from the start a call is not refused exactly if the input is walkable
+  pub walked-exactly : (b : ℕ) → (walk-call s us start b .kind ≡ says-refused → ⊥) ↔ Walkable s us
+  walked-exactly b = (unrefused-walkable start b, walkable-unrefused b)
 
   -- a call is refused by 16 only where the input is readable and an assumption is bad, the first at the place
   pub called-bad : (c : Checkpoint) (b i : ℕ) → walk-call s us c b .number ≡ 16 → walk-call s us c b .place ≡ i
@@ -101,8 +101,9 @@ module _ (s : List ℕ) (us : List Assumption) where
 
       by : {a : Acceptance} → Comes s us a → call-on a c b .number ≡ 16 → call-on a c b .place ≡ i
           → (n : ℕ) × (cs : List (List Literal)) × (decode s ≡ readable n cs) × (assumed n us ≡ bad i)
-      by (paired n t cs vs reads assumes w) e p = absurd (walked (under n t cs) (located (under n t cs) c) e)
-      by (unpaired n t cs ms reads assumes v none) e p = absurd (omega arith)
+      by (of-formula n t cs reads assumes (paired vs w)) e p = absurd (walked (under n t cs) (located (under n t cs) c) e)
+      by (of-formula n t cs reads assumes (strips vs none w)) e p = absurd (walked (under n t cs) (located (under n t cs) c) e)
+      by (of-formula n t cs reads assumes (unpaired ms v none)) e p = absurd (omega arith)
       by (bad-assumed n cs j reads assumes) e p = (n, cs, reads, assumes ∙ ap bad p)
       by (unreadable r reads) e p = absurd (omega (arith, numbers s r reads .1))
 
@@ -111,9 +112,13 @@ pub called-unassumed : (s : List ℕ) (c : Checkpoint) (b : ℕ) → walk-call s
 unfolding walk-call plain-acceptance
 called-unassumed s c b = ap (λ (a : Acceptance). call-on a c b) (acceptance-unassumed s) ∙ by (decode s)
   where
+    stripped-at : (n : ℕ) (cs : List (List Literal)) (st : Stripped) (o : Outcome) → call-on (plain-by-left n cs st o) c b ≡ plain-call-on (plain-by-left n cs st o) c b
+    stripped-at n cs st (success vs e) = ap (λ (T : Task). task-call T c b) (under-none n cs)
+    stripped-at n cs st (failure taken e) = refl
+
     at : (n : ℕ) (cs : List (List Literal)) (o : Outcome) → call-on (plain-by-outcome n cs o) c b ≡ plain-call-on (plain-by-outcome n cs o) c b
     at n cs (success vs e) = ap (λ (T : Task). task-call T c b) (under-none n cs)
-    at n cs (failure taken e) = refl
+    at n cs (failure taken e) = stripped-at n cs (stripped n cs) (outcome (map variables (stripped n cs .left)))
 
     by : (d : Decoding) → call-on (plain-by-decoding d) c b ≡ plain-call-on (plain-by-decoding d) c b
     by (readable n cs) = at n cs (outcome (map variables cs))

@@ -1,7 +1,7 @@
 -- `matched::match_row` meets its contract: by whether all clauses are matched.
 use borrow.Author.Needs.{needs}
 use native.Mathlib.Omega.{arith}
-use Rattle.matched.proofs.AcceptLaws.{answers-small, complete-represents, failed-represents}
+use Rattle.matched.proofs.AcceptLaws.{answers-small, whole-represents, stripped-represents}
 use Rattle.matched.proofs.match_row.Statement.{statement}
 use Rattle.matched.proofs.match_row.Tie as tie
 
@@ -16,17 +16,15 @@ spread-requires c κs =
 returns : tie.Need-returns
 returns c n t cs z o q d =
     let m = c .before .before .before .match-open in
-    complete-represents n t cs z o _ q _ d (m .result) (m .ensures) (c .before .if1 .taken) (c .spread .result) (c .spread .ensures)
+    whole-represents (record { sized = z; masks = q; once = o .once; assigned = d; matches = m .ensures }) (c .before .if1 .taken) (c .spread .result) (c .spread .ensures)
 
-spread-requires-2 : tie.Need-spread-requires-2
-spread-requires-2 c κs =
-    let m = c .before .before in
-    (m .before .pre .few, λ i l. omega (arith, answers-small _ (m .before .pre) _ (m .match-open .result) (m .match-open .ensures) i l))
+strip-row-requires : tie.Need-strip-row-requires
+strip-row-requires c κs = search needs
 
 returns-2 : tie.Need-returns-2
 returns-2 c n t cs z o q d =
     let m = c .before .before .before .match-open in
-    failed-represents n t cs z o _ q _ d (m .result) (m .ensures) (c .before .if1 .left) (c .spread2 .result) (c .spread2 .ensures)
+    stripped-represents (record { sized = z; masks = q; once = o .once; assigned = d; matches = m .ensures }) (c .before .if1 .left) _ (c .strip-row .ensures n t cs z o q d)
 
 pub match-row-spec : {M : Type 1} → statement M
-match-row-spec = tie.close (tie.spec match-open-requires spread-requires returns spread-requires-2 returns-2)
+match-row-spec = tie.close (tie.spec match-open-requires spread-requires returns strip-row-requires returns-2)
