@@ -21,12 +21,12 @@ under assumptions a second one, NAME_assumed. Numbers are little-endian. A vecto
 
 An answer:
 
-    1 byte    what it says: 0 no, 1 yes (check), 2 refused, 3 matched (judge), 4 model, 5 spent, 6 ended (walk),
+    1 byte    what it says: 0 no, 1 yes (check), 2 refused, 3 accepted (judge), 4 model, 5 spent, 6 ended (walk),
               7 not compared, 8 models (formulas), 10 written (read_text, write_text)
     1 byte    the refusal's number, else 0
     2 bytes   the refusal's place, the number of models (formulas) or that of the bytes written (read_text, write_text), else 0
-    1 byte    n, the number of variables, if matched, else 0
-    1 byte    m, the number of clauses, if matched, else 0
+    1 byte    n, the number of variables, if accepted, else 0
+    1 byte    m, the number of clauses, if accepted, else 0
 
 Own fields of check, 8 bytes: the assignment.
 
@@ -95,7 +95,7 @@ LINES = 59999  # of VECTORS: the greater numbers are for the edge cases
 LETTERS = string.ascii_lowercase  # the ends of the names of an act's files
 CASES = pathlib.Path(__file__).resolve().parent.parent / 'crates' / 'cases'
 
-NO, YES, REFUSED, MATCHED, MODEL, SPENT, ENDED, NOT_COMPARED, LISTED = range(9)
+NO, YES, REFUSED, ACCEPTED, MODEL, SPENT, ENDED, NOT_COMPARED, LISTED = range(9)
 CONVERTED = 10
 SAYS = {'no': NO, 'yes': YES, 'refused': REFUSED, 'set-up': MODEL, 'spent': SPENT, 'ended': ENDED}
 READ = 16384  # bytes of standard input that the printing program reads
@@ -159,7 +159,7 @@ def check_vector(number, v):
 def judge_vector(number, v):
     length, fill, after = v['slate_len'], v['slate_fill'], bytes.fromhex(v['slate'])
     assert len(after) == length and all(b == fill for b in after[WRITTEN:])
-    says, refusal = (REFUSED, v['refusal']) if v['refusal'] else (MATCHED, (0, 0))
+    says, refusal = (REFUSED, v['refusal']) if v['refusal'] else (ACCEPTED, (0, 0))
     answer = answer_of(says, *refusal, v['n'], v['m'])
     return [[coded(number, assumed_input(v), answer, judge_fields(length, fill, after[:WRITTEN]))]]
 
@@ -282,6 +282,16 @@ def matchable(clauses):
     return all(place(c, set()) for c in range(len(clauses)))
 
 
+def left(clauses):
+    """What stripping leaves: while variables are named with one sign only, the clauses that name them are dropped."""
+    while True:
+        literals = {literal for c in clauses for literal in c}
+        pure = {v for v, x in literals if (v, not x) not in literals}
+        if not pure:
+            return clauses
+        clauses = [c for c in clauses if all(v not in pure for v, _ in c)]
+
+
 def values_of(n, assumed):
     """The assumed values by variable, from the bytes; None if an assumption is bad."""
     values = {}
@@ -309,7 +319,7 @@ def formula_answer(given, assumed):
     if formula is None or 12 < formula[0]:
         return answer_of(NOT_COMPARED)
     values = values_of(formula[0], assumed)
-    if values is None or not matchable(remaining(formula[1], values)):
+    if values is None or not matchable(left(remaining(formula[1], values))):
         return answer_of(NOT_COMPARED)
     return answer_of(LISTED, place=models(*formula, values))
 
@@ -325,6 +335,7 @@ TRUE = ' 02 01 04'     # the clause of variable 1 as true
 ALL = ''.join(' 02 %02x' % v for v in range(1, 49))  # literals of all of 48 variables
 WIDE = ALL + ' 04'  # the clause that names all of 48 variables
 FULLEST = '01 30' + 96 * WIDE + ' 05'  # 9,315 bytes, the most without repeats
+MOST_TRUE = '01 01' + 96 * TRUE + ' 05'  # 96 clauses over one variable
 AGAIN = '01 02 02 01 02 02 02 01 04 03 01 03 01 03 02 03 02 03 01 04 05'  # the example with literals that come again
 
 # check: input, assignment, what the answer says, and the refusal's number and place
@@ -421,8 +432,8 @@ CHECK_EDGES = [
     ('01 01 04 05', 1, NO, 0, 0),
     # 96 clauses, 97, and what comes before the 97th end
     ('01 01' + 96 * EMPTY + ' 05', 0, NO, 0, 0),
-    ('01 01' + 96 * TRUE + ' 05', 0, NO, 0, 0),
-    ('01 01' + 96 * TRUE + ' 05', 1, YES, 0, 0),
+    (MOST_TRUE, 0, NO, 0, 0),
+    (MOST_TRUE, 1, YES, 0, 0),
     ('01 01' + 97 * EMPTY + ' 05', 0, REFUSED, 8, 98),
     ('01 01' + 97 * TRUE + ' 05', 1, REFUSED, 8, 292),
     ('01 01' + 96 * TRUE + EMPTY, 1, REFUSED, 8, 290),
@@ -465,6 +476,14 @@ UNREADABLE = '01 02 06'
 REMATCHED = '01 02 02 01 02 02 04 02 01 04 05'  # clauses (1, 2) and (1): the first gives variable 1 to the second
 MANY = '01 02' + 8191 * ' 02 01' + ' 04 05'  # the clause (1) in 16,386 bytes, more than the printing program reads
 LINKS = '01 30' + ''.join(' 02 %02x 02 %02x 04' % (v, v + 1) for v in range(1, 48))  # clauses (1, 2), (2, 3) .. (47, 48)
+SIGNED = '01 30' + ''.join(' 02 %02x 03 %02x 04' % (v, v + 1) for v in range(1, 48))  # clauses (1, not 2), (2, not 3) .. (47, not 48)
+NARROW = ''.join(' 03 %02x' % v for v in range(1, 49)) + ' 04'  # the clause that names all of 48 variables as false
+# S18: formulas that are not matched whole; all but MARKED strip down to what is matched
+TWICE = '01 01 02 01 04 02 01 04 05'  # the clause (1) twice
+PARTLY = '01 03 02 01 04 02 01 04 02 02 02 03 04 03 02 03 03 04 05'  # clauses (1), (1), (2, 3), (not 2, not 3): 1 drops two
+MARKED = '01 03 02 02 04 02 02 04 02 01 04 03 01 04 05'  # clauses (2), (2), (1), (not 1): 2 drops two, and the others are marked
+LOWER = '01 02 02 01 04 02 01 04 02 01 02 02 04 03 02 04 05'  # clauses (1), (1), (1, 2), (not 2): 1 is noted first
+HIGHER = '01 02 02 02 04 02 02 04 02 01 02 02 04 03 01 04 05'  # clauses (2), (2), (1, 2), (not 1): 2 is
 
 
 def in_order(first, last):
@@ -518,10 +537,10 @@ JUDGE_EDGES = [
     (EXAMPLE, 0, 0xa5, REFUSED, 1, 0, 0, 0, ''),
     (EXAMPLE, 1, 0xa5, REFUSED, 1, 0, 0, 0, ''),
     (EXAMPLE, 95, 0xa5, REFUSED, 1, 0, 0, 0, ''),
-    (EXAMPLE, 96, 0xa5, MATCHED, 0, 0, 2, 2, '01 02'),
-    (EXAMPLE, 97, 0xa5, MATCHED, 0, 0, 2, 2, '01 02'),
-    (EXAMPLE, 200, 0xa5, MATCHED, 0, 0, 2, 2, '01 02'),
-    (EXAMPLE, 255, 0xa5, MATCHED, 0, 0, 2, 2, '01 02'),
+    (EXAMPLE, 96, 0xa5, ACCEPTED, 0, 0, 2, 2, '01 02'),
+    (EXAMPLE, 97, 0xa5, ACCEPTED, 0, 0, 2, 2, '01 02'),
+    (EXAMPLE, 200, 0xa5, ACCEPTED, 0, 0, 2, 2, '01 02'),
+    (EXAMPLE, 255, 0xa5, ACCEPTED, 0, 0, 2, 2, '01 02'),
     (UNMATCHED, 0, 0xa5, REFUSED, 1, 0, 0, 0, ''),
     (UNMATCHED, 1, 0xa5, REFUSED, 1, 0, 0, 0, ''),
     (UNMATCHED, 95, 0xa5, REFUSED, 1, 0, 0, 0, ''),
@@ -537,34 +556,48 @@ JUDGE_EDGES = [
     ('', 0, 0, REFUSED, 1, 0, 0, 0, ''),
     ('', 96, 0, REFUSED, 2, 0, 0, 0, ''),
     # no clauses: nothing is written
-    ('01 01 05', 96, 0xff, MATCHED, 0, 0, 1, 0, ''),
-    ('01 30 05', 96, 0xff, MATCHED, 0, 0, 48, 0, ''),
+    ('01 01 05', 96, 0xff, ACCEPTED, 0, 0, 1, 0, ''),
+    ('01 30 05', 96, 0xff, ACCEPTED, 0, 0, 48, 0, ''),
     # empty clauses: the first is the violator, alone or after a matched clause
     ('01 01 04 05', 96, 0xff, REFUSED, 10, 1, 0, 0, '01'),
     ('01 01 02 01 04 04 05', 96, 0xff, REFUSED, 10, 1, 0, 0, '00 01'),
     ('01 01 04 02 01 04 05', 96, 0xff, REFUSED, 10, 1, 0, 0, '01 00'),
-    # re-matching: a clause of two, a path that ends at variable 48, and one that finds no free end
-    (REMATCHED, 96, 0, MATCHED, 0, 0, 2, 2, '02 01'),
-    (LINKS + ' 05', 96, 0, MATCHED, 0, 0, 48, 47, in_order(1, 47)),
-    (LINKS + ' 02 01 04 05', 96, 0, MATCHED, 0, 0, 48, 48, in_order(2, 48) + ' 01'),
-    (LINKS + ' 02 01 04 02 01 04 05', 96, 0, REFUSED, 10, 2, 0, 0, 47 * '00 ' + '01 01'),
-    (LINKS + ' 02 01 04 02 30 04 05', 96, 0, REFUSED, 10, 49, 0, 0, 49 * '01 '),
+    # re-matching: a clause of two, and a path that ends at variable 48
+    (REMATCHED, 96, 0, ACCEPTED, 0, 0, 2, 2, '02 01'),
+    (LINKS + ' 05', 96, 0, ACCEPTED, 0, 0, 48, 47, in_order(1, 47)),
+    (LINKS + ' 02 01 04 05', 96, 0, ACCEPTED, 0, 0, 48, 48, in_order(2, 48) + ' 01'),
+    # a path that finds no free end: all is dropped, each clause by the lowest variable that it names; nothing is; all but the last two
+    (LINKS + ' 02 01 04 02 01 04 05', 96, 0, ACCEPTED, 0, 0, 48, 49, in_order(0x81, 0xaf) + ' 81 81'),
+    (LINKS + ' 02 01 04 02 30 04 05', 96, 0, ACCEPTED, 0, 0, 48, 49, in_order(0x81, 0xaf) + ' 81 b0'),
+    (SIGNED + ' 03 01 04 02 30 04 05', 96, 0, REFUSED, 10, 49, 0, 0, 49 * '01 '),
+    (SIGNED + ' 02 01 04 03 01 04 05', 96, 0, REFUSED, 10, 2, 0, 0, 47 * '00 ' + '01 01'),
     # the violator leaves out a clause that the failed search does not reach, and those after it
     ('01 02 02 01 04 02 02 04 03 02 04 05', 96, 0xff, REFUSED, 10, 2, 0, 0, '00 01 01'),
     ('01 02 02 01 04 03 01 04 04 02 02 04 05', 96, 0xff, REFUSED, 10, 2, 0, 0, '01 01 00 00'),
-    # as many clauses as variables, one more, and 96, which no 48 variables match: every byte of a buffer of 96 is written
-    ('01 30' + 48 * WIDE + ' 05', 96, 0xff, MATCHED, 0, 0, 48, 48, in_order(1, 48)),
-    ('01 30' + 49 * WIDE + ' 05', 96, 0xff, REFUSED, 10, 49, 0, 0, 49 * '01 '),
-    (FULLEST, 96, 0xff, REFUSED, 10, 49, 0, 0, 49 * '01 ' + 47 * '00 '),
-    (FULLEST, 200, 0xff, REFUSED, 10, 49, 0, 0, 49 * '01 ' + 47 * '00 '),
+    # as many clauses as variables, one more, and 96, which no 48 variables match: every byte of a buffer of 96 is written. Those of one
+    # sign are all dropped, of both signs none
+    ('01 30' + 48 * WIDE + ' 05', 96, 0xff, ACCEPTED, 0, 0, 48, 48, in_order(1, 48)),
+    ('01 30' + 48 * WIDE + NARROW + ' 05', 96, 0xff, REFUSED, 10, 49, 0, 0, 49 * '01 '),
+    ('01 30' + 48 * (WIDE + NARROW) + ' 05', 96, 0xff, REFUSED, 10, 49, 0, 0, 49 * '01 ' + 47 * '00 '),
+    (FULLEST, 200, 0xff, ACCEPTED, 0, 0, 48, 96, 96 * '81 '),
     ('01 01' + 96 * EMPTY + ' 05', 97, 0xff, REFUSED, 10, 1, 0, 0, '01' + 95 * ' 00'),
-    ('01 01' + 96 * TRUE + ' 05', 97, 0xff, REFUSED, 10, 2, 0, 0, '01 01' + 94 * ' 00'),
+    (MOST_TRUE, 96, 0xff, ACCEPTED, 0, 0, 1, 96, 96 * '81 '),
+    ('01 01' + 95 * TRUE + ' 03 01 04 05', 97, 0xff, REFUSED, 10, 2, 0, 0, '01 01' + 94 * ' 00'),
+    # all clauses dropped, some, and all but a violator
+    (TWICE, 96, 0xa5, ACCEPTED, 0, 0, 1, 2, '81 81'),
+    (PARTLY, 96, 0xa5, ACCEPTED, 0, 0, 3, 4, '81 81 02 03'),
+    (MARKED, 96, 0xa5, REFUSED, 10, 2, 0, 0, '00 00 01 01'),
+    # a clause that names two noted variables: the one noted first drops it, be it the lower or the higher
+    (LOWER, 96, 0xa5, ACCEPTED, 0, 0, 2, 4, '81 81 81 82'),
+    (HIGHER, 96, 0xa5, ACCEPTED, 0, 0, 2, 4, '82 82 82 81'),
+    # matched whole: no clause is dropped, although stripping would drop them all
+    ('01 03 02 01 02 02 04 02 01 02 03 04 02 02 02 03 04 05', 96, 0xa5, ACCEPTED, 0, 0, 3, 3, '01 03 02'),
     # literals that come again: as without them
-    (AGAIN, 96, 0xa5, MATCHED, 0, 0, 2, 2, '01 02'),
-    ('01 02 02 01 02 02 02 01 04 02 01 02 01 04 05', 96, 0, MATCHED, 0, 0, 2, 2, '02 01'),
+    (AGAIN, 96, 0xa5, ACCEPTED, 0, 0, 2, 2, '01 02'),
+    ('01 02 02 01 02 02 02 01 04 02 01 02 01 04 05', 96, 0, ACCEPTED, 0, 0, 2, 2, '02 01'),
     ('01 01 02 01 02 01 04 03 01 03 01 04 05', 96, 0xa5, REFUSED, 10, 2, 0, 0, '01 01'),
-    ('01 30' + 2 * ALL + ' 04 05', 96, 0xff, MATCHED, 0, 0, 48, 1, '01'),
-    (MANY, 96, 0xff, MATCHED, 0, 0, 2, 1, '01'),
+    ('01 30' + 2 * ALL + ' 04 05', 96, 0xff, ACCEPTED, 0, 0, 48, 1, '01'),
+    (MANY, 96, 0xff, ACCEPTED, 0, 0, 2, 1, '01'),
     # each refusal of reading, with the buffer as it was
     *((given, 96, 0x01, REFUSED, number, place, 0, 0, '') for given, number, place in UNREAD),
     (FULLEST + ' 05', 96, 0x01, REFUSED, 9, 9315, 0, 0, ''),
@@ -580,33 +613,45 @@ JUDGE_ASSUMED = [
     ((UNMATCHED, '02 01'), 96, 0xa5, REFUSED, 16, 0, 0, 0, ''),
     ((EXAMPLE, '01 01 02 01 01 01'), 96, 0xa5, REFUSED, 16, 2, 0, 0, ''),
     # one variable of the example assumed: the clause that it satisfies has 0, and the other one literal
-    ((EXAMPLE, '01 01'), 96, 0xa5, MATCHED, 0, 0, 2, 2, '00 02'),
-    ((EXAMPLE, '01 00'), 96, 0xa5, MATCHED, 0, 0, 2, 2, '02 00'),
-    ((EXAMPLE, '02 01'), 96, 0xa5, MATCHED, 0, 0, 2, 2, '00 01'),
-    ((EXAMPLE, '02 00'), 200, 0xa5, MATCHED, 0, 0, 2, 2, '01 00'),
+    ((EXAMPLE, '01 01'), 96, 0xa5, ACCEPTED, 0, 0, 2, 2, '00 02'),
+    ((EXAMPLE, '01 00'), 96, 0xa5, ACCEPTED, 0, 0, 2, 2, '02 00'),
+    ((EXAMPLE, '02 01'), 96, 0xa5, ACCEPTED, 0, 0, 2, 2, '00 01'),
+    ((EXAMPLE, '02 00'), 200, 0xa5, ACCEPTED, 0, 0, 2, 2, '01 00'),
     # both: nothing is left, or a clause is empty; in either order
-    ((EXAMPLE, '01 01 02 00'), 96, 0xa5, MATCHED, 0, 0, 2, 2, '00 00'),
-    ((EXAMPLE, '02 00 01 01'), 96, 0xa5, MATCHED, 0, 0, 2, 2, '00 00'),
+    ((EXAMPLE, '01 01 02 00'), 96, 0xa5, ACCEPTED, 0, 0, 2, 2, '00 00'),
+    ((EXAMPLE, '02 00 01 01'), 96, 0xa5, ACCEPTED, 0, 0, 2, 2, '00 00'),
     ((EXAMPLE, '01 01 02 01'), 96, 0xa5, REFUSED, 10, 1, 0, 0, '00 01'),
     ((EXAMPLE, '02 00 01 00'), 96, 0xa5, REFUSED, 10, 1, 0, 0, '01 00'),
     ((UNMATCHED, '01 01'), 96, 0xa5, REFUSED, 10, 1, 0, 0, '00 01'),
     ((UNMATCHED, '01 00'), 96, 0xa5, REFUSED, 10, 1, 0, 0, '01 00'),
-    # unmatched but for the assumption, and a re-matching in what remains
-    (('01 02 02 01 04 02 01 04 02 02 04 05', '01 01'), 96, 0xff, MATCHED, 0, 0, 2, 3, '00 00 02'),
-    (('01 01' + 96 * TRUE + ' 05', '01 01'), 96, 0xff, MATCHED, 0, 0, 1, 96, 96 * '00 '),
-    (('01 03 02 01 02 02 02 03 04 02 01 04 05', '03 00'), 96, 0, MATCHED, 0, 0, 3, 2, '02 01'),
-    # the path over 48 variables in what remains: its end satisfied, and its end lost
-    ((LINKS + ' 02 01 04 05', '30 01'), 96, 0xff, MATCHED, 0, 0, 48, 48, in_order(2, 47) + ' 00 01'),
-    ((LINKS + ' 02 01 04 05', '30 00'), 96, 0xff, REFUSED, 10, 48, 0, 0, 48 * '01 '),
+    # not matched whole but for the assumption, and a re-matching in what remains
+    (('01 02 02 01 04 02 01 04 02 02 04 05', '01 01'), 96, 0xff, ACCEPTED, 0, 0, 2, 3, '00 00 02'),
+    ((MOST_TRUE, '01 01'), 96, 0xff, ACCEPTED, 0, 0, 1, 96, 96 * '00 '),
+    (('01 03 02 01 02 02 02 03 04 02 01 04 05', '03 00'), 96, 0, ACCEPTED, 0, 0, 3, 2, '02 01'),
+    # the path over 48 variables in what remains: its end satisfied; its end lost, and all is dropped; lost, and nothing is
+    ((LINKS + ' 02 01 04 05', '30 01'), 96, 0xff, ACCEPTED, 0, 0, 48, 48, in_order(2, 47) + ' 00 01'),
+    ((LINKS + ' 02 01 04 05', '30 00'), 96, 0xff, ACCEPTED, 0, 0, 48, 48, in_order(0x81, 0xaf) + ' 81'),
+    ((SIGNED + ' 03 01 04 05', '30 01'), 96, 0xff, REFUSED, 10, 48, 0, 0, 48 * '01 '),
+    # some clauses satisfied, some dropped, some left: what remains is stripped
+    ((TWICE, '01 01'), 96, 0xff, ACCEPTED, 0, 0, 1, 2, '00 00'),
+    ((TWICE, '01 00'), 96, 0xff, REFUSED, 10, 1, 0, 0, '01 00'),
+    ((PARTLY, '01 01'), 96, 0xff, ACCEPTED, 0, 0, 3, 4, '00 00 02 03'),
+    ((PARTLY, '01 00'), 96, 0xff, REFUSED, 10, 1, 0, 0, '01 00 00 00'),
+    ((PARTLY, '02 01'), 96, 0xff, ACCEPTED, 0, 0, 3, 4, '81 81 00 83'),
+    ((PARTLY, '03 01 02 00'), 96, 0xff, ACCEPTED, 0, 0, 3, 4, '81 81 00 00'),
+    ((MARKED, '03 01'), 96, 0xff, REFUSED, 10, 2, 0, 0, '00 00 01 01'),
+    ((MARKED, '02 01'), 96, 0xff, REFUSED, 10, 2, 0, 0, '00 00 01 01'),
+    ((MARKED, '01 01'), 96, 0xff, REFUSED, 10, 1, 0, 0, '00 00 00 01'),
     # the violator leaves out a clause that is satisfied, between those that it has
     (('01 03 02 01 04 02 02 04 03 01 04 05', '02 01'), 96, 0xff, REFUSED, 10, 2, 0, 0, '01 00 01'),
     # all of 48 variables assumed
-    ((ALL_FREE, ALL_TRUE), 96, 0xff, MATCHED, 0, 0, 48, 0, ''),
-    ((TWO_WIDE, ALL_TRUE), 96, 0xff, MATCHED, 0, 0, 48, 2, '00 00'),
+    ((ALL_FREE, ALL_TRUE), 96, 0xff, ACCEPTED, 0, 0, 48, 0, ''),
+    ((TWO_WIDE, ALL_TRUE), 96, 0xff, ACCEPTED, 0, 0, 48, 2, '00 00'),
     ((TWO_WIDE, ALL_FALSE), 96, 0xff, REFUSED, 10, 1, 0, 0, '01 00'),
-    ((TWO_WIDE, ALL_FALSE[:-2] + '01'), 96, 0xff, MATCHED, 0, 0, 48, 2, '00 00'),
+    ((TWO_WIDE, ALL_FALSE[:-2] + '01'), 96, 0xff, ACCEPTED, 0, 0, 48, 2, '00 00'),
     # all but one, and 96 empty clauses
-    ((TWO_WIDE, ALL_FALSE[:-6]), 96, 0xff, REFUSED, 10, 2, 0, 0, '01 01'),
+    ((TWO_WIDE, ALL_FALSE[:-6]), 96, 0xff, ACCEPTED, 0, 0, 48, 2, 'b0 b0'),
+    (('01 30' + WIDE + ' 03 30 04 05', ALL_FALSE[:-6]), 96, 0xff, REFUSED, 10, 2, 0, 0, '01 01'),
     (('01 02' + 96 * ' 02 01 02 02 04' + ' 05', '01 00 02 00'), 96, 0xff, REFUSED, 10, 1, 0, 0, '01' + 95 * ' 00'),
 ]
 
@@ -758,6 +803,21 @@ WALK_EDGES = [
     *foreign(checkpoint(1, 1, '02'), AGAIN),
     (MANY, START, MOST, MODEL, 0, 0, 0b01, checkpoint(1, 2, '81 02'), 2, 0),
     (MANY, LAST, MOST, MODEL, 0, 0, 0b11, checkpoint(1, 2, '81 82'), 2, 0),
+    # formulas that strip down: to nothing, to something, and to what is not matched
+    *(e for given in (TWICE, MOST_TRUE) for e in [
+        (given, START, 0, SPENT, 0, 0, 0, FIRST, 0, 0),
+        (given, LAST, MOST, MODEL, 0, 0, 0b1, checkpoint(1, 1, '81'), 1, 0),
+        (given, LAST, MOST, ENDED, 0, 0, 0, OVER, 1, 0),
+        *foreign(checkpoint(1, 1, '01'), given),
+        *foreign(checkpoint(2, 0), given),
+    ]),
+    (PARTLY, START, MOST, MODEL, 0, 0, 0b101, checkpoint(1, 3, '02 83 81'), 3, 2),
+    (PARTLY, LAST, MOST, MODEL, 0, 0, 0b011, checkpoint(1, 3, '82 03 81'), 6, 0),
+    (PARTLY, LAST, MOST, ENDED, 0, 0, 0, OVER, 3, 0),
+    *foreign(checkpoint(1, 1, '81'), PARTLY),
+    *refused(STRANGE, 10, 2, [(MARKED, MOST)]),
+    # the fullest input: all but 1 are false in the first model, and 1 is assigned last
+    (FULLEST, START, MOST, MODEL, 0, 0, 1, checkpoint(1, 48, bytes([*range(48, 1, -1), 0x81]).hex()), 48, 0),
 ]
 
 # under assumptions
@@ -769,6 +829,7 @@ WALK_ASSUMED = [
     *refused(OVER, 16, 0, [((EXAMPLE, '00 01'), 0), ((EXAMPLE, '03 00'), MOST)]),
     # unmatched under the assumptions: behind them, before the checkpoint
     *refused(STRANGE, 10, 1, [((EXAMPLE, '01 01 02 01'), 0), ((EXAMPLE, '02 00 01 00'), MOST), ((UNMATCHED, '01 01'), 1)]),
+    *refused(OVER, 10, 1, [((TWICE, '01 00'), 5), ((PARTLY, '01 00'), 5), ((MARKED, '01 01'), 5)]),
     # one variable of the example assumed: the other one has one value
     ((EXAMPLE, '01 01'), START, 0, SPENT, 0, 0, 0, FIRST, 0, 0),
     ((EXAMPLE, '01 01'), LAST, 1, MODEL, 0, 0, 0b01, checkpoint(1, 1, '02'), 1, 0),
@@ -810,6 +871,9 @@ WALK_ASSUMED = [
     ((THREE_FREE, '02 01'), LAST, MOST, MODEL, 0, 0, 0b011, checkpoint(1, 2, '81 03'), 4, 0),
     ((THREE_FREE, '02 01'), LAST, MOST, MODEL, 0, 0, 0b111, checkpoint(1, 2, '81 83'), 2, 0),
     ((THREE_FREE, '02 01'), LAST, MOST, ENDED, 0, 0, 0, OVER, 2, 0),
+    # a formula that strips down to nothing under the assumption
+    ((PARTLY, '02 01'), START, MOST, MODEL, 0, 0, 0b011, checkpoint(1, 2, '03 81'), 2, 0),
+    ((PARTLY, '02 01'), LAST, MOST, ENDED, 0, 0, 0, OVER, 2, 0),
     # nothing is left to assign: the model on any budget, then the end
     *(e for budget in (0, 96) for e in [
         ((TWO_FREE, '01 01 02 00'), START, budget, MODEL, 0, 0, 0b01, checkpoint(1, 0), 0, 0),
@@ -853,6 +917,7 @@ LIST_EDGES = [
     *((given, origin, room, REFUSED, number, place, origin, []) for room in (0, 2) for given, origin, number, place in [
         (UNREADABLE, OVER, 3, 2),
         (UNMATCHED, STRANGE, 10, 2),
+        (MARKED, STRANGE, 10, 2),
         (EXAMPLE, STRANGE, 11, 0),
         ((UNREADABLE, '00 01'), STRANGE, 3, 2),
         ((UNMATCHED, '02 00'), STRANGE, 16, 0),
@@ -868,6 +933,11 @@ LIST_EDGES = [
     ((THREE_FREE, '01 01 03 00'), START, 2, MODEL, 0, 0, checkpoint(1, 1, '82'), [0b001, 0b011]),
     ((THREE_FREE, '03 00 01 01'), START, 2, MODEL, 0, 0, checkpoint(1, 1, '82'), [0b001, 0b011]),
     ((THREE_FREE, '02 01'), START, 255, ENDED, 0, 0, OVER, [0b010, 0b110, 0b011, 0b111]),
+    # formulas that strip down
+    (TWICE, START, 1, MODEL, 0, 0, checkpoint(1, 1, '81'), [0b1]),
+    (MOST_TRUE, START, 255, ENDED, 0, 0, OVER, [0b1]),
+    (PARTLY, START, 3, ENDED, 0, 0, OVER, [0b101, 0b011]),
+    ((PARTLY, '02 01'), START, 2, ENDED, 0, 0, OVER, [0b011]),
     # nothing is left: without room the model is not lost
     ((TWO_FREE, '01 01 02 00'), START, 0, SPENT, 0, 0, FIRST, []),
     ((TWO_FREE, '01 01 02 00'), LAST, 1, MODEL, 0, 0, checkpoint(1, 0), [0b01]),
@@ -881,7 +951,7 @@ LIST_EDGES = [
 
 # formulas: some of few variables, each under every list of assumptions, in order, none bad
 FORMULA_EDGES = [(given, ' '.join('%02x %02x' % (v, x) for v, x in enumerate(values, 1) if x < 2))
-                 for given in [EXAMPLE, PURE_LAST, UNMATCHED, REMATCHED, THREE_FREE,
+                 for given in [EXAMPLE, PURE_LAST, UNMATCHED, REMATCHED, THREE_FREE, TWICE, MOST_TRUE, PARTLY, MARKED, LOWER, HIGHER,
                                '01 04 02 01 03 02 04 02 02 03 03 04 02 03 03 01 02 04 04 05',
                                '01 04 02 01 02 02 04 03 01 02 03 04 03 02 03 03 04 02 04 03 01 04 05',
                                '01 03 02 01 04 03 01 02 02 04 02 02 04 03 03 04 05']
@@ -894,6 +964,11 @@ PRINTED_EDGES = [
     (WHOLE, WHOLE_TEXT),
     # cut before the clause's end
     (MANY, 'refused 2 16384\n'),
+    # formulas that strip down
+    (TWICE, 'switches 1 rules 2\n1 1 0\nend 1 0\n'),
+    (MOST_TRUE, 'switches 1 rules 96\n1 1 0\nend 1 0\n'),
+    (PARTLY, 'switches 3 rules 4\n101 3 2\n110 6 0\nend 3 0\n'),
+    (MARKED, 'refused 10 2\n'),
 ]
 
 
@@ -1020,7 +1095,7 @@ READ_TEXT_EDGES = [
     (b'c\np cnf 12 2 \n0\n', (15, 11)),
     # 96 clauses, 97, and what comes before the 97th end
     (b'p cnf 1 96\n' + 96 * b'0\n', '01 01' + 96 * EMPTY + ' 05'),
-    (b'p cnf 1 96\n' + 96 * b'1 0\n', '01 01' + 96 * TRUE + ' 05'),
+    (b'p cnf 1 96\n' + 96 * b'1 0\n', MOST_TRUE),
     (b'p cnf 1 97\n' + 97 * b'0\n', (8, 203)),
     (b'p cnf 1 96\n' + 97 * b'1 0\n', (8, 397)),
     (b'p cnf 1 96\n' + 96 * b'0\n' + b'2 0\n', (6, 203)),

@@ -1,4 +1,5 @@
--- The cases of the tables specs/MarkedCases.antt and specs/AssumedCases.antt, and some more, computed from the definitions.
+-- The cases of the tables specs/MarkedCases.antt, specs/AssumedCases.antt and specs/StrippedCases.antt, and some more, computed from the
+-- definitions.
 use mathlib.Core.Bool.{xor}
 use Prim.Native.Nat.{ℕ}
 use mathlib.Core.List.{List, [], _∷_, _++_, map}
@@ -15,7 +16,7 @@ use Rattle.formula.specs.Masked.{variables}
 use Rattle.assumptions.specs.declared.Assumption.{Assumption}
 use Rattle.assumptions.specs.Assumed.{is-bad, assumed-from, assumed}
 use Rattle.matching.specs.Search.{owner, no-links, begin, see, scan, take-front, expand, search-from, rematch-from, match-rest, outcome, marks}
-use Rattle.matched.specs.Acceptance.{accepted, spread, acceptance}
+use Rattle.matched.specs.Acceptance.{accepted, dropped-by, row-byte, spread, acceptance}
 use Rattle.matched.specs.Judge.{judge}
 use Rattle.splitting.specs.Nodes.{less, assign, remaining, satisfied-by, occurs, named, first-from, upward-from}
 use Rattle.splitting.specs.Stripping.{pure, not-naming, strip}
@@ -35,6 +36,7 @@ use Rattle.walk.proofs.NothingLeftLaws.{call-first, call-second}
 use Rattle.printing.specs.Printed.{refused-word, walk-lines, printed}
 use Rattle.edge_cases.specs.MarkedCases.{on, off, line, model-at, end-at, walked-under, walked, example, MarkedCases}
 use Rattle.edge_cases.specs.AssumedCases.{assume-on, assume-off, AssumedCases}
+use Rattle.edge_cases.specs.StrippedCases.{StrippedCases}
 
 -- ---- what computes: to unfold one of these is to unfold all that its line names
 
@@ -54,12 +56,16 @@ searching : Unit {0}
 unfolding variables outcome match-rest search-from expand take-front scan see begin no-links owner rematch-from bit members
 searching = tt
 
+stripping : Unit {0}
+unfolding strip not-naming pure occurs first-from names names-as xor
+stripping = tt
+
 judging : Unit {0}
-unfolding reading assuming searching acceptance spread satisfied-by remaining assign less marks judge
+unfolding reading assuming searching stripping acceptance spread row-byte dropped-by satisfied-by remaining assign less marks judge
 judging = tt
 
 choosing : Unit {0}
-unfolding searching choice remaining assign less names names-as occurs named first-from upward-from pure not-naming strip matching-of trial first-passing candidates among listed last emptied last-listed xor
+unfolding searching stripping choice remaining assign less named upward-from matching-of trial first-passing candidates among listed last emptied last-listed
 choosing = tt
 
 walking : Unit {0}
@@ -133,6 +139,23 @@ assumed-cases = record {
   again = (λ b l. rw (le-ltb (length b) max-clauses l), λ c b. call-declined _ _ _ _ c b refl);
   other-value = (λ b l. rw (le-ltb (length b) max-clauses l), λ c b. call-declined _ _ _ _ c b refl);
   free-walked = walked-plain _ _ _ _ _ _ refl 3;
+}
+
+-- ---- formulas that strip down
+
+pub stripped-cases : StrippedCases
+unfolding judging walking printing
+stripped-cases = record {
+  twice-dropped = λ b l. rw (le-ltb (length b) max-clauses l);
+  twice-walked = walked-plain _ _ _ _ _ _ refl 2;
+  twice-printed = refl;
+  first-noted = λ b l. rw (le-ltb (length b) max-clauses l);
+  partly-dropped = λ b l. rw (le-ltb (length b) max-clauses l);
+  partly-walked = walked-plain _ _ _ _ _ _ refl 3;
+  partly-assumed = λ b l. rw (le-ltb (length b) max-clauses l);
+  partly-assumed-walked = walked-plain _ _ _ _ _ _ refl 2;
+  left-marked = λ b l. rw (le-ltb (length b) max-clauses l);
+  whole-first = λ b l. rw (le-ltb (length b) max-clauses l);
 }
 
 -- ---- more cases

@@ -1,3 +1,4 @@
 pub mod AssumedCases
 pub mod MarkedCases
+pub mod StrippedCases
 pub mod TextCases

@@ -15,8 +15,7 @@ use Rattle.assumptions.specs.declared.Assumption.{Assumption}
 use Rattle.assumptions.specs.Assumed.{literal-of}
 use Rattle.assumptions.specs.FirstBad.{NoneBad}
 use Rattle.matched.specs.Judge.{accepted-values, judge}
-use Rattle.matched.specs.Pairing.{Pairs}
-use Rattle.splitting.specs.Nodes.{remaining}
+use Rattle.matched.specs.Pairing.{Pairs, left-of}
 use Rattle.walk.specs.Gaps.{ample-budget}
 use Rattle.walk.specs.Checkpoints.{start}
 use Rattle.walk.specs.PlainMachine.{spent}
@@ -124,4 +123,4 @@ pub record MarkedCases : Type 0 where
   -- S8.2: an accepted formula with a variable that is not assumed, from the start checkpoint, on budget 0: spent, with no step made and
   -- the checkpoint unchanged
   pub start-zero : (s : List ℕ) (us : List Assumption) (n : ℕ) (cs : List (List Literal)) → Encodes s n cs → NoneBad n us
-      → (vs : List ℕ) → Pairs (remaining (map literal-of us) cs) vs → length us < n → walk-call s us start 0 ≡ answered spent 0 0 start
+      → (vs : List ℕ) → Pairs (left-of n (map literal-of us) cs) vs → length us < n → walk-call s us start 0 ≡ answered spent 0 0 start

@@ -7,7 +7,7 @@ use lib.ListN.{getD}
 use Rattle.vectors.specs.declared.answers.Answer.{Answer}
 use Rattle.vectors.specs.Corpus.{two-bytes}
 
--- an answer that is not matched: what it says, and the refusal's number and place
+-- an answer that is not accepted: what it says, and the refusal's number and place
 abbrev pub plain : ℕ → ℕ → ℕ → Answer
 plain says number place = record { says = says; number = number; place = place; variables = 0; clauses = 0 }
 

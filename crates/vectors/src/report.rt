@@ -17,7 +17,7 @@ fn says(n: u64) {
         0 => text(b"no"),
         1 => text(b"yes"),
         2 => text(b"refused"),
-        3 => text(b"matched"),
+        3 => text(b"accepted"),
         4 => text(b"model"),
         5 => text(b"spent"),
         6 => text(b"ended"),
