@@ -12,7 +12,7 @@ HERE = os.path.dirname(os.path.abspath(__file__))
 SOURCE = os.path.join(HERE, "growth.csv")
 TARGET = os.path.join(HERE, os.pardir, "docs", "growth.svg")
 
-COLOURS = ["#1b6ca8", "#c8553d", "#3a7d44", "#8e5ea2", "#b8860b", "#444444"]
+COLOURS = ["#1b6ca8", "#c8553d", "#3a7d44", "#8e5ea2", "#b8860b", "#444444", "#17a2a2", "#d6618f"]
 ACTS = [("model", "one model (of a list of 1,000)"), ("walk", "one walk call (deep checkpoint, budget 96)")]
 
 # A panel's place and size, in pixels.

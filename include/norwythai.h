@@ -1,5 +1,5 @@
 /*
- * Norwythai: the models of a matched CNF formula, one after the other; and DIMACS CNF text read and written.
+ * Norwythai: the models of a CNF formula, one after the other, if it is accepted; and DIMACS CNF text read and written.
  *
  * The functions of libcapi.a. For each it is proved what it returns and how it leaves every buffer, on all inputs:
  * crates/capi/specs/Interface.antt has the definitions, and the comments here say them in words. None keeps any state, allocates or
@@ -31,11 +31,18 @@
  * assignment is a 64-bit number: variable v, counted from 1, is true if bit v - 1 is set. A model is an assignment in which every clause
  * has a literal that is true, and no variable above n is.
  *
+ * ACCEPTED formulas are those that judge, walk and list are for. Clauses are matched if each can have a variable that it names, no
+ * variable used twice. Stripping (pure literal elimination) takes the lowest variable that the clauses name one way only, as positive or
+ * as negative literals, notes it and drops all clauses that name it, and goes on with the clauses that are left until there is no such
+ * variable. A formula is accepted if it is matched, or if what stripping leaves of it is. So it may have more clauses than variables. All
+ * three functions accept the same formulas, under the same assumptions.
+ *
  * ASSUMPTIONS are values that judge, walk and list are to take for some variables. The list has two bytes for each: the variable,
  * counted from 1, and its value, 0 for false and any other byte for true. `assumptions_length` counts bytes; with 0 nothing is assumed.
- * They are applied first: a clause that one of them satisfies is gone, and the others lose the assumed variables. Matching and walking
- * are of what remains, and the models of a walk are those that have the assumed values, which stand among their bits. A variable stands
- * in the list once at most (refusal 16). Nothing but that refusal's place depends on the order, which is tested and not proved.
+ * They are applied first: a clause that one of them satisfies is gone, and the others lose the assumed variables. Matching, stripping
+ * and walking are of what remains, and the models of a walk are those that have the assumed values, which stand among their bits. A
+ * variable stands in the list once at most (refusal 16). Nothing but that refusal's place depends on the order, which is tested and not
+ * proved.
  *
  * A TEXT is DIMACS CNF: lines that start with c are comments, anywhere; the first other line is `p cnf` with the numbers of variables
  * and clauses; then come the literals as numbers, a minus before those that are negative, and 0 at the end of each clause. Line feeds (0A)
@@ -53,7 +60,7 @@
  *   results[5] 0            clauses m      expansions made  0                             0
  *
  *   answer  check               judge               walk                                 list
- *   0       NORWYTHAI_YES       NORWYTHAI_MATCHED   NORWYTHAI_MODEL                      NORWYTHAI_MODEL: `models` is full
+ *   0       NORWYTHAI_YES       NORWYTHAI_ACCEPTED  NORWYTHAI_MODEL                      NORWYTHAI_MODEL: `models` is full
  *   1       NORWYTHAI_NO        -                   NORWYTHAI_SPENT: the budget is used  NORWYTHAI_SPENT: `models_length` is 0
  *   2       -                   -                   NORWYTHAI_ENDED: no model is left    NORWYTHAI_ENDED: no model is left
  *   3       NORWYTHAI_REFUSED   NORWYTHAI_REFUSED   NORWYTHAI_REFUSED                    NORWYTHAI_REFUSED
@@ -75,7 +82,8 @@
  *    7      named twice      the clause already names the variable the other way its kind byte, or the word
  *    8      too many rules   a 97th clause ends                                  its kind byte, or the word
  *    9      tail             the input goes on behind kind 5                     first byte behind
- *   10      over-ruled       the clauses that remain can't be matched            number of marked clauses
+ *   10      over-ruled       the clauses that remain can't be matched, nor can   number of marked clauses
+ *                            those that stripping leaves of them
  *   11      foreign marker   the walk never has this checkpoint                  0
  *   12      stray switch     a checked assignment has a variable above n true    0
  *   13      bad opening      the first line that is no comment is no p line of   its first byte, or the text's
@@ -122,8 +130,12 @@
 #define NORWYTHAI_YES 0
 #define NORWYTHAI_NO 1
 
-/* The other answer of judge. */
-#define NORWYTHAI_MATCHED 0
+/* The other answer of judge. The second name is older, from when only matched formulas were accepted. */
+#define NORWYTHAI_ACCEPTED 0
+#define NORWYTHAI_MATCHED NORWYTHAI_ACCEPTED
+
+/* Added to the variable in judge's byte for a clause that stripping drops. */
+#define NORWYTHAI_DROPPED 128
 
 /* The other answer of from_dimacs and to_dimacs. */
 #define NORWYTHAI_WRITTEN 0
@@ -142,7 +154,7 @@ extern "C" {
 #endif
 
 /*
- * Whether the assignment is a model of the formula, which need not be matched.
+ * Whether the assignment is a model of the formula, which need not be accepted.
  * Reads the input and the assignment; writes the results.
  * With `input_length` 0, `input` is the address of any byte and not null.
  */
@@ -151,13 +163,17 @@ uint32_t norwythai_check(const uint8_t *input, size_t input_length, uint64_t ass
                          uint64_t *results, size_t results_length);
 
 /*
- * Whether what remains of the formula under the assumptions is matched: each clause can have a variable that it names, no variable
- * used twice.
+ * Whether the formula is accepted under the assumptions.
  * Reads the input and the assumptions; writes the results and into the buffer, of which it needs NORWYTHAI_BUFFER bytes or more
- * (fewer: refusal 1). Matched: byte i of the buffer, i below m, is 0 if an assumption satisfies clause i + 1, and else the variable
- * matched with it; results[4] and results[5] are n and m, those of the whole formula. Refusal 10: byte i is 1 if clause i + 1 is
- * marked, else 0; without the assumed variables the marked clauses name fewer variables than they are, and results[3] is how many they
- * are. The buffer's other bytes never change; on any other refusal none does.
+ * (fewer: refusal 1). Accepted: results[4] and results[5] are n and m, those of the whole formula, and byte i of the buffer, i below m, is
+ *   0                      if an assumption satisfies clause i + 1;
+ *   v, from 1 to n         if the clause is matched with variable v;
+ *   NORWYTHAI_DROPPED + v  if stripping drops it: v is the first noted variable that it names.
+ * What remains is first matched as a whole, and stripped only if that can't be. So where it is matched no byte is above n, though
+ * stripping would drop clauses; where it isn't, the left clauses have their variables, no two the same one.
+ * Refusal 10: byte i is 1 if clause i + 1 is marked, and 0 for every other clause, satisfied and dropped ones too. Without the assumed
+ * variables the marked clauses name fewer variables than they are, and results[3] is how many they are.
+ * The buffer's other bytes never change; on any refusal but 10 none does.
  * With `input_length`, `assumptions_length` or `buffer_length` 0, `input`, `assumptions` or `buffer` is the address of any byte and not
  * null.
  */
@@ -172,7 +188,8 @@ NORWYTHAI_NODISCARD
 uint32_t norwythai_start(uint8_t *checkpoint, size_t checkpoint_length);
 
 /*
- * One walk call: goes on from the checkpoint until a model or the end comes, or as many steps as the budget are made.
+ * One walk call on an accepted formula: goes on from the checkpoint until a model or the end comes, or as many steps as the budget are
+ * made.
  * Reads the input, the assumptions, the checkpoint and the budget; writes the results, and over the checkpoint the one to go on from.
  * After NORWYTHAI_SPENT and NORWYTHAI_MODEL the walk goes on by another call, with the same assumptions. After NORWYTHAI_ENDED another
  * call says it again. On a refusal the checkpoint stays as it was (theorem walk-refused in crates/capi/proofs/Theorems.antt). A budget
@@ -185,7 +202,7 @@ uint32_t norwythai_walk(const uint8_t *input, size_t input_length, const uint8_t
                         uint8_t *checkpoint, size_t checkpoint_length, uint32_t budget, uint64_t *results, size_t results_length);
 
 /*
- * The next models, as many as there is room for: what a list of walk calls of budget 96 gives, in one call.
+ * The next models of an accepted formula, as many as there is room for: what a list of walk calls of budget 96 gives, in one call.
  * Reads the input, the assumptions and the checkpoint; writes the models from the front of `models`, the results, and over the
  * checkpoint the one to go on from. It stops when `models` is full (NORWYTHAI_MODEL) or at the end (NORWYTHAI_ENDED). What stands behind
  * the last model written does not change. A refusal brings no model: results[4] is 0, and `models` and the checkpoint stay as they were
@@ -212,7 +229,7 @@ uint32_t norwythai_from_dimacs(const uint8_t *text, size_t text_length, uint8_t 
                                uint64_t *results, size_t results_length);
 
 /*
- * Writes an encoded formula, which need not be matched, as DIMACS CNF text: the p line, then a line for each clause in order, each
+ * Writes an encoded formula, which need not be accepted, as DIMACS CNF text: the p line, then a line for each clause in order, each
  * literal once, at its first place in the clause, with one blank between two words. norwythai_from_dimacs reads
  * the same formula from it.
  * Reads the input; writes the results and into the buffer, of which it needs NORWYTHAI_TEXT_BUFFER bytes or more (fewer: refusal 1,

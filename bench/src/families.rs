@@ -2,7 +2,7 @@
 
 use crate::listers::{Assumptions, Lister, Plain};
 use norwythai_reference::{decode, write_text};
-use norwythai_samples::{encode, stairs, Clauses, Random};
+use norwythai_samples::{encode, stairs, stripped, Clauses, Random, Stripping};
 
 /// The formulas that are kept as data.
 const KEPT: &str = include_str!("../data/families.txt");
@@ -16,7 +16,7 @@ const HALF_ASSUMED: &str = ", half assumed";
 /// The largest number of variables.
 const LARGEST: usize = 48;
 
-/// A matched formula, with the assumptions of all calls on it.
+/// An accepted formula, with the assumptions of all calls on it.
 #[derive(Clone)]
 pub struct Case {
     pub name: String,
@@ -41,7 +41,7 @@ impl Case {
         })
     }
 
-    fn is_matched(&self) -> bool {
+    fn is_accepted(&self) -> bool {
         let judged = Plain.judge(&self.input, &self.assumptions, &mut [0; 96]);
         judged.is_ok()
     }
@@ -52,7 +52,7 @@ impl Case {
     }
 
     /// The same formula with half of its variables assumed, or as many as can be found: one after the other, in random order, with a
-    /// random value or else the other, so that what remains is matched.
+    /// random value or else the other, so that it is accepted under them.
     pub fn half_assumed(&self) -> Self {
         let mut case = self.clone();
         case.name.push_str(HALF_ASSUMED);
@@ -62,7 +62,7 @@ impl Case {
             for value in [value, !value] {
                 let mut more = case.clone();
                 more.assumptions.push(variable as u8, value);
-                if more.is_matched() {
+                if more.is_accepted() {
                     case = more;
                     break;
                 }
@@ -81,12 +81,12 @@ pub struct Family {
     /// The letter with which the names of its formulas begin.
     pub letter: char,
     pub title: &'static str,
-    /// The clauses of one of its formulas over so many variables, matched or not.
+    /// The clauses of one of its formulas over so many variables, accepted or not.
     generate: fn(&mut Random, usize) -> Clauses,
 }
 
 /// All families.
-pub const FAMILIES: [Family; 6] = [
+pub const FAMILIES: [Family; 8] = [
     Family {
         letter: 'a',
         title: "random 3-clauses",
@@ -116,6 +116,16 @@ pub const FAMILIES: [Family; 6] = [
         letter: 'f',
         title: "stairs",
         generate: some_stairs,
+    },
+    Family {
+        letter: 'g',
+        title: "stripped to nothing",
+        generate: stripped_to_nothing,
+    },
+    Family {
+        letter: 'h',
+        title: "stripped to rings",
+        generate: stripped_to_rings,
     },
 ];
 
@@ -153,11 +163,12 @@ impl Family {
             return None;
         }
         let case = Case::new(name.to_string(), from_hex(digits));
-        Some(case.expect("the kept formulas are matched"))
+        Some(case.expect("the kept formulas are accepted"))
     }
 }
 
-/// The fullest input: 96 clauses, each with all 48 variables. Without repeated literals none is longer. It is not matched.
+/// The fullest input: 96 clauses, each with all 48 variables. Without repeated literals none is longer. Stripping drops
+/// them all at once.
 pub fn fullest_input() -> Vec<u8> {
     full_input(|variable| {
         if variable % 2 == 0 {
@@ -257,6 +268,27 @@ fn some_stairs(random: &mut Random, variables: usize) -> Clauses {
     stairs(variables, pairs)
 }
 
+/// Twice as many clauses as variables, of which stripping drops all.
+fn stripped_to_nothing(random: &mut Random, variables: usize) -> Clauses {
+    let stripping = Stripping {
+        dropped: 2 * variables,
+        in_rings: 0,
+        more: 0,
+    };
+    stripped(random, variables, stripping)
+}
+
+/// Twice as many clauses as variables, of which stripping leaves rings over half of the variables.
+fn stripped_to_rings(random: &mut Random, variables: usize) -> Clauses {
+    let in_rings = variables / 2;
+    let stripping = Stripping {
+        dropped: 2 * variables - in_rings,
+        in_rings,
+        more: 0,
+    };
+    stripped(random, variables, stripping)
+}
+
 #[cfg(test)]
 mod tests {
     use super::*;
@@ -272,7 +304,21 @@ mod tests {
                 assert_eq!(family.generated(variables, 3).len(), 3);
             }
         }
-        assert_eq!(kept, 12);
+        assert_eq!(kept, 14);
+    }
+
+    #[test]
+    fn stripping_drops_clauses_of_two_families() {
+        for family in &FAMILIES[6..] {
+            for case in family.cases() {
+                let mut row = [0; 96];
+                let judged = Plain.judge(&case.input, &case.assumptions, &mut row);
+                assert_eq!(judged, Ok((LARGEST, 96)), "{}", case.name);
+                let left = row.iter().filter(|byte| **byte <= 48).count();
+                let expected = if family.letter == 'g' { 0 } else { 24 };
+                assert_eq!(left, expected, "{}", case.name);
+            }
+        }
     }
 
     #[test]
@@ -280,7 +326,7 @@ mod tests {
         for case in FAMILIES.iter().flat_map(Family::cases) {
             let half = case.half_assumed();
             assert!(
-                half.is_matched() && half.left_to_assign() == LARGEST / 2,
+                half.is_accepted() && half.left_to_assign() == LARGEST / 2,
                 "{} {}",
                 half.name,
                 half.left_to_assign()

@@ -30,7 +30,7 @@ fn model_times(case: &Case) -> Times {
         &mut START.clone(),
         &mut models,
     );
-    let listed = listed.expect("a matched formula");
+    let listed = listed.expect("an accepted formula");
     list_times(case, &mut models).map(|time| time / listed as f64)
 }
 

@@ -38,7 +38,7 @@ pub trait Lister {
     /// Whether the assignment is a model.
     fn check(&self, input: &[u8], assignment: u64) -> Result<bool, Refused>;
 
-    /// The numbers of variables and clauses of a matched formula; the matching is in the buffer.
+    /// The numbers of variables and clauses of an accepted formula; the buffer has a byte for each clause.
     fn judge(
         &self,
         input: &[u8],

@@ -208,7 +208,7 @@ fn same_models(case: &Case, most: usize) -> (Vec<u64>, Bytes) {
         let mut models = vec![0; most];
         let mut checkpoint = START;
         let written = lister.list(&case.input, &case.assumptions, &mut checkpoint, &mut models);
-        models.truncate(written.expect("a matched formula"));
+        models.truncate(written.expect("an accepted formula"));
         (models, checkpoint)
     })
 }
@@ -234,7 +234,7 @@ fn require_same_judge(case: &Case) {
         (judged, buffer)
     })
     .0
-    .expect("a matched formula");
+    .expect("an accepted formula");
 }
 
 /// A row of the table: the times of some formulas for one act.

@@ -159,7 +159,7 @@ fn start_stack() -> usize {
     })
 }
 
-/// A matched formula on which the stack is measured, with assumptions as the functions read them and a checkpoint deep in its walk.
+/// An accepted formula on which the stack is measured, with assumptions as the functions read them and a checkpoint deep in its walk.
 struct Measured {
     input: Vec<u8>,
     assumptions: Vec<u8>,
@@ -299,7 +299,7 @@ fn links_of_last(input: &[u8]) -> usize {
     let judge = |input: &[u8]| {
         let mut buffer = [0; 96];
         let judged = Proved.judge(input, &Assumptions::default(), &mut buffer);
-        (judged.expect("a matched formula").1, buffer)
+        (judged.expect("an accepted formula").1, buffer)
     };
     let (clauses, buffer) = judge(input);
     let (_, without) = judge(&without_last(input));
@@ -334,10 +334,9 @@ fn print_functions() {
             .expect("there are formulas")
     };
     let fullest = fullest_input();
-    // Also on the fullest input, which is not matched.
     let with_fullest = |stack: fn(&[u8]) -> usize| {
-        let of_matched = largest(&|measured, _| stack(&measured.input));
-        of_matched.max(stack(&fullest))
+        let of_others = largest(&|measured, _| stack(&measured.input));
+        of_others.max(stack(&fullest))
     };
     let judge = largest(&|measured, _| judge_stack(&measured.input, &measured.assumptions));
     let rows = [

@@ -100,7 +100,7 @@ fn waits_of(case: &Case) -> Waits {
     let mut formula = decode(&case.input).expect("a formula");
     let assumed = formula.assume(&case.assumptions.rust);
     let assumed = assumed.expect("good assumptions");
-    let mut walker = Walker::start(&formula, assumed).expect("a matched formula");
+    let mut walker = Walker::start(&formula, assumed).expect("an accepted formula");
     let mut checkpoint = START;
     let mut longest = Waits::default();
     for index in 0..MODELS {

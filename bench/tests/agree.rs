@@ -1,8 +1,9 @@
 //! The tuned baseline and the plain reference agree: on lists, on walks with their counts, and on judge.
 
 use norwythai_bench::families::{fullest_input, Case, FAMILIES};
-use norwythai_bench::listers::{Assumptions, Bytes, Lister, Plain, Tuned};
+use norwythai_bench::listers::{Assumptions, Bytes, Lister, Plain, Refused, Tuned};
 use norwythai_bench::measure::{BUDGET, START};
+use norwythai_samples::{encode, stripped, Random, Stripping};
 
 /// Models of a list, and walk calls from the start and from the list's end.
 const MODELS: usize = 3_000;
@@ -19,7 +20,7 @@ fn same_list(case: &Case, models: usize) -> Bytes {
             &mut checkpoint,
             &mut written,
         );
-        written.truncate(count.expect("a matched formula"));
+        written.truncate(count.expect("an accepted formula"));
         (written, checkpoint)
     };
     let expected = list(&Plain);
@@ -41,20 +42,27 @@ fn same_walks(case: &Case, from: Bytes) {
     }
 }
 
-fn same_judge(case: &Case) {
+/// Judge's answer and its buffer, which both give.
+fn same_judge(
+    input: &[u8],
+    assumptions: &Assumptions,
+) -> (Result<(usize, usize), Refused>, [u8; 96]) {
     let judge = |lister: &dyn Lister| {
         let mut buffer = [0; 96];
-        let judged = lister.judge(&case.input, &case.assumptions, &mut buffer);
+        let judged = lister.judge(input, assumptions, &mut buffer);
         (judged, buffer)
     };
-    assert_eq!(judge(&Tuned), judge(&Plain), "{}", case.name);
+    let judged = judge(&Plain);
+    assert_eq!(judge(&Tuned), judged, "{input:02x?}");
+    judged
 }
 
 fn same_acts(case: &Case) {
     let after = same_list(case, MODELS);
     same_walks(case, START);
     same_walks(case, after);
-    same_judge(case);
+    let (judged, _) = same_judge(&case.input, &case.assumptions);
+    assert_eq!(judged, Ok((case.variables, case.clauses)), "{}", case.name);
     // A checkpoint that the walk never has is refused by both.
     let mut foreign = after;
     foreign[2] ^= 64;
@@ -111,17 +119,29 @@ fn on_a_bad_assumption() {
         let mut assumptions = Assumptions::default();
         assumptions.push(1, true);
         assumptions.push(variable, true);
-        let judge = |lister: &dyn Lister| lister.judge(&[1, 48, 5], &assumptions, &mut [0; 96]);
-        assert_eq!(judge(&Plain), Err((16, 1)));
-        assert_eq!(judge(&Tuned), Err((16, 1)));
+        let (judged, _) = same_judge(&[1, 48, 5], &assumptions);
+        assert_eq!(judged, Err((16, 1)));
     }
 }
 
 #[test]
 fn on_the_fullest_input() {
-    let judge =
-        |lister: &dyn Lister| lister.judge(&fullest_input(), &Assumptions::default(), &mut [0; 96]);
-    let refused = judge(&Plain);
-    assert_eq!(refused, Err((10, 49)));
-    assert_eq!(judge(&Tuned), refused);
+    let judged = same_judge(&fullest_input(), &Assumptions::default());
+    assert_eq!(judged, (Ok((48, 96)), [129; 96]));
+}
+
+#[test]
+fn on_unmatched_formulas() {
+    let mut random = Random::new(1);
+    for more in 1..30 {
+        let stripping = Stripping {
+            dropped: 20,
+            in_rings: 40,
+            more,
+        };
+        let input = encode(48, &stripped(&mut random, 48, stripping));
+        let (judged, buffer) = same_judge(&input, &Assumptions::default());
+        let marked = buffer.iter().filter(|byte| **byte == 1).count();
+        assert_eq!(judged, Err((10, marked)));
+    }
 }

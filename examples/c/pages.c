@@ -75,11 +75,11 @@ static int print_pages(const uint8_t *input, size_t length, size_t size) {
     uint8_t buffer[NORWYTHAI_BUFFER], checkpoint[NORWYTHAI_CHECKPOINT];
     uint64_t results[NORWYTHAI_RESULTS];
 
-    /* Whether the formula is matched, and how many variables it has. */
+    /* Whether the formula is accepted, and how many variables it has. */
     if (norwythai_judge(input, length, NOTHING, 0, buffer, NORWYTHAI_BUFFER, results, NORWYTHAI_RESULTS) != 0) {
         return fail("an array has the wrong length");
     }
-    if (results[ANSWER] != NORWYTHAI_MATCHED) {
+    if (results[ANSWER] != NORWYTHAI_ACCEPTED) {
         return refused(results);
     }
     uint64_t variables = results[VARIABLES];

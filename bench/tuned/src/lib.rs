@@ -13,6 +13,7 @@
 #![forbid(unsafe_code)]
 #![deny(missing_docs)]
 
+mod clauses;
 mod matching;
 mod node;
 mod walking;

@@ -2,7 +2,7 @@
 
 use norwythai_reference::bits::{bit, lowest, numbers};
 use norwythai_reference::{
-    judge_with, Assumption, Formula, Refusal, Size, MAX_CLAUSES, MAX_VARIABLES,
+    judge_with, Assumption, Matcher, Refusal, Size, MAX_CLAUSES, MAX_VARIABLES,
 };
 
 /// A matching that grows clause by clause. What its arrays hold means something only for matched clauses and variables, so
@@ -111,35 +111,20 @@ impl Matching {
         }
         self.pair(variable, root);
     }
+}
 
-    /// Matches all clauses of a formula, in their order: by clause its variable, or the violator.
-    fn match_formula(&mut self, formula: &Formula) -> Result<&[u8], &[u8]> {
-        let clauses = formula.clauses();
-        let mut named = [0; MAX_CLAUSES];
-        for (index, clause) in clauses.iter().enumerate() {
-            named[index] = clause.named();
-        }
+impl Matcher for Matching {
+    fn match_clauses(&mut self, named: &[u64]) -> Result<&[u8], &[u8]> {
         self.clear();
-        if (0..clauses.len()).all(|clause| self.add(&named, !0, clause)) {
-            Ok(&self.variable_of[..clauses.len()])
+        if (0..named.len()).all(|clause| self.add(named, !0, clause)) {
+            Ok(&self.variable_of[..named.len()])
         } else {
             Err(&self.queue[..self.last_taken])
         }
     }
 }
 
-/// Refuses an unmatched formula by 10.
-pub(crate) fn require_matched(formula: &Formula) -> Result<(), Refusal> {
-    let mut matching = Matching::new();
-    let matched = matching.match_formula(formula);
-    matched.map_err(|violator| Refusal::new(10, violator.len()))?;
-    Ok(())
-}
-
 /// The act judge.
 pub fn judge(input: &[u8], assumptions: &[Assumption], buffer: &mut [u8]) -> Result<Size, Refusal> {
-    let matching = &mut Matching::new();
-    judge_with(input, assumptions, buffer, |formula| {
-        matching.match_formula(formula)
-    })
+    judge_with(input, assumptions, buffer, &mut Matching::new())
 }

@@ -1,35 +1,35 @@
 //! Nodes of the walk (request: places), and which variable is assigned next there.
 
+use crate::clauses::ClauseSet;
 use crate::matching::Matching;
 use norwythai_reference::bits::{bit, highest, lowest, numbers};
-use norwythai_reference::{Formula, MAX_VARIABLES};
+use norwythai_reference::{Formula, MAX_CLAUSES, MAX_VARIABLES};
 
-/// A matched formula, with what the walk asks of it at hand. It has no more clauses than variables, so that a set of clauses
-/// is a mask, too.
+/// An accepted formula, with what the walk asks of it at hand.
 #[derive(Clone)]
-pub(crate) struct Occurrences {
+pub(crate) struct Occurrences<S> {
     /// By clause: the variables that it names.
-    named: [u64; MAX_VARIABLES],
+    named: [u64; MAX_CLAUSES],
     /// By variable: the clauses in which it is a positive literal.
-    positive_in: [u64; MAX_VARIABLES],
+    positive_in: [S; MAX_VARIABLES],
     /// By variable: the clauses in which it is a negative literal.
-    negative_in: [u64; MAX_VARIABLES],
+    negative_in: [S; MAX_VARIABLES],
 }
 
-impl Occurrences {
+impl<S: ClauseSet> Occurrences<S> {
     pub fn new(formula: &Formula) -> Self {
         let mut found = Occurrences {
-            named: [0; MAX_VARIABLES],
-            positive_in: [0; MAX_VARIABLES],
-            negative_in: [0; MAX_VARIABLES],
+            named: [0; MAX_CLAUSES],
+            positive_in: [S::default(); MAX_VARIABLES],
+            negative_in: [S::default(); MAX_VARIABLES],
         };
         for (index, clause) in formula.clauses().iter().enumerate() {
             found.named[index] = clause.named();
             for variable in numbers(clause.positive) {
-                found.positive_in[variable] |= bit(index);
+                found.positive_in[variable] |= S::one(index);
             }
             for variable in numbers(clause.negative) {
-                found.negative_in[variable] |= bit(index);
+                found.negative_in[variable] |= S::one(index);
             }
         }
         found
@@ -37,7 +37,7 @@ impl Occurrences {
 
     /// The clauses in which the variable, with this value, is a true literal.
     #[inline]
-    fn satisfied_by(&self, variable: usize, value: bool) -> u64 {
+    fn satisfied_by(&self, variable: usize, value: bool) -> S {
         if value {
             self.positive_in[variable]
         } else {
@@ -48,11 +48,11 @@ impl Occurrences {
 
 /// What is left of the formula when some variables are assigned.
 #[derive(Clone, Copy, Default)]
-pub(crate) struct Node {
+pub(crate) struct Node<S> {
     /// The variables without a value.
     unassigned: u64,
     /// The clauses without a true literal. False literals are gone from them.
-    clauses: u64,
+    clauses: S,
     /// The unassigned variables that are positive literals of these clauses.
     positive: u64,
     /// The unassigned variables that are negative literals of these clauses.
@@ -87,12 +87,12 @@ impl Choice {
     }
 }
 
-impl Node {
+impl<S: ClauseSet> Node<S> {
     /// The node with nothing assigned but what is assumed, which the formula has no more.
     pub fn root(formula: &Formula, assumed: u64) -> Self {
         let mut node = Node {
             unassigned: (bit(formula.variables()) - 1) & !assumed,
-            clauses: bit(formula.clauses().len()) - 1,
+            clauses: S::first(formula.clauses().len()),
             positive: 0,
             negative: 0,
         };
@@ -105,7 +105,7 @@ impl Node {
 
     /// The node after assigning a variable.
     #[inline]
-    pub fn assign(mut self, formula: &Occurrences, variable: usize, value: bool) -> Self {
+    pub fn assign(mut self, formula: &Occurrences<S>, variable: usize, value: bool) -> Self {
         self.unassigned &= !bit(variable);
         self.positive &= self.unassigned;
         self.negative &= self.unassigned;
@@ -115,17 +115,17 @@ impl Node {
 
     /// Takes clauses away, and the literals that stood only in them.
     #[inline]
-    fn drop_clauses(&mut self, formula: &Occurrences, dropped: u64) {
+    fn drop_clauses(&mut self, formula: &Occurrences<S>, dropped: S) {
         let mut touched = 0;
-        for clause in numbers(dropped & self.clauses) {
+        for clause in (dropped & self.clauses).clauses() {
             touched |= formula.named[clause];
         }
         self.clauses &= !dropped;
         for variable in numbers(touched & self.unassigned) {
-            if formula.positive_in[variable] & self.clauses == 0 {
+            if (formula.positive_in[variable] & self.clauses).is_empty() {
                 self.positive &= !bit(variable);
             }
-            if formula.negative_in[variable] & self.clauses == 0 {
+            if (formula.negative_in[variable] & self.clauses).is_empty() {
                 self.negative &= !bit(variable);
             }
         }
@@ -133,12 +133,12 @@ impl Node {
 
     /// The next variable to assign; the expansions of all trials add to those of `matching`, which they use.
     #[inline]
-    pub fn choose(&self, formula: &Occurrences, matching: &mut Matching) -> Choice {
-        if self.clauses == 0 {
+    pub fn choose(&self, formula: &Occurrences<S>, matching: &mut Matching) -> Choice {
+        if self.clauses.is_empty() {
             return Choice::both_open(lowest(self.unassigned));
         }
         let stripped = self.strip(formula);
-        if stripped.left.clauses != 0 {
+        if !stripped.left.clauses.is_empty() {
             return stripped.left.try_upward(formula, matching);
         }
         // The noted variables in order, then the others that are named here, upward: the last one.
@@ -157,7 +157,7 @@ impl Node {
 
     /// S6.2, eliminates pure literals (request: stripping): always the lowest variable that is named in only one way.
     #[inline]
-    fn strip(&self, formula: &Occurrences) -> Stripped {
+    fn strip(&self, formula: &Occurrences<S>) -> Stripped<S> {
         let mut left = *self;
         let mut noted = 0;
         let mut last_noted = 0;
@@ -178,7 +178,7 @@ impl Node {
     }
 
     /// The first variable, upward, for which the clauses can be matched with it false and with it true.
-    fn try_upward(&self, formula: &Occurrences, matching: &mut Matching) -> Choice {
+    fn try_upward(&self, formula: &Occurrences<S>, matching: &mut Matching) -> Choice {
         for variable in numbers(self.positive | self.negative) {
             if self.try_value(formula, matching, variable, false)
                 && self.try_value(formula, matching, variable, true)
@@ -192,27 +192,29 @@ impl Node {
     /// One half of a trial: whether the clauses can be matched once the variable has the value.
     fn try_value(
         &self,
-        formula: &Occurrences,
+        formula: &Occurrences<S>,
         matching: &mut Matching,
         variable: usize,
         value: bool,
     ) -> bool {
         let live = self.unassigned & !bit(variable);
         matching.clear();
-        numbers(self.clauses & !formula.satisfied_by(variable, value))
+        (self.clauses & !formula.satisfied_by(variable, value))
+            .clauses()
             .all(|clause| matching.add(&formula.named, live, clause))
     }
 
     /// Whether some clause has only this literal left, so that the other value would empty it.
-    fn has_unit(&self, formula: &Occurrences, variable: usize, value: bool) -> bool {
-        numbers(self.clauses & formula.satisfied_by(variable, value))
+    fn has_unit(&self, formula: &Occurrences<S>, variable: usize, value: bool) -> bool {
+        (self.clauses & formula.satisfied_by(variable, value))
+            .clauses()
             .any(|clause| formula.named[clause] & self.unassigned == bit(variable))
     }
 }
 
 /// What pure literal elimination leaves, and the noted variables.
-struct Stripped {
-    left: Node,
+struct Stripped<S> {
+    left: Node<S>,
     noted: u64,
     /// Means something if some variable is noted.
     last_noted: usize,

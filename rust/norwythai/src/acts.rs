@@ -9,7 +9,7 @@ use crate::refusal::Refusal;
 use std::error::Error;
 use std::fmt;
 
-/// Whether the assignment is a model of the encoded formula, also of one that is unmatched.
+/// Whether the assignment is a model of the encoded formula, also of one that is not accepted.
 ///
 /// ```
 /// use norwythai::{check, Assignment, Refusal};
@@ -37,12 +37,12 @@ pub struct Size {
     pub clauses: usize,
 }
 
-/// Judge, with a lent buffer of at least 96 bytes. If what remains of the formula under the assumptions is matched, byte i is then the
-/// number, from 1, of the variable of clause i, counted from 0, or 0 if an assumption satisfies the clause. If it is unmatched, byte i
-/// is 1 if clause i belongs to the violator, else 0. As many bytes are written as there are clauses, and none at any other refusal.
+/// Judge, with a lent buffer of at least 96 bytes. If the formula is accepted under the assumptions, byte i is then that of clause i,
+/// counted from 0, as [`Matching::matched`] has them. If it is refused as [`Unmatched`](Refusal::Unmatched), byte i is 1 if clause i
+/// belongs to the violator, else 0. As many bytes are written as there are clauses, and none at any other refusal.
 ///
 /// ```
-/// use norwythai::{judge_into, Assumption, Refusal};
+/// use norwythai::{judge_into, Assumption, Refusal, DROPPED};
 ///
 /// let input = [1, 2, 2, 1, 2, 2, 4, 2, 1, 4, 5]; // (1, 2) and (1)
 /// let mut buffer = [7; 96];
@@ -53,6 +53,10 @@ pub struct Size {
 /// let size = judge_into(&input, &[Assumption::positive(2)], &mut buffer)?;
 /// assert_eq!((size.variables, size.clauses), (2, 2));
 /// assert_eq!(buffer[..3], [0, 1, 7]);
+///
+/// let input = [1, 1, 2, 1, 4, 2, 1, 4, 5]; // (1) and (1): stripping drops both
+/// judge_into(&input, &[], &mut buffer)?;
+/// assert_eq!(buffer[..2], [DROPPED + 1, DROPPED + 1]);
 /// # Ok::<(), Refusal>(())
 /// ```
 pub fn judge_into(
@@ -70,7 +74,7 @@ pub fn judge_into(
     }
 }
 
-/// A variable of its own for each clause that remains under the assumptions.
+/// Why a formula is accepted: a variable for each clause that remains under the assumptions.
 #[derive(Clone, Debug, PartialEq, Eq)]
 pub struct Matching {
     variables: u8,
@@ -88,7 +92,10 @@ impl Matching {
         self.matched.len()
     }
 
-    /// By clause, in the formula's order: the number, from 1, of its variable, or 0 if an assumption satisfies the clause.
+    /// By clause, in the formula's order: 0 if an assumption satisfies it; the number, from 1, of its variable, which no other clause has;
+    /// or, if stripping drops the clause, [`DROPPED`](crate::DROPPED) more than the number of the first noted variable that it names.
+    ///
+    /// What remains is stripped only if it can't be matched as a whole, so that no number is above 48 where it can.
     pub fn matched(&self) -> &[u8] {
         &self.matched
     }
@@ -97,9 +104,10 @@ impl Matching {
 /// Why judge gives no matching.
 #[derive(Clone, Debug, PartialEq, Eq)]
 pub enum JudgeError {
-    /// What remains of the clauses can't be matched.
+    /// What stripping leaves of the clauses that remain can't be matched.
     Unmatched {
         /// The violator: clauses, counted from 0 and upward, that name one variable fewer than they are, assumed ones not counted.
+        /// Stripping drops none of them.
         violator: Vec<usize>,
     },
     /// The input is not a formula, or an assumption is bad.
@@ -133,14 +141,19 @@ impl fmt::Display for JudgeError {
 
 impl Error for JudgeError {}
 
-/// Judge: matches each clause that remains under the assumptions with a variable that it names, none used twice, or says which
-/// clauses stand in the way.
+/// Judge: says whether the formula is accepted under the assumptions. It matches each clause that remains with a variable that it names,
+/// none used twice. Where that can't be, it drops clauses by stripping (pure literal elimination) and matches those that are left, or
+/// says which of them stand in the way.
 ///
 /// ```
-/// use norwythai::{judge, Assumption, JudgeError, Refusal};
+/// use norwythai::{judge, Assumption, JudgeError, Refusal, DROPPED};
 ///
 /// let matching = judge(&[1, 2, 2, 1, 2, 2, 4, 2, 1, 4, 5], &[])?;
 /// assert_eq!(matching.matched(), [2, 1]);
+///
+/// // (1) (1) (2, 3) (not 2, not 3): variable 1 is pure, and the others are left.
+/// let matching = judge(&[1, 3, 2, 1, 4, 2, 1, 4, 2, 2, 2, 3, 4, 3, 2, 3, 3, 4, 5], &[])?;
+/// assert_eq!(matching.matched(), [DROPPED + 1, DROPPED + 1, 2, 3]);
 ///
 /// // The second and the third clause name only variable 2.
 /// let input = [1, 2, 2, 1, 4, 2, 2, 4, 3, 2, 4, 5];
@@ -192,8 +205,9 @@ pub struct Walked {
     pub expansions: u64,
 }
 
-/// Goes on from the checkpoint until a model or the end comes, or as many steps as the budget are made. The checkpoint becomes
-/// the one to go on from, under the same assumptions; at a refusal it stays. A budget of 96 always brings a model or the end.
+/// Goes on from the checkpoint, in the walk of an accepted formula, until a model or the end comes, or as many steps as the budget are
+/// made. The checkpoint becomes the one to go on from, under the same assumptions; at a refusal it stays. A budget of 96 always brings a
+/// model or the end.
 ///
 /// ```
 /// use norwythai::{walk, Answer, Assignment, Assumption, Checkpoint};
@@ -246,9 +260,9 @@ pub struct Listed {
     pub answer: Answer,
 }
 
-/// Fills the slice with the next models, as [`walk`] calls with a budget of 96 would, and tests the checkpoint only once. The
-/// checkpoint becomes the one to go on from, under the same assumptions; at a refusal it stays. An empty slice brings no model and
-/// makes no step.
+/// Fills the slice with the next models of an accepted formula, as [`walk`] calls with a budget of 96 would, and tests the checkpoint only
+/// once. The checkpoint becomes the one to go on from, under the same assumptions; at a refusal it stays. An empty slice brings no model
+/// and makes no step.
 ///
 /// ```
 /// use norwythai::{list, Answer, Assumption, Checkpoint};
@@ -311,7 +325,7 @@ pub fn from_dimacs_into(text: &[u8], buffer: &mut [u8]) -> Result<usize, Refusal
     written(ffi::from_dimacs(text, buffer))
 }
 
-/// Writes an encoded formula, also one that is unmatched, as DIMACS CNF text: the p line and a line for each clause, with each
+/// Writes an encoded formula, also one that is not accepted, as DIMACS CNF text: the p line and a line for each clause, with each
 /// literal once, at its first place in its clause. [`from_dimacs`] reads the same clauses from it.
 ///
 /// ```

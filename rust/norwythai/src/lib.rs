@@ -1,12 +1,16 @@
-//! The models of matched formulas, one after the other, by a library that is proved.
+//! The models of CNF formulas that are matched or strip down to matched ones, one after the other, by a library that is proved.
 //!
 //! A formula has up to 48 variables and 96 clauses. It is *matched* if each clause can have a variable of its own among those
-//! that it names. The library reads an encoded formula, says whether an assignment is a model ([`check`]), matches the clauses
-//! ([`judge`]), and lists all models of a matched formula ([`walk`], [`list`], [`Models`]), each exactly once. The listing can be
+//! that it names. *Stripping* (pure literal elimination) drops the clauses that name the lowest variable that stands in one way only, as
+//! positive or as negative literals, and goes on with those that are left until there is no such variable. A formula is *accepted* if it is
+//! matched, or if what stripping leaves of it is: so it may have more clauses than variables.
+//!
+//! The library reads an encoded formula, says whether an assignment is a model ([`check`]) and whether the formula is accepted
+//! ([`judge`]), and lists all models of an accepted formula ([`walk`], [`list`], [`Models`]), each exactly once. The listing can be
 //! stopped after any number of steps and goes on from a [`Checkpoint`], which is a line of text if need be. Where the values of some
-//! variables are known, matching and listing are of what remains under these [`Assumption`]s. DIMACS CNF text is read into an encoded
-//! formula and written from one ([`from_dimacs`], [`to_dimacs`]). Whatever the bytes are, an act answers: with a [`Refusal`], if it
-//! has to.
+//! variables are known, matching, stripping and listing are of what remains under these [`Assumption`]s. DIMACS CNF text is read into an
+//! encoded formula and written from one ([`from_dimacs`], [`to_dimacs`]). Whatever the bytes are, an act answers: with a [`Refusal`], if
+//! it has to.
 //!
 //! Clubs call these things sheets (formulas), rules (clauses), switches (variables), set-ups (assignments), fixed settings
 //! (assumptions) and markers (checkpoints); the sentences of refusals do, too.
@@ -66,6 +70,6 @@ pub use assumption::Assumption;
 pub use builder::{BuildError, FormulaBuilder, Literal};
 pub use checkpoint::{Checkpoint, ParseCheckpointError};
 pub use formula::Formula;
-pub use limits::{FORMULA_BUFFER, MAX_CLAUSES, MAX_VARIABLES, TEXT_BUFFER};
+pub use limits::{DROPPED, FORMULA_BUFFER, MAX_CLAUSES, MAX_VARIABLES, TEXT_BUFFER};
 pub use models::Models;
 pub use refusal::Refusal;

@@ -6,6 +6,9 @@ pub const MAX_VARIABLES: u8 = 48;
 /// The most clauses that a formula has.
 pub const MAX_CLAUSES: usize = 96;
 
+/// Added to the variable in judge's byte for a clause that stripping drops.
+pub const DROPPED: u8 = 128;
+
 /// The bytes of a checkpoint: its mode, its length, and one for each variable.
 pub(crate) const CHECKPOINT_LENGTH: usize = 2 + MAX_VARIABLES as usize;
 

@@ -62,7 +62,7 @@ pub enum Refusal {
         /// That byte.
         place: usize,
     },
-    /// 10: what remains of the clauses can't be matched with variables.
+    /// 10: what stripping leaves of the clauses that remain can't be matched with variables.
     Unmatched {
         /// The number of the violator's clauses, which is the refusal's place. They name one variable fewer, assumed ones not
         /// counted.
@@ -203,11 +203,11 @@ impl fmt::Display for Refusal {
             ),
             Refusal::Unmatched { clauses: 1 } => write!(
                 f,
-                "the rules can't be paired with switches: a rule names no switch, fixed ones not counted"
+                "the rules that stripping leaves can't be paired with switches: one names no switch, fixed ones not counted"
             ),
             Refusal::Unmatched { clauses } => write!(
                 f,
-                "the rules can't be paired with switches: {clauses} of them name only {} altogether, fixed ones not counted",
+                "the rules that stripping leaves can't be paired with switches: {clauses} of them name only {} altogether, fixed ones not counted",
                 clauses.saturating_sub(1)
             ),
             Refusal::ForeignCheckpoint => write!(

@@ -77,12 +77,12 @@ fn sentences_name_the_rules_that_cannot_be_paired() {
     let error = judge(&[1, 2, 2, 1, 4, 2, 2, 4, 3, 2, 4, 5], &[]).unwrap_err();
     assert_eq!(
         error.to_string(),
-        "the rules can't be paired with switches: 2 of them name only 1 altogether, fixed ones not counted (rules 2, 3)"
+        "the rules that stripping leaves can't be paired with switches: 2 of them name only 1 altogether, fixed ones not counted (rules 2, 3)"
     );
     let error = judge(&[1, 1, 4, 5], &[]).unwrap_err();
     assert_eq!(
         error.to_string(),
-        "the rules can't be paired with switches: a rule names no switch, fixed ones not counted (rule 1)"
+        "the rules that stripping leaves can't be paired with switches: one names no switch, fixed ones not counted (rule 1)"
     );
     let error = judge(&[], &[]).unwrap_err();
     assert_eq!(error, JudgeError::Refused(Refusal::Truncated { place: 0 }));

@@ -12,6 +12,7 @@
 #![forbid(unsafe_code)]
 #![deny(missing_docs)]
 
+mod acceptance;
 mod assumptions;
 pub mod bits;
 mod choice;
@@ -19,12 +20,14 @@ mod dimacs;
 mod formula;
 mod matching;
 mod printing;
+mod stripping;
 mod walking;
 
+pub use acceptance::{accept, judge, judge_with, Size};
 pub use assumptions::{Assumed, Assumption};
 pub use dimacs::{from_dimacs, read_text, to_dimacs, write_text, FORMULA_BUFFER, TEXT_BUFFER};
 pub use formula::{check, decode, Clause, Formula, Refusal, MAX_CLAUSES, MAX_VARIABLES};
-pub use matching::{judge, judge_with, Size};
+pub use matching::Matcher;
 pub use printing::print;
 pub use walking::{
     list, start_checkpoint, walk, Answer, Checkpoint, Listed, Progress, Walked, Walker,

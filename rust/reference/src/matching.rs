@@ -1,10 +1,16 @@
-//! Matching clauses with variables (S5; request: pairing), and the act judge.
+//! Matching clauses with variables (S5; request: pairing).
 
-use crate::assumptions::Assumption;
 use crate::bits::{bit, numbers};
-use crate::formula::{decode, Formula, Refusal, MAX_CLAUSES, MAX_VARIABLES};
+use crate::formula::{MAX_CLAUSES, MAX_VARIABLES};
 
-/// A matching that grows clause by clause. A clause is given by the set of variables that it names.
+/// A way of matching clauses with variables. A clause is given by the set of variables that it names.
+pub trait Matcher {
+    /// Matches the clauses, in their order (S5.2): by clause its variable, both counted from 0, or, if that cannot be, the violator: the
+    /// clauses that the failed search took off its queue (S5.5; request: the marked rules).
+    fn match_clauses(&mut self, named: &[u64]) -> Result<&[u8], &[u8]>;
+}
+
+/// A matching that grows clause by clause.
 pub(crate) struct Matching {
     /// The matched variables.
     matched: u64,
@@ -95,77 +101,14 @@ impl Matching {
             variable = before;
         }
     }
+}
 
-    /// Matches all clauses of a formula, in their order: by clause its variable, or, if that cannot be, the violator: the clauses
-    /// that the failed search took off its queue (S5.5; request: the marked rules).
-    fn match_formula(&mut self, formula: &Formula) -> Result<&[u8], &[u8]> {
-        let mut named = [0; MAX_CLAUSES];
-        for (set, clause) in named.iter_mut().zip(formula.clauses()) {
-            *set = clause.named();
-        }
-        let clauses = formula.clauses().len();
-        if self.match_all(&named[..clauses]) {
-            Ok(&self.variable_of[..clauses])
+impl Matcher for Matching {
+    fn match_clauses(&mut self, named: &[u64]) -> Result<&[u8], &[u8]> {
+        if self.match_all(named) {
+            Ok(&self.variable_of[..named.len()])
         } else {
             Err(&self.queue[..self.taken])
-        }
-    }
-}
-
-/// Refuses an unmatched formula by 10.
-pub(crate) fn require_matched(formula: &Formula) -> Result<(), Refusal> {
-    match Matching::new().match_formula(formula) {
-        Ok(_) => Ok(()),
-        Err(violator) => Err(Refusal::new(10, violator.len())),
-    }
-}
-
-/// What judge says of a matched formula; assumed variables and satisfied clauses count, too.
-#[derive(Clone, Copy, Debug, PartialEq, Eq)]
-pub struct Size {
-    /// n, the number of variables.
-    pub variables: usize,
-    /// m, the number of clauses.
-    pub clauses: usize,
-}
-
-/// S5.7, the act judge, with a lent buffer (request: slate). Matched: byte i becomes the variable, from 1, of clause i (from 0), or 0
-/// if an assumption satisfies the clause. Unmatched: byte i becomes 1 if clause i is of the violator, else 0. Other bytes stay as
-/// they are.
-pub fn judge(input: &[u8], assumptions: &[Assumption], buffer: &mut [u8]) -> Result<Size, Refusal> {
-    let matching = &mut Matching::new();
-    judge_with(input, assumptions, buffer, |formula| {
-        matching.match_formula(formula)
-    })
-}
-
-/// [`judge`] by any way of matching the clauses that remain: it gives the variable of each clause, both counted from 0, or the
-/// clauses of the violator.
-pub fn judge_with<'a>(
-    input: &[u8],
-    assumptions: &[Assumption],
-    buffer: &mut [u8],
-    match_formula: impl FnOnce(&Formula) -> Result<&'a [u8], &'a [u8]>,
-) -> Result<Size, Refusal> {
-    if buffer.len() < MAX_CLAUSES {
-        return Err(Refusal::new(1, 0));
-    }
-    let mut formula = decode(input)?;
-    let clauses = formula.clauses().len();
-    let assumed = formula.assume(assumptions)?;
-    let written = &mut buffer[..clauses];
-    match match_formula(&formula) {
-        Ok(variables) => {
-            assumed.write_row(written, variables.iter().map(|variable| variable + 1));
-            Ok(Size {
-                variables: formula.variables(),
-                clauses,
-            })
-        }
-        Err(violator) => {
-            let marks = (0..).map(|clause| violator.contains(&clause).into());
-            assumed.write_row(written, marks);
-            Err(Refusal::new(10, violator.len()))
         }
     }
 }

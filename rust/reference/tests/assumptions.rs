@@ -27,7 +27,7 @@ fn checkpoint(bytes: &[u8]) -> Checkpoint {
     checkpoint
 }
 
-fn is_matched(input: &[u8]) -> bool {
+fn is_accepted(input: &[u8]) -> bool {
     judge(input, &[], &mut [0; 96]).is_ok()
 }
 
@@ -99,8 +99,8 @@ fn list_of(
 
 #[test]
 fn what_remains_is_matched() {
-    let input = encode(3, &[vec![1, 2], vec![-1, 3], vec![2, -3], vec![1, 2, 3]]);
-    // More clauses than variables: only assumptions make it matched.
+    let input = encode(3, &[vec![1, 2], vec![-1, 3], vec![-2, -3], vec![1, 2, 3]]);
+    // More clauses than variables, and nothing to strip: only assumptions make it matched.
     let size = Size {
         variables: 3,
         clauses: 4,
@@ -109,8 +109,8 @@ fn what_remains_is_matched() {
     let cases = [
         (&[][..], unmatched(4), [1, 1, 1, 1]),
         (&[1], Ok(size), [0, 3, 2, 0]),
-        (&[2, -1], Ok(size), [0, 0, 0, 0]),
-        // (2) (2, not 3) (2, 3)
+        (&[2, -1], Ok(size), [0, 0, 3, 0]),
+        // (2) (not 2, not 3) (2, 3)
         (&[-1], unmatched(3), [1, 0, 1, 1]),
         // The second clause is empty.
         (&[-3, 1], unmatched(1), [0, 1, 0, 0]),
@@ -130,19 +130,22 @@ fn what_remains_is_matched() {
 
 #[test]
 fn an_assumption_satisfies_any_number_of_clauses() {
-    // 96 clauses over 48 variables, all true with variable 1.
-    let clauses: Vec<Vec<i8>> = (0..96).map(|i| vec![1, i % 47 + 2]).collect();
+    // 96 clauses over 48 variables, all but the last true with variable 1. No variable is pure.
+    let sign = |i| if i < 47 { 1 } else { -1 };
+    let mut clauses: Vec<Vec<i8>> = (0..95).map(|i| vec![1, sign(i) * (i % 47 + 2)]).collect();
+    clauses.push(vec![-1, 2]);
     let input = encode(48, &clauses);
     let mut buffer = [170; 96];
     assert_eq!(judge(&input, &[], &mut buffer), Err(refusal(10, 4)));
     let first = assuming(&[1]);
     assert!(judge(&input, &first, &mut buffer).is_ok());
-    assert_eq!(buffer, [0; 96]);
+    assert_eq!(buffer[..95], [0; 95]);
+    assert_eq!(buffer[95], 2);
     let walked = walk(&input, &first, &start_checkpoint(), LIST_BUDGET).unwrap();
-    assert_eq!(walked.progress.answer, Answer::Model(1));
+    assert_eq!(walked.progress.answer, Answer::Model(3));
     assert_eq!((walked.progress.steps, walked.progress.expansions), (47, 0));
-    // Variable 2 is the lowest that is not assumed.
-    assert_eq!(walked.checkpoint[..4], [1, 47, 2, 3]);
+    // Behind variable 2, which the last clause names, the lowest that is not assumed.
+    assert_eq!(walked.checkpoint[..4], [1, 47, 130, 3]);
 }
 
 #[test]
@@ -249,7 +252,7 @@ fn list_gives_the_models_that_keep_the_assumptions() {
     let mut random = Random::new(1);
     let (mut walks, mut models) = (0, 0);
     while walks < 1_000 {
-        let input = some_input(&mut random, is_matched);
+        let input = some_input(&mut random, is_accepted);
         let assumptions = some_list(&mut random, &input);
         let Ok(formula) = decode(&input) else {
             continue;
@@ -308,8 +311,8 @@ fn renumbered(formula: &Formula, assumptions: &[Assumption]) -> (Vec<u8>, Vec<u8
 fn a_walk_under_assumptions_is_that_of_what_remains() {
     let mut random = Random::new(2);
     let (mut walks, mut refused, mut with_trials) = (0, 0, 0);
-    while walks < 1_000 {
-        let input = some_input(&mut random, is_matched);
+    while walks < 1_500 {
+        let input = some_input(&mut random, is_accepted);
         let assumptions = some_list(&mut random, &input);
         let Ok(mut formula) = decode(&input) else {
             continue;

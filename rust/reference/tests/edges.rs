@@ -84,7 +84,7 @@ fn a_literal_counts_once() {
     }
     // In two clauses it counts in both.
     assert_eq!(
-        judge(&encode(1, &[vec![1, 1], vec![1]]), &[], &mut [0; 96]),
+        judge(&encode(1, &[vec![1, 1], vec![-1]]), &[], &mut [0; 96]),
         Err(refusal(10, 2))
     );
 }

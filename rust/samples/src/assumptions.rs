@@ -1,4 +1,4 @@
-//! Lists of assumptions: good ones, of which many leave the formula matched, and bad ones.
+//! Lists of assumptions: good ones, under which many formulas are accepted, and bad ones.
 
 use crate::random::Random;
 
@@ -10,27 +10,58 @@ fn variables_of(input: &[u8]) -> usize {
     input.get(1).copied().unwrap_or(1).clamp(1, 48).into()
 }
 
-/// Values that make the clauses true, as far as that comes by chance: for each clause in turn that is not true by them, the value of
-/// one of its variables that has none.
-fn some_satisfying(random: &mut Random, input: &[u8]) -> Vec<Assumption> {
-    let mut values: Vec<Assumption> = Vec::new();
-    let mut clause: Vec<Assumption> = Vec::new();
+/// The clauses of an input, as far as it can be read: each literal is the assumption that makes it true.
+fn clauses_of(input: &[u8]) -> Vec<Vec<Assumption>> {
+    let mut clauses = Vec::new();
+    let mut clause = Vec::new();
     let mut at = 2;
     while let Some(kind @ 2..=4) = input.get(at) {
         if *kind < 4 {
             let variable = input.get(at + 1).copied().unwrap_or(0);
             clause.push((variable, *kind == 2));
             at += 2;
-            continue;
+        } else {
+            clauses.push(std::mem::take(&mut clause));
+            at += 1;
         }
+    }
+    clauses
+}
+
+/// Values that make the clauses true, as far as that comes by chance: for each clause in turn that is not true by them, the value of
+/// one of its variables that has none.
+fn some_satisfying(random: &mut Random, input: &[u8]) -> Vec<Assumption> {
+    let mut values: Vec<Assumption> = Vec::new();
+    for mut clause in clauses_of(input) {
         if !clause.iter().any(|literal| values.contains(literal)) {
             clause.retain(|(variable, _)| values.iter().all(|(other, _)| other != variable));
             if !clause.is_empty() {
                 values.push(random.pick(&clause));
             }
         }
-        clause.clear();
-        at += 1;
+    }
+    values
+}
+
+/// One to three values, each of which makes as many clauses true as it can, of those that are not true by the ones before.
+fn some_frequent(random: &mut Random, input: &[u8]) -> Vec<Assumption> {
+    let mut clauses = clauses_of(input);
+    let mut values = Vec::new();
+    for _ in 0..random.between(1, 3) {
+        let made_true = |literal: &Assumption| {
+            let has = |clause: &&Vec<Assumption>| clause.contains(literal);
+            clauses.iter().filter(has).count()
+        };
+        let literals = (1..=variables_of(input) as u8).flat_map(|v| [(v, false), (v, true)]);
+        let Some(best) = literals.filter(|l| made_true(l) > 0).max_by_key(made_true) else {
+            break;
+        };
+        clauses.retain(|clause| !clause.contains(&best));
+        // Its variable stands in no later value.
+        for clause in &mut clauses {
+            clause.retain(|(variable, _)| *variable != best.0);
+        }
+        values.push(best);
     }
     values
 }
@@ -77,7 +108,7 @@ fn some_covering(random: &mut Random, input: &[u8]) -> Vec<Assumption> {
 /// Assumptions of some, most or all variables, at times with bad ones among them.
 pub fn some_assumptions(random: &mut Random, input: &[u8]) -> Vec<Assumption> {
     let variables = variables_of(input);
-    let mut list = match random.below(16) {
+    let mut list = match random.below(18) {
         0..=6 => {
             let count = random.between(1, variables.min(4));
             some_good(random, input, count)
@@ -89,6 +120,7 @@ pub fn some_assumptions(random: &mut Random, input: &[u8]) -> Vec<Assumption> {
         9 => some_good(random, input, variables - 1),
         10 | 11 => some_good(random, input, variables),
         12..=14 => some_covering(random, input),
+        15 | 16 => some_frequent(random, input),
         _ => Vec::new(),
     };
     if random.percent(20) {
@@ -117,6 +149,20 @@ mod tests {
         let input = encode(3, &[vec![1], vec![-1, 2], vec![-2, -3], vec![-1]]);
         let values = some_satisfying(&mut Random::new(1), &input);
         assert_eq!(values, [(1, true), (2, true), (3, false)]);
+    }
+
+    #[test]
+    fn values_that_make_most_clauses_true() {
+        let clauses = [vec![1], vec![-2, 3], vec![-2, -1], vec![-2, 1]];
+        let input = encode(3, &clauses);
+        let lists: Vec<_> = (0..20)
+            .map(|seed| some_frequent(&mut Random::new(seed), &input))
+            .collect();
+        for list in &lists {
+            assert!([(2, false), (1, true)].starts_with(list), "{list:?}");
+        }
+        assert!(lists.iter().any(|list| list.len() == 1));
+        assert!(lists.iter().any(|list| list.len() == 2));
     }
 
     #[test]

@@ -1,5 +1,7 @@
 //! Formulas as lists of clauses, and their encoding.
 
+use crate::random::Random;
+
 /// Clauses of signed variable numbers, which count from 1: negative for a negative literal.
 pub type Clauses = Vec<Vec<i8>>;
 
@@ -40,6 +42,87 @@ pub fn longest_path(variables: usize) -> Clauses {
     clauses
 }
 
+/// A ring of clauses, over all variables: i, not i + 1, i + 3, not i + 7, as many of these as the length. Each variable has both
+/// signs.
+pub(crate) fn ring(variables: usize, length: usize) -> Clauses {
+    let at = |i: usize| (i % variables) as i8 + 1;
+    (0..variables)
+        .map(|i| [at(i), -at(i + 1), at(i + 3), -at(i + 7)][..length].to_vec())
+        .collect()
+}
+
+/// A clause of the literal and up to three others, of random signs.
+fn clause_from(random: &mut Random, literal: i8, others: &[i8]) -> Vec<i8> {
+    let mut clause = vec![literal];
+    for _ in 0..random.below(4).min(others.len()) {
+        let variable = random.pick(others);
+        let other = random.signed(variable);
+        if !clause.contains(&other) && !clause.contains(&-other) {
+            clause.push(other);
+        }
+    }
+    clause
+}
+
+/// A ring over these variables, of which there are two at least, each given by a literal.
+fn ring_over(random: &mut Random, literals: &[i8]) -> Clauses {
+    let length = if literals.len() < 8 {
+        2
+    } else {
+        random.between(2, 4)
+    };
+    let mut clauses = ring(literals.len(), length);
+    for literal in clauses.iter_mut().flatten() {
+        *literal = literal.signum() * literals[literal.unsigned_abs() as usize - 1];
+    }
+    clauses
+}
+
+/// What stripping makes of the clauses of [`stripped`].
+#[derive(Clone, Copy, Debug)]
+pub struct Stripping {
+    /// How many clauses it drops.
+    pub dropped: usize,
+    /// How many it leaves in rings, over as many variables, so that they are matched: none, or 2 or more, but not over all variables.
+    pub in_rings: usize,
+    /// How many more it leaves, over the same variables, so that what is left is unmatched. Each has one of a few literals, and
+    /// assumptions of these satisfy all.
+    pub more: usize,
+}
+
+/// Clauses of which stripping drops some or all, in random order. Each dropped one belongs to a variable outside the rings: it has its
+/// literal, of the same sign in all clauses that belong to the variable, and up to three others, of variables that come behind it in a
+/// random order. So a variable is pure once the clauses of those before it are dropped.
+pub fn stripped(random: &mut Random, variables: usize, stripping: Stripping) -> Clauses {
+    let mut literals = random.some_of(variables, variables);
+    for literal in &mut literals {
+        *literal = random.signed(*literal);
+    }
+    let (outside, mut rest) = literals.split_at(variables - stripping.in_rings);
+    let mut clauses: Clauses = Vec::new();
+    for _ in 0..stripping.dropped {
+        let own = random.below(outside.len());
+        clauses.push(clause_from(random, outside[own], &literals[own + 1..]));
+    }
+    for _ in 0..stripping.more {
+        let own = random.below(rest.len().min(3));
+        clauses.push(clause_from(random, rest[own], rest));
+    }
+    let size = random.between(2, rest.len().max(2));
+    while !rest.is_empty() {
+        // No ring has one variable alone.
+        let at = if rest.len() < size + 2 {
+            rest.len()
+        } else {
+            size
+        };
+        let (first, others) = rest.split_at(at);
+        clauses.extend(ring_over(random, first));
+        rest = others;
+    }
+    random.shuffled(clauses)
+}
+
 #[cfg(test)]
 mod tests {
     use super::*;
@@ -54,6 +137,24 @@ mod tests {
     fn a_path_of_three_links() {
         assert_eq!(longest_path(3), [vec![1, 2], vec![2, 3], vec![1]]);
         assert_eq!(longest_path(1), [vec![1]]);
+    }
+
+    #[test]
+    fn dropped_clauses_and_left_ones() {
+        let stripping = Stripping {
+            dropped: 5,
+            in_rings: 3,
+            more: 2,
+        };
+        let clauses = stripped(&mut Random::new(1), 4, stripping);
+        assert_eq!(clauses.len(), 10);
+        // One variable is not in a ring: it stands in the dropped clauses only, and with one sign.
+        let dropped = |literal: &i8| {
+            let naming = |clause: &&Vec<i8>| clause.contains(literal);
+            clauses.iter().filter(naming).count() == 5
+                && !clauses.iter().any(|clause| clause.contains(&-literal))
+        };
+        assert!((-4..=4).any(|literal| dropped(&literal)), "{clauses:?}");
     }
 
     #[test]

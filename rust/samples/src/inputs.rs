@@ -1,6 +1,6 @@
 //! Inputs: encoded formulas of many kinds, and damaged ones.
 
-use crate::formulas::{encode, longest_path, stairs, Clauses};
+use crate::formulas::{encode, longest_path, ring, stairs, stripped, Clauses, Stripping};
 use crate::random::Random;
 
 /// Small, middle and large numbers of variables.
@@ -43,15 +43,6 @@ fn some_clauses(
         .collect()
 }
 
-/// A ring of clauses, over all variables: i, not i + 1, i + 3, not i + 7, as many of these as the length. Each variable has both
-/// signs.
-fn ring(variables: usize, length: usize) -> Clauses {
-    let at = |i: usize| (i % variables) as i8 + 1;
-    (0..variables)
-        .map(|i| [at(i), -at(i + 1), at(i + 3), -at(i + 7)][..length].to_vec())
-        .collect()
-}
-
 /// Clauses in which each variable stands as often as all others, with both signs and in random places. A clause that would name
 /// one both ways is shorter.
 fn balanced(random: &mut Random, variables: usize, length: usize) -> Clauses {
@@ -84,12 +75,35 @@ fn some_path(random: &mut Random, variables: usize) -> Clauses {
     let last = left.pop();
     let others = random.pick(&[0, 0, 1, 3]);
     left.extend(some_clauses(random, variables, others, (1, 3), 50));
-    let mut clauses = Vec::new();
-    while !left.is_empty() {
-        clauses.push(left.swap_remove(random.below(left.len())));
-    }
+    let mut clauses = random.shuffled(left);
     clauses.extend(last);
     clauses
+}
+
+/// Clauses of which stripping drops some or all, so that the others are matched. Most are unmatched as a whole.
+fn left_matched(random: &mut Random, variables: usize) -> Clauses {
+    let in_rings = if variables > 2 && random.percent(60) {
+        random.between(2, variables - 1)
+    } else {
+        0
+    };
+    let stripping = Stripping {
+        dropped: random.between(1, 96 - in_rings),
+        in_rings,
+        more: 0,
+    };
+    stripped(random, variables, stripping)
+}
+
+/// Clauses of which stripping drops some, while the others are unmatched; assumptions of a few variables often change that. There are
+/// three variables at least.
+fn left_unmatched(random: &mut Random, variables: usize) -> Clauses {
+    let stripping = Stripping {
+        dropped: random.between(1, 12),
+        in_rings: random.between(2, variables - 1),
+        more: random.between(1, 24),
+    };
+    stripped(random, variables, stripping)
 }
 
 /// Puts one of the clause's literals into it once more, or with the sign -1 its complement, at a random place.
@@ -117,10 +131,10 @@ fn repeat_literals(random: &mut Random, clauses: &mut Clauses) {
     }
 }
 
-/// The number of variables and the clauses of a readable formula, matched or not.
+/// The number of variables and the clauses of a readable formula, accepted or not.
 pub(crate) fn some_parts(random: &mut Random) -> (usize, Clauses) {
     let n = some_variables(random);
-    let mut clauses = match random.below(13) {
+    let mut clauses = match random.below(16) {
         0 => some_clauses(random, n, n, (3, 3), 50),
         1 => {
             let count = random.between(0, n);
@@ -139,6 +153,8 @@ pub(crate) fn some_parts(random: &mut Random) -> (usize, Clauses) {
             balanced(random, n, length)
         }
         11 => some_path(random, n),
+        12 | 13 => left_matched(random, n),
+        14 if n > 2 => left_unmatched(random, n),
         _ => {
             let count = random.between(0, 96);
             some_clauses(random, n, count, (0, 4), 50)
@@ -152,42 +168,19 @@ fn encode_parts((n, clauses): (usize, Clauses)) -> Vec<u8> {
     encode(n, &clauses)
 }
 
-/// A readable formula, matched or not.
+/// A readable formula, accepted or not.
 fn some_formula(random: &mut Random) -> Vec<u8> {
     encode_parts(some_parts(random))
 }
 
-/// A formula that is matched, as the caller finds out.
-pub fn some_matched_formula(random: &mut Random, is_matched: fn(&[u8]) -> bool) -> Vec<u8> {
+/// A formula that is accepted, as the caller finds out.
+pub fn some_accepted_formula(random: &mut Random, is_accepted: fn(&[u8]) -> bool) -> Vec<u8> {
     loop {
         let input = some_formula(random);
-        if is_matched(&input) {
+        if is_accepted(&input) {
             return input;
         }
     }
-}
-
-/// More clauses than variables, so that they are unmatched, each with a literal of one of a few variables that stand with one sign only:
-/// assumptions of these satisfy all.
-fn covered_parts(random: &mut Random) -> (usize, Clauses) {
-    let n = some_variables(random);
-    let few = random.between(1, n.min(5));
-    let variables = random.some_of(n, n);
-    let (cover, others) = variables.split_at(few);
-    let cover: Vec<i8> = cover.iter().map(|v| random.signed(*v)).collect();
-    let count = random.between(n + 1, 96);
-    let clauses = (0..count).map(|_| {
-        let mut clause = vec![random.pick(&cover)];
-        for _ in 0..random.below(4).min(others.len()) {
-            let variable = random.pick(others);
-            let literal = random.signed(variable);
-            if !clause.contains(&-literal) {
-                clause.push(literal);
-            }
-        }
-        clause
-    });
-    (n, clauses.collect())
 }
 
 /// 96 or 97 clauses, or a number of variables at a limit or past it.
@@ -253,15 +246,18 @@ fn noise(random: &mut Random) -> Vec<u8> {
         .collect()
 }
 
-/// Any input: most are matched formulas, as the caller finds out.
-pub fn some_input(random: &mut Random, is_matched: fn(&[u8]) -> bool) -> Vec<u8> {
-    match random.below(21) {
-        0..=11 => some_matched_formula(random, is_matched),
-        12 | 13 => some_formula(random),
-        14 => encode_parts(contradictory_parts(random)),
-        15 | 16 => damaged(random),
-        17 | 18 => encode_parts(parts_at_a_limit(random)),
-        19 => encode_parts(covered_parts(random)),
+/// Any input: most are accepted formulas, as the caller finds out.
+pub fn some_input(random: &mut Random, is_accepted: fn(&[u8]) -> bool) -> Vec<u8> {
+    match random.below(22) {
+        0..=11 => some_accepted_formula(random, is_accepted),
+        12..=14 => some_formula(random),
+        15 => encode_parts(contradictory_parts(random)),
+        16 | 17 => damaged(random),
+        18 | 19 => encode_parts(parts_at_a_limit(random)),
+        20 => {
+            let variables = some_variables(random).max(3);
+            encode(variables, &left_unmatched(random, variables))
+        }
         _ => noise(random),
     }
 }

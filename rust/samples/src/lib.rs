@@ -13,7 +13,7 @@ mod texts;
 
 pub use assumptions::some_assumptions;
 pub use calls::{some_assignment, some_budget, some_checkpoint, some_length};
-pub use formulas::{encode, longest_path, stairs, Clauses};
-pub use inputs::{some_input, some_matched_formula};
+pub use formulas::{encode, longest_path, stairs, stripped, Clauses, Stripping};
+pub use inputs::{some_accepted_formula, some_input};
 pub use random::Random;
 pub use texts::some_text;

@@ -54,7 +54,16 @@ impl Random {
 
     /// So many different numbers from 1 to the limit, in random order.
     pub fn some_of(&mut self, count: usize, limit: usize) -> Vec<i8> {
-        let mut left: Vec<i8> = (1..=limit as i8).collect();
+        self.draw(count, (1..=limit as i8).collect())
+    }
+
+    /// The items in random order.
+    pub fn shuffled<T>(&mut self, items: Vec<T>) -> Vec<T> {
+        self.draw(items.len(), items)
+    }
+
+    /// So many of the items, in random order.
+    fn draw<T>(&mut self, count: usize, mut left: Vec<T>) -> Vec<T> {
         (0..count)
             .map(|_| left.swap_remove(self.below(left.len())))
             .collect()

@@ -94,9 +94,10 @@ pub fn compare_judge(tally: &mut Tally, input: &[u8], assumed: &Assumed, length:
     }
     tally.judges += 1;
     match expected {
-        Ok(_) => tally.matched += 1,
+        Ok(_) => tally.accepted += 1,
         Err(refusal) => tally.refused(assumed, refusal),
     }
+    tally.stripped(assumed).judged(expected, &expected_buffer);
     tally
         .assuming
         .judged(input, assumed, expected, &expected_buffer);
@@ -171,6 +172,9 @@ pub fn compare_walk(
 
     tally.walks += 1;
     let progress = expected.map(|walked| walked.progress);
+    tally
+        .stripped(assumed)
+        .walked(input, assumed, given, progress);
     tally
         .assuming
         .walked(input, assumed, given, budget, progress);
@@ -276,6 +280,9 @@ pub fn compare_list(
         Ok(listed) => {
             tally.answered(listed.answer);
             tally.listed += listed.written;
+            tally
+                .stripped(assumed)
+                .listed(input, assumed, given, listed);
             tally.assuming.listed(input, assumed, given, length, listed);
             Some(returned)
         }

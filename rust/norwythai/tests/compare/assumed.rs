@@ -39,6 +39,13 @@ impl Assumed {
         Some(masks.left_to_assign(&formula))
     }
 
+    /// Whether the input is accepted under the list, but only since stripping drops clauses.
+    pub fn drops_clauses(&self, input: &[u8]) -> bool {
+        let mut row = [0; 96];
+        let judged = reference::judge(input, &self.reference, &mut row);
+        judged.is_ok() && row.iter().any(|byte| *byte > 128)
+    }
+
     /// Whether the list has the variable of this number.
     pub fn has(&self, variable: u8) -> bool {
         self.list.iter().any(|a| a.variable == variable)

@@ -15,19 +15,19 @@ use assumed::Assumed;
 use norwythai::{Answer, Assumption, Checkpoint, Models, Refusal};
 use norwythai_reference as reference;
 use norwythai_samples::{
-    encode, longest_path, some_assignment, some_budget, some_checkpoint, some_input,
-    some_matched_formula, some_text, Random,
+    encode, longest_path, some_accepted_formula, some_assignment, some_budget, some_checkpoint,
+    some_input, some_text, Random,
 };
 use tally::Tally;
 
 const FEWEST_CALLS: usize = 100_000;
 
-fn is_matched_under(input: &[u8], assumptions: &[reference::Assumption]) -> bool {
+fn is_accepted_under(input: &[u8], assumptions: &[reference::Assumption]) -> bool {
     reference::judge(input, assumptions, &mut [0; 96]).is_ok()
 }
 
-fn is_matched(input: &[u8]) -> bool {
-    is_matched_under(input, &[])
+fn is_accepted(input: &[u8]) -> bool {
+    is_accepted_under(input, &[])
 }
 
 /// Judge, walk and list on one input under assumptions, with checkpoints of their own walk and, at times, those of a walk of another
@@ -45,7 +45,7 @@ fn compare_assuming(
         compare_judge(tally, input, assumed, length, fill);
     }
     let mut pool = Vec::new();
-    if is_matched_under(input, &assumed.reference) {
+    if is_accepted_under(input, &assumed.reference) {
         pool = compare_chain(tally, random, input, assumed);
         for _ in 0..others.len().min(3) {
             let given = random.pick(others);
@@ -119,7 +119,7 @@ fn every_act_answers_as_the_reference() {
     let mut others = Vec::new();
     let mut round = 0;
     while tally.calls() < wanted {
-        let input = some_input(&mut random, is_matched);
+        let input = some_input(&mut random, is_accepted);
         tally.input(&input);
         others = compare_input(&mut tally, &mut random, &input, &others);
         compare_texts(&mut tally, &mut random, &input);
@@ -151,10 +151,10 @@ fn all_models(input: &[u8], assumed: &Assumed) -> Vec<u64> {
         .collect()
 }
 
-/// A list under which the formula is matched; often the empty one.
+/// A list under which the formula is accepted; often the empty one.
 fn some_accepted(random: &mut Random, input: &[u8]) -> Assumed {
     let assumed = Assumed::some(random, input);
-    if is_matched_under(input, &assumed.reference) {
+    if is_accepted_under(input, &assumed.reference) {
         assumed
     } else {
         Assumed::default()
@@ -165,10 +165,10 @@ fn some_accepted(random: &mut Random, input: &[u8]) -> Assumed {
 fn list_and_models_give_exactly_all_models() {
     let mut random = Random::new(1);
     let (mut formulas, mut models, mut resumed) = (0, 0, 0);
-    // Lists under assumptions, and those of them where nothing is left to assign.
-    let (mut assuming, mut full) = (0, 0);
+    // Lists under assumptions, those of them where nothing is left to assign, and lists of formulas that are accepted by stripping.
+    let (mut assuming, mut full, mut stripped) = (0, 0, 0);
     while formulas < 800 {
-        let input = some_matched_formula(&mut random, is_matched);
+        let input = some_accepted_formula(&mut random, is_accepted);
         if input[1] > 10 {
             continue;
         }
@@ -206,18 +206,19 @@ fn list_and_models_give_exactly_all_models() {
         models += all.len();
         assuming += usize::from(!assumed.is_empty());
         full += usize::from(assumed.left_to_assign(&input) == Some(0));
+        stripped += usize::from(assumed.drops_clauses(&input));
     }
     println!("{formulas} formulas, {models} models, taken up again {resumed} times");
-    println!("{assuming} under assumptions, {full} with nothing left to assign");
+    println!("{assuming} under assumptions, {full} with nothing left to assign, {stripped} accepted by stripping");
     assert!(models > 5_000 && resumed > 1_000);
-    assert!(assuming > 200 && full > 50);
+    assert!(assuming > 200 && full > 50 && stripped > 50);
 }
 
 #[test]
 fn without_assumptions_the_iterator_is_the_same() {
     let mut random = Random::new(2);
     for _ in 0..100 {
-        let input = some_matched_formula(&mut random, is_matched);
+        let input = some_accepted_formula(&mut random, is_accepted);
         let mut models = Models::new(&input);
         assert!(models
             .by_ref()
@@ -235,7 +236,7 @@ fn the_iterator_has_the_checkpoint_of_each_model() {
     let mut random = Random::new(3);
     let mut compared = 0;
     for _ in 0..60 {
-        let input = some_matched_formula(&mut random, is_matched);
+        let input = some_accepted_formula(&mut random, is_accepted);
         let assumed = some_accepted(&mut random, &input);
         let mut formula = reference::decode(&input).unwrap();
         let masks = formula.assume(&assumed.reference).unwrap();

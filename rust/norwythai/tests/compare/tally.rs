@@ -1,7 +1,7 @@
 //! What a run has seen.
 
 use crate::assumed::Assumed;
-use crate::is_matched;
+use crate::is_accepted;
 use norwythai_reference::{decode, Answer, Checkpoint, Listed, Progress, Refusal, Size};
 use std::collections::BTreeMap;
 use std::fmt;
@@ -63,12 +63,38 @@ fn write_refusals(f: &mut fmt::Formatter, refusals: &Refusals) -> fmt::Result {
     Ok(())
 }
 
+/// How often what was seen, in words.
+#[derive(Default)]
+struct Seen(BTreeMap<&'static str, usize>);
+
+impl Seen {
+    fn see(&mut self, what: &'static str, seen: bool) {
+        *self.0.entry(what).or_default() += usize::from(seen);
+    }
+
+    /// Fails if something is not seen once of so many calls at least, or something else is seen.
+    fn require_enough(&self, wanted: &[(&str, usize)], calls: usize) {
+        for (what, of) in wanted {
+            let seen = self.0.get(what).copied().unwrap_or(0);
+            assert!(seen > calls / of, "{what}: only {seen}");
+        }
+        assert_eq!(self.0.len(), wanted.len());
+    }
+}
+
+impl fmt::Display for Seen {
+    fn fmt(&self, f: &mut fmt::Formatter) -> fmt::Result {
+        let mut seen = self.0.iter();
+        seen.try_for_each(|(what, seen)| write!(f, "\n  {what}: {seen}"))
+    }
+}
+
 /// What must be seen under assumptions, and of how many calls under them once at least.
 const WANTED: [(&str, usize); 27] = [
     ("judge: a clause is satisfied", 100),
-    ("judge: only the assumptions make it matched", 2_000),
-    ("judge: more than 48 clauses are matched", 3_000),
-    ("judge: only the assumptions make it unmatched", 200),
+    ("judge: only the assumptions make it accepted", 2_000),
+    ("judge: more than 48 clauses are accepted", 3_000),
+    ("judge: only the assumptions make it refused", 200),
     ("judge: they leave a clause empty", 500),
     ("bad: variable 0", 1_000),
     ("bad: a variable above n", 1_000),
@@ -100,12 +126,12 @@ pub struct Assuming {
     calls: usize,
     refusals: Refusals,
     /// By the words of [`WANTED`].
-    seen: BTreeMap<&'static str, usize>,
+    seen: Seen,
 }
 
 impl Assuming {
     fn see(&mut self, what: &'static str, seen: bool) {
-        *self.seen.entry(what).or_default() += usize::from(seen);
+        self.seen.see(what, seen);
     }
 
     pub fn judged(
@@ -123,14 +149,14 @@ impl Assuming {
             Ok(size) => {
                 let satisfied = buffer[..size.clauses].contains(&0);
                 self.see("judge: a clause is satisfied", satisfied);
-                let alone = !is_matched(input);
-                self.see("judge: only the assumptions make it matched", alone);
+                let alone = !is_accepted(input);
+                self.see("judge: only the assumptions make it accepted", alone);
                 let many = size.clauses > 48;
-                self.see("judge: more than 48 clauses are matched", many);
+                self.see("judge: more than 48 clauses are accepted", many);
             }
             Err(Refusal { number: 10, place }) => {
-                let alone = is_matched(input);
-                self.see("judge: only the assumptions make it unmatched", alone);
+                let alone = is_accepted(input);
+                self.see("judge: only the assumptions make it refused", alone);
                 self.see("judge: they leave a clause empty", alone && place == 1);
             }
             Err(Refusal { number: 16, place }) => self.saw_bad(input, assumed, place),
@@ -249,11 +275,7 @@ impl Assuming {
 
     /// Fails if something was seen too seldom.
     fn require_enough(&self) {
-        for (what, of) in WANTED {
-            let seen = self.seen.get(what).copied().unwrap_or(0);
-            assert!(seen > self.calls / of, "{what}: only {seen}");
-        }
-        assert_eq!(self.seen.len(), WANTED.len());
+        self.seen.require_enough(&WANTED, self.calls);
         for number in (1..=11).chain([16]) {
             let seen = self.refusals[number];
             assert!(seen > self.calls / 5_000, "refusal {number}: only {seen}");
@@ -265,11 +287,92 @@ impl fmt::Display for Assuming {
     fn fmt(&self, f: &mut fmt::Formatter) -> fmt::Result {
         write!(f, "under assumptions: {} (refused", self.calls)?;
         write_refusals(f, &self.refusals)?;
-        write!(f, ")")?;
-        for (what, seen) in &self.seen {
-            write!(f, "\n  {what}: {seen}")?;
+        write!(f, "){}", self.seen)
+    }
+}
+
+/// What must be seen of formulas that are accepted by stripping, and of how many calls without assumptions, or under some, once at least.
+const STRIPPED: [(&str, usize); 10] = [
+    ("judge: all that remains is dropped", 500),
+    ("judge: something is left", 2_000),
+    ("judge: more than 48 clauses", 2_000),
+    ("judge: more noted variables than one", 500),
+    ("walk: from the start", 1_000),
+    ("walk: from within", 200),
+    ("walk: with trials", 3_000),
+    ("walk: a foreign checkpoint", 200),
+    ("list: from the start", 500),
+    ("list: from within", 2_000),
+];
+
+/// What was seen of judge, walk and list on formulas that are accepted by stripping: some byte of judge's row is that of a dropped clause.
+#[derive(Default)]
+pub struct Stripped {
+    calls: usize,
+    /// By the words of [`STRIPPED`].
+    seen: Seen,
+}
+
+impl Stripped {
+    pub fn judged(&mut self, answer: Result<Size, Refusal>, buffer: &[u8]) {
+        self.calls += 1;
+        let Ok(size) = answer else {
+            return;
+        };
+        let mut row = buffer[..size.clauses].to_vec();
+        row.retain(|byte| *byte != 0);
+        row.sort();
+        row.dedup();
+        let dropped = row.iter().filter(|byte| **byte > 128).count();
+        if dropped > 0 {
+            let left = dropped < row.len();
+            self.seen.see("judge: all that remains is dropped", !left);
+            self.seen.see("judge: something is left", left);
+            let many = size.clauses > 48;
+            self.seen.see("judge: more than 48 clauses", many);
+            let several = dropped > 1;
+            self.seen
+                .see("judge: more noted variables than one", several);
         }
-        Ok(())
+    }
+
+    pub fn walked(
+        &mut self,
+        input: &[u8],
+        assumed: &Assumed,
+        given: &Checkpoint,
+        walked: Result<Progress, Refusal>,
+    ) {
+        self.calls += 1;
+        if !assumed.drops_clauses(input) {
+            return;
+        }
+        match walked {
+            Ok(progress) => {
+                self.seen.see("walk: from the start", given[0] == 0);
+                self.seen.see("walk: from within", given[1] > 0);
+                let trials = progress.expansions > 0;
+                self.seen.see("walk: with trials", trials);
+            }
+            Err(refusal) => {
+                assert_eq!(refusal.number, 11);
+                self.seen.see("walk: a foreign checkpoint", true);
+            }
+        }
+    }
+
+    pub fn listed(&mut self, input: &[u8], assumed: &Assumed, given: &Checkpoint, listed: Listed) {
+        self.calls += 1;
+        if listed.written > 0 && assumed.drops_clauses(input) {
+            self.seen.see("list: from the start", given[0] == 0);
+            self.seen.see("list: from within", given[1] > 0);
+        }
+    }
+}
+
+impl fmt::Display for Stripped {
+    fn fmt(&self, f: &mut fmt::Formatter) -> fmt::Result {
+        write!(f, "of {} calls{}", self.calls, self.seen)
     }
 }
 
@@ -300,7 +403,7 @@ pub struct Tally {
     pub yes: usize,
     pub no: usize,
     /// Answers of judge.
-    pub matched: usize,
+    pub accepted: usize,
     /// Answers of walk calls, alone and in chains, and of list.
     models: usize,
     spent: usize,
@@ -312,6 +415,8 @@ pub struct Tally {
     /// Refusals of all acts but those two.
     refusals: Refusals,
     pub assuming: Assuming,
+    /// Without assumptions, and under some.
+    stripped: [Stripped; 2],
     /// Readable inputs in which a literal comes again in its clause, and those that are longer than the printing program takes.
     repeats: usize,
     long: usize,
@@ -339,6 +444,10 @@ impl Tally {
         let without_repeats: u32 = clauses.map(|c| 2 * c.named().count_ones() + 1).sum();
         self.repeats += usize::from(input.len() > 3 + without_repeats as usize);
         self.long += usize::from(input.len() > 16_384);
+    }
+
+    pub fn stripped(&mut self, assumed: &Assumed) -> &mut Stripped {
+        &mut self.stripped[usize::from(!assumed.is_empty())]
     }
 
     pub fn refused(&mut self, assumed: &Assumed, refusal: Refusal) {
@@ -372,7 +481,7 @@ impl Tally {
             ("odd lengths", self.odd_lengths, calls / 200),
             ("yes", self.yes, calls / 100),
             ("no", self.no, calls / 100),
-            ("matched", self.matched, calls / 100),
+            ("accepted", self.accepted, calls / 100),
             ("model", self.models, calls / 20),
             ("spent", self.spent, calls / 20),
             ("ended", self.ended, calls / 100),
@@ -388,6 +497,9 @@ impl Tally {
             assert!(*seen >= calls / 2000, "refusal {number}: only {seen}");
         }
         self.assuming.require_enough();
+        for Stripped { calls, seen } in &self.stripped {
+            seen.require_enough(&STRIPPED, *calls);
+        }
         let reading = [1, 2, 5, 6, 7, 8, 13, 14, 15];
         self.from_dimacs.require_enough("from_dimacs", &reading);
         let writing = [1, 2, 3, 4, 5, 6, 7, 8, 9];
@@ -403,7 +515,7 @@ impl fmt::Display for Tally {
             "check: {} (yes {}, no {})",
             self.checks, self.yes, self.no
         )?;
-        writeln!(f, "judge: {} (matched {})", self.judges, self.matched)?;
+        writeln!(f, "judge: {} (accepted {})", self.judges, self.accepted)?;
         writeln!(f, "start: {}", self.starts)?;
         writeln!(
             f,
@@ -431,6 +543,9 @@ impl fmt::Display for Tally {
         )?;
         write!(f, "refusals of the other acts:")?;
         write_refusals(f, &self.refusals)?;
+        let [without, under] = &self.stripped;
+        write!(f, "\naccepted by stripping, without assumptions: {without}")?;
+        write!(f, "\naccepted by stripping, under assumptions: {under}")?;
         write!(f, "\n{}", self.assuming)
     }
 }

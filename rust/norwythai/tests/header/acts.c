@@ -47,12 +47,59 @@ static int test_judge(void) {
     uint64_t results[NORWYTHAI_RESULTS];
 
     REQUIRE(norwythai_judge(INPUT, sizeof INPUT, &byte, 0, buffer, sizeof buffer, results, NORWYTHAI_RESULTS) == 0);
-    REQUIRE(results[0] == NORWYTHAI_MATCHED && results[4] == 2 && results[5] == 2);
+    REQUIRE(results[0] == NORWYTHAI_ACCEPTED && results[4] == 2 && results[5] == 2);
     REQUIRE(buffer[0] == 1 && buffer[1] == 2);
     REQUIRE(norwythai_judge(UNMATCHED, sizeof UNMATCHED, &byte, 0, buffer, sizeof buffer, results, NORWYTHAI_RESULTS) == 0);
     REQUIRE(results[0] == NORWYTHAI_REFUSED && results[2] == 10 && results[3] == 2);
     REQUIRE(norwythai_judge(INPUT, sizeof INPUT, &byte, 0, buffer, 0, results, NORWYTHAI_RESULTS) == 0);
     REQUIRE(results[0] == NORWYTHAI_REFUSED && results[2] == 1);
+    return 0;
+}
+
+/* Four clauses over three variables: stripping notes variable 1 and drops the first two. */
+static const uint8_t STRIPPED[] = {1, 3, 2, 1, 4, 2, 1, 4, 2, 2, 2, 3, 4, 3, 2, 3, 3, 4, 5};
+
+/* Stripping drops the first two clauses, and the others, (1) and (not 1), are left. */
+static const uint8_t LEFT_UNMATCHED[] = {1, 3, 2, 2, 4, 2, 2, 4, 2, 1, 4, 3, 1, 4, 5};
+
+static int test_judge_by_stripping(void) {
+    static const uint8_t SECOND_TRUE[] = {2, 1};
+    static const uint8_t ROW[] = {NORWYTHAI_DROPPED + 1, NORWYTHAI_DROPPED + 1, 2, 3, 7};
+    static const uint8_t ROW_UNDER[] = {NORWYTHAI_DROPPED + 1, NORWYTHAI_DROPPED + 1, 0, NORWYTHAI_DROPPED + 3, 7};
+    static const uint8_t MARKS[] = {0, 0, 1, 1, 7};
+    const uint8_t byte = 0;
+    uint8_t buffer[NORWYTHAI_BUFFER];
+    uint64_t results[NORWYTHAI_RESULTS];
+
+    memset(buffer, 7, sizeof buffer);
+    REQUIRE(norwythai_judge(STRIPPED, sizeof STRIPPED, &byte, 0, buffer, sizeof buffer, results, NORWYTHAI_RESULTS) == 0);
+    REQUIRE(results[0] == NORWYTHAI_ACCEPTED && results[4] == 3 && results[5] == 4);
+    REQUIRE(memcmp(buffer, ROW, sizeof ROW) == 0);
+    REQUIRE(norwythai_judge(STRIPPED, sizeof STRIPPED, SECOND_TRUE, 2, buffer, sizeof buffer, results, NORWYTHAI_RESULTS) == 0);
+    REQUIRE(results[0] == NORWYTHAI_ACCEPTED && memcmp(buffer, ROW_UNDER, sizeof ROW_UNDER) == 0);
+    REQUIRE(norwythai_judge(LEFT_UNMATCHED, sizeof LEFT_UNMATCHED, &byte, 0, buffer, sizeof buffer, results,
+                            NORWYTHAI_RESULTS) == 0);
+    REQUIRE(results[0] == NORWYTHAI_REFUSED && results[2] == 10 && results[3] == 2 && results[4] == 0);
+    REQUIRE(memcmp(buffer, MARKS, sizeof MARKS) == 0);
+    /* The older name. */
+    REQUIRE(NORWYTHAI_MATCHED == NORWYTHAI_ACCEPTED);
+    return 0;
+}
+
+static int test_list_by_stripping(void) {
+    const uint8_t byte = 0;
+    uint8_t checkpoint[NORWYTHAI_CHECKPOINT];
+    uint64_t models[3] = {7, 7, 7}, results[NORWYTHAI_RESULTS];
+
+    REQUIRE(norwythai_start(checkpoint, sizeof checkpoint) == 0);
+    REQUIRE(norwythai_walk(STRIPPED, sizeof STRIPPED, &byte, 0, checkpoint, sizeof checkpoint, 96, results, NORWYTHAI_RESULTS) == 0);
+    REQUIRE(results[0] == NORWYTHAI_MODEL && results[1] == 5 && results[4] == 3 && results[5] == 2);
+    REQUIRE(norwythai_list(STRIPPED, sizeof STRIPPED, &byte, 0, checkpoint, sizeof checkpoint, models, 3, results,
+                           NORWYTHAI_RESULTS) == 0);
+    REQUIRE(results[0] == NORWYTHAI_ENDED && results[4] == 1 && models[0] == 3 && models[1] == 7);
+    REQUIRE(norwythai_list(LEFT_UNMATCHED, sizeof LEFT_UNMATCHED, &byte, 0, checkpoint, sizeof checkpoint, models, 3, results,
+                           NORWYTHAI_RESULTS) == 0);
+    REQUIRE(results[0] == NORWYTHAI_REFUSED && results[2] == 10 && results[3] == 2);
     return 0;
 }
 
@@ -71,10 +118,10 @@ static int test_judge_under_assumptions(void) {
     REQUIRE(results[0] == NORWYTHAI_REFUSED && results[2] == 16 && results[3] == 1);
     REQUIRE(buffer[0] == 7 && buffer[1] == 7);
     REQUIRE(norwythai_judge(INPUT, sizeof INPUT, FIRST_TRUE, 2, buffer, sizeof buffer, results, NORWYTHAI_RESULTS) == 0);
-    REQUIRE(results[0] == NORWYTHAI_MATCHED && results[4] == 2 && results[5] == 2);
+    REQUIRE(results[0] == NORWYTHAI_ACCEPTED && results[4] == 2 && results[5] == 2);
     REQUIRE(buffer[0] == 0 && buffer[1] == 2 && buffer[2] == 7);
     REQUIRE(norwythai_judge(INPUT, sizeof INPUT, FIRST_FALSE, 2, buffer, sizeof buffer, results, NORWYTHAI_RESULTS) == 0);
-    REQUIRE(results[0] == NORWYTHAI_MATCHED && buffer[0] == 2 && buffer[1] == 0);
+    REQUIRE(results[0] == NORWYTHAI_ACCEPTED && buffer[0] == 2 && buffer[1] == 0);
     REQUIRE(norwythai_judge(INPUT, sizeof INPUT, BOTH_TRUE, 4, buffer, sizeof buffer, results, NORWYTHAI_RESULTS) == 0);
     REQUIRE(results[0] == NORWYTHAI_REFUSED && results[2] == 10 && results[3] == 1);
     REQUIRE(buffer[0] == 0 && buffer[1] == 1 && buffer[2] == 7);
@@ -226,6 +273,7 @@ static int test_lengths(void) {
 }
 
 int main(void) {
-    return test_check() || test_judge() || test_judge_under_assumptions() || test_walk() || test_list() ||
-           test_walk_under_assumptions() || test_all_assumed() || test_from_dimacs() || test_to_dimacs() || test_lengths();
+    return test_check() || test_judge() || test_judge_by_stripping() || test_judge_under_assumptions() || test_walk() ||
+           test_list() || test_list_by_stripping() || test_walk_under_assumptions() || test_all_assumed() ||
+           test_from_dimacs() || test_to_dimacs() || test_lengths();
 }

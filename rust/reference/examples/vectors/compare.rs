@@ -11,7 +11,7 @@ use std::collections::BTreeMap;
 type Compared = Result<(), String>;
 
 /// The text of a field's value: a string without its quotes, an array with its brackets, or a number or null.
-fn field<'a>(line: &'a str, name: &str) -> Result<&'a str, String> {
+pub fn field<'a>(line: &'a str, name: &str) -> Result<&'a str, String> {
     let key = format!("\"{name}\":");
     let at = line.find(&key).ok_or(format!("no field {name}"))? + key.len();
     let value = line[at..].trim_start();

@@ -121,7 +121,7 @@ fn walk_line(
     line("walk", from, &fields)
 }
 
-/// Calls with these budgets, one after the other from the start, on a formula that is matched under the assumptions: the line, and
+/// Calls with these budgets, one after the other from the start, on a formula that is accepted under the assumptions: the line, and
 /// all checkpoints.
 fn chain_line(
     from: &str,
@@ -151,7 +151,7 @@ fn chain_line(
     (line("chain", from, &fields), checkpoints)
 }
 
-/// The whole walk of a formula that is matched under the assumptions, if it has few models.
+/// The whole walk of a formula that is accepted under the assumptions, if it has few models.
 fn listing_line(from: &str, input: &[u8], assumptions: &[Assumption]) -> Option<String> {
     let mut formula = decode(input).ok()?;
     let assumed = formula.assume(assumptions).ok()?;
@@ -234,7 +234,7 @@ impl Conversion {
     }
 }
 
-fn is_matched(input: &[u8]) -> bool {
+fn is_accepted(input: &[u8]) -> bool {
     judge(input, &[], &mut [0; 96]).is_ok()
 }
 
@@ -258,7 +258,7 @@ fn assuming_lines(
         known.extend(checkpoints);
         lines.extend(listing_line(from, input, assumptions));
         let first = walk(input, assumptions, &start_checkpoint(), LIST_BUDGET);
-        let first = first.expect("a matched formula").progress.answer;
+        let first = first.expect("an accepted formula").progress.answer;
         lines.push(check_line(from, input, answer_parts(first).1));
     }
     let length = random.pick(&[0, 95, 96, 96, 96, 96, 97, 128, 255]);
@@ -318,7 +318,7 @@ pub fn generated_vectors(seed: u64, count: usize) -> Vec<String> {
     let mut lines = vec![start_line(from)];
     let mut long_texts = 0;
     for _ in 0..count {
-        let input = some_input(&mut random, is_matched);
+        let input = some_input(&mut random, is_accepted);
         lines.extend(act_lines(from, &mut random, &input));
         let text = print(&input);
         let is_long = text.len() > LONG;
@@ -335,7 +335,8 @@ pub fn generated_vectors(seed: u64, count: usize) -> Vec<String> {
 #[cfg(test)]
 mod tests {
     use super::*;
-    use crate::compare::compare_line;
+    use crate::compare::{compare_line, field};
+    use crate::values::{from_hex, number};
 
     /// The specification's example, S12.3: clauses (1, 2) and (not 1, not 2).
     const EXAMPLE: &[u8] = &[1, 2, 2, 1, 2, 2, 4, 3, 1, 3, 2, 4, 5];
@@ -462,6 +463,26 @@ mod tests {
         ];
         for words in wanted {
             assert!(count(&words) > 0, "{words:?}");
+        }
+    }
+
+    #[test]
+    fn formulas_that_strip_down_are_written() {
+        // Judged without assumptions, and under some.
+        let (mut wholly, mut in_part) = ([0; 2], [0; 2]);
+        let lines = generated_vectors(1, 300);
+        for line in lines.iter().filter(|l| l.contains("\"act\": \"judge\"")) {
+            let clauses: usize = number(field(line, "m").unwrap()).unwrap();
+            let slate = from_hex(field(line, "slate").unwrap()).unwrap();
+            let row = &slate[..clauses];
+            if row.iter().any(|byte| *byte > 128) {
+                let left = row.iter().any(|byte| (1..=48).contains(byte));
+                let seen = if left { &mut in_part } else { &mut wholly };
+                seen[usize::from(field(line, "fixings") != Ok("[]"))] += 1;
+            }
+        }
+        for seen in wholly.into_iter().chain(in_part) {
+            assert!(seen >= 3, "{wholly:?} {in_part:?}");
         }
     }
 
