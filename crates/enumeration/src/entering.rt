@@ -1,4 +1,4 @@
-// The one way into a walk: from which state a call goes on, or its refusal, once the input was read and matched.
+// The one way into a walk: from which state a call goes on, or its refusal, once the input was read and accepted.
 ghost use mathlib.Core.List.{List};
 ghost use Prim.Native.Nat.{ℕ};
 ghost use Rattle.formula.specs.InnerFits.{FormulaFits};

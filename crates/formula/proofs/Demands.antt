@@ -92,7 +92,7 @@ cut s t n cs e h = refused-all s (Truncated (length s)) (cut-formula n (e .writt
 pub numbers : (s : List ℕ) (r : Refusal) → decode s ≡ refused r → (2 ≤ table-row r .number) × (table-row r .number ≤ 9)
 numbers s r e = given-number (refused-only s r e .given)
 
--- S10, demand 2: check says yes exactly of the models of a readable input, whether or not its clauses can be matched (S4.3)
+-- S10, demand 2: check says yes exactly of the models of a readable input, whether or not it is accepted (S4.3)
 pub check-yes : (s : List ℕ) (a : ℕ) → (checked s a .said ≡ said-yes) ↔ ModelOf s a
 check-yes s a = (says-yes (says s a), λ m. ap (λ (x : VerdictValues). x .said) (checked-model s a m))
 

@@ -454,7 +454,7 @@ pub fn all_hold(f: Formula, assignment: u64) -> bool
     true
 }
 
-// S4.3: the act check: whether the assignment is a model of the encoded formula, matched or not.
+// S4.3: the act check: whether the assignment is a model of the encoded formula, accepted or not.
 pub fn check(input: &[u8], assignment: u64) -> Verdict
     ensures { λ r. ⌜ verdict-values r ≡ checked (now (input .entry)) assignment ⌝ }
 {

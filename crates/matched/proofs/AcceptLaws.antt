@@ -52,7 +52,7 @@ use Rattle.splitting.proofs.ReduceLaws.{noted-fits}
 use Rattle.splitting.proofs.SatisfiedLaws.{satisfied-masks}
 use Rattle.splitting.proofs.Theorems.{formula-below}
 use Rattle.matched.specs.declared.Row.{Row}
-use Rattle.matched.specs.Acceptance.{Acceptance, accepted, declined, Dropped, by, left, dropped-by, Byte, byte-of, known, asked, row-byte, whole-byte, dropped-byte, spread, by-stripped, formula-acceptance, acceptance}
+use Rattle.matched.specs.Acceptance.{Acceptance, accepted, declined, Dropped, by, by-none, dropped-by, Byte, byte-of, known, asked, row-byte, whole-byte, marked-byte, stripped-byte, dropped-byte, spread, by-stripped, formula-acceptance, acceptance}
 use Rattle.matched.specs.InnerAccept.{outcome-of, row-of, HasClauses, raised, assigned-by, refused-row, Represents, Takes, Decides}
 use Rattle.matched.specs.InnerSpread.{bytes-at, NotesFit, first-in, told-byte, told-bytes}
 use Rattle.matched.specs.Pairing.{noted-of, left-of}
@@ -145,7 +145,7 @@ module _ (l : List ℕ) where
       by (no m) = let z : length l ≤ i = omega arith in rw (getD-padded-past max-clauses 0 l i 0 z w) some
 
 -- the matching's answers are below 64
-pub answers-small : (f : Formula) → FormulaFits f → (a : Assignment) (m : Matching) → m ≡ matching-at f a → (i : ℕ) → i < max-clauses → getD (m .table) i 0 < 64
+answers-small : (f : Formula) → FormulaFits f → (a : Assignment) (m : Matching) → m ≡ matching-at f a → (i : ℕ) → i < max-clauses → getD (m .table) i 0 < 64
 unfolding packed
 answers-small f fits a m e = at (outcome sets) refl e
   where
@@ -164,6 +164,11 @@ answers-small f fits a m e = at (outcome sets) refl e
     at (failure taken x) p u i l =
         let ms = marks (length (node f a)) taken in
         rw u (table-small ms 64 (omega arith) (λ j h. omega (arith, marks-le (length (node f a)) taken j (rw (length-marks (length (node f a)) taken) at h))) i l)
+
+-- so they are spread with 1 added at most
+pub answers-fit : (f : Formula) → FormulaFits f → (a : Assignment) (m : Matching) → m ≡ matching-at f a → (k : ℕ) → k ≤ 1
+    → (f .count ≤ max-clauses) × ((i : ℕ) → i < max-clauses → getD (m .table) i 0 + k < 256)
+answers-fit f fits a m e k h = (fits .few, λ i l. omega (arith, answers-small f fits a m e i l))
 
 -- a list with nothing added
 raised-none : (l : List ℕ) → raised 0 l ≡ l
@@ -292,7 +297,7 @@ module _ {n : ℕ} {t : List Literal} {cs : List (List Literal)} {f : Formula} {
 
   -- the byte that the code tells of a clause, where that of a dropped one was 0
   told-answered : (c : List Literal) (y : ℕ) → List·Memᴰ c cs
-      → told-byte a s (clause-of c) (answered (row-byte t (noted-of n t cs) (λ v. 0) c) y) ≡ answered (row-byte t (noted-of n t cs) dropped-byte c) y
+      → told-byte a s (clause-of c) (answered (marked-byte t (noted-of n t cs) c) y) ≡ answered (stripped-byte t (noted-of n t cs) c) y
   unfolding row-byte
   told-answered c y m =
       let p : satisfied-under (s .assignment) (clause-of c) ≡ satisfied-by t c || drops (dropped-by (noted-of n t cs) c) =
@@ -305,7 +310,7 @@ module _ {n : ℕ} {t : List Literal} {cs : List (List Literal)} {f : Formula} {
           ≡ answered (cond b (known 0) (byte-of dropped-byte x)) y
       at true x q = refl
       at false (by v) q = rw (first-dropped (noted-of n t cs) c v q) (omega arith)
-      at false left q = refl
+      at false by-none q = refl
 
   module _ {m : Matching} (matches : m ≡ matching-at f (s .assignment)) where
     M : MatchedUnder n cs f (strips .trail) (s .assignment) m
@@ -321,32 +326,32 @@ module _ {n : ℕ} {t : List Literal} {cs : List (List Literal)} {f : Formula} {
         → Represents (by-stripped n t cs (stripped n (remaining t cs))) f (record { outcome = outcomes.Accepted; length = f .count; table = told })
     left-represents g table told w v =
         let x = complete-found M g in
-        let row = spread (row-byte t (noted-of n t cs) dropped-byte) cs (map suc (x .0)) in
-        let e : table ≡ padded max-clauses 0 (spread (row-byte t (noted-of n t cs) (λ v. 0)) cs (map suc (x .0))) =
-        rw (← (raised-one (x .0))) (table-is M (row-byte t (noted-of n t cs) (λ v. 0)) (stripped-zeros strips) (x .0) (x .3) 1 table (x .4) w) in
+        let row = spread (stripped-byte t (noted-of n t cs)) cs (map suc (x .0)) in
+        let e : table ≡ padded max-clauses 0 (spread (marked-byte t (noted-of n t cs)) cs (map suc (x .0))) =
+        rw (← (raised-one (x .0))) (table-is M (marked-byte t (noted-of n t cs)) (stripped-zeros strips) (x .0) (x .3) 1 table (x .4) w) in
         rw (left-outcome ∙ x .2)
-        (row-represents f (accepted n t cs row) told q (spread-count cs q (row-byte t (noted-of n t cs) dropped-byte) (map suc (x .0)))
+        (row-represents f (accepted n t cs row) told q (spread-count cs q (stripped-byte t (noted-of n t cs)) (map suc (x .0)))
         (v ∙ ap (padded max-clauses 0) (bytes (map suc (x .0)) e)))
       where
-        bytes : (l : List ℕ) → table ≡ padded max-clauses 0 (spread (row-byte t (noted-of n t cs) (λ v. 0)) cs l)
-            → told-bytes (f .clauses) a s table (f .count) ≡ spread (row-byte t (noted-of n t cs) dropped-byte) cs l
+        bytes : (l : List ℕ) → table ≡ padded max-clauses 0 (spread (marked-byte t (noted-of n t cs)) cs l)
+            → told-bytes (f .clauses) a s table (f .count) ≡ spread (stripped-byte t (noted-of n t cs)) cs l
         bytes l e =
             rw q
-            (sym (tabulated-of (λ i. told-byte a s (getD (formula-of n cs .clauses) i no-clause) (getD table i 0)) (length cs) (spread (row-byte t (noted-of n t cs) dropped-byte) cs l) 0
-            (spread-length (row-byte t (noted-of n t cs) dropped-byte) cs l) same))
+            (sym (tabulated-of (λ i. told-byte a s (getD (formula-of n cs .clauses) i no-clause) (getD table i 0)) (length cs) (spread (stripped-byte t (noted-of n t cs)) cs l) 0
+            (spread-length (stripped-byte t (noted-of n t cs)) cs l) same))
           where
             zeros : List ℕ
-            zeros = spread (row-byte t (noted-of n t cs) (λ v. 0)) cs l
+            zeros = spread (marked-byte t (noted-of n t cs)) cs l
 
             same : (i : ℕ) → i < length cs
-                → getD (spread (row-byte t (noted-of n t cs) dropped-byte) cs l) i 0 ≡ told-byte a s (getD (formula-of n cs .clauses) i no-clause) (getD table i 0)
+                → getD (spread (stripped-byte t (noted-of n t cs)) cs l) i 0 ≡ told-byte a s (getD (formula-of n cs .clauses) i no-clause) (getD table i 0)
             same i h =
-                let k : i < length zeros = rw (spread-length (row-byte t (noted-of n t cs) (λ v. 0)) cs l) h in
-                spread-byte (row-byte t (noted-of n t cs) dropped-byte) cs l i h
-                ∙ sym (told-answered (getD cs i []) (getD l (asking (row-byte t (noted-of n t cs) dropped-byte) cs i) 0) (getD-element cs i [] h))
+                let k : i < length zeros = rw (spread-length (marked-byte t (noted-of n t cs)) cs l) h in
+                spread-byte (stripped-byte t (noted-of n t cs)) cs l i h
+                ∙ sym (told-answered (getD cs i []) (getD l (asking (stripped-byte t (noted-of n t cs)) cs i) 0) (getD-element cs i [] h))
                 ∙ ap₂ (told-byte a s) (sym (array-at n cs i h))
-                (rw (asking-same (row-byte t (noted-of n t cs) dropped-byte) (row-byte t (noted-of n t cs) (λ v. 0)) (same-asks t (noted-of n t cs) dropped-byte (λ v. 0)) cs i)
-                (sym (rw e (getD-padded max-clauses 0 zeros i 0 k) ∙ spread-byte (row-byte t (noted-of n t cs) (λ v. 0)) cs l i h)))
+                (rw (asking-same (stripped-byte t (noted-of n t cs)) (marked-byte t (noted-of n t cs)) (same-asks t (noted-of n t cs) dropped-byte (λ v. 0)) cs i)
+                (sym (rw e (getD-padded max-clauses 0 zeros i 0 k) ∙ spread-byte (marked-byte t (noted-of n t cs)) cs l i h)))
 
     -- it is not
     pub unmatched-represents : m .complete ≡ false → (table : List ℕ) → table ≡ padded max-clauses 0 (bytes-at (f .clauses) (s .assignment) (m .table) 0 (f .count))
@@ -354,19 +359,19 @@ module _ {n : ℕ} {t : List Literal} {cs : List (List Literal)} {f : Formula} {
     unmatched-represents g table w =
         let x = failed-found M g in
         let l = length (remaining (strips .trail) cs) in
-        let e : table ≡ padded max-clauses 0 (spread (row-byte t (noted-of n t cs) (λ v. 0)) cs (marks l (x .0))) =
-        rw (← (raised-none (marks l (x .0)))) (table-is M (row-byte t (noted-of n t cs) (λ v. 0)) (stripped-zeros strips) (marks l (x .0)) (length-marks l (x .0)) 0 table (x .4) w) in
+        let e : table ≡ padded max-clauses 0 (spread (marked-byte t (noted-of n t cs)) cs (marks l (x .0))) =
+        rw (← (raised-none (marks l (x .0)))) (table-is M (marked-byte t (noted-of n t cs)) (stripped-zeros strips) (marks l (x .0)) (length-marks l (x .0)) 0 table (x .4) w) in
         subst (λ (k : ℕ). Represents (by-stripped n t cs (stripped n (remaining t cs))) f (record { outcome = outcomes.Refused (Unmatched k); length = f .count; table = table }))
         (sym (x .3)) (at (x .0) (x .1) (left-outcome ∙ x .2) e)
       where
         at : (taken : List ℕ) (e : ℕ) → outcome (map variables (left-of n t cs)) ≡ failure taken e
-            → table ≡ padded max-clauses 0 (spread (row-byte t (noted-of n t cs) (λ v. 0)) cs (marks (length (remaining (strips .trail) cs)) taken))
+            → table ≡ padded max-clauses 0 (spread (marked-byte t (noted-of n t cs)) cs (marks (length (remaining (strips .trail) cs)) taken))
             → Represents (by-stripped n t cs (stripped n (remaining t cs))) f (record { outcome = outcomes.Refused (Unmatched (length taken)); length = f .count; table = table })
         at taken e o h =
             let ms = marks (length (left-of n t cs)) taken in
             rw o
-            (row-represents f (declined (Unmatched (length taken)) (spread (row-byte t (noted-of n t cs) (λ v. 0)) cs ms)) table tt (spread-count cs q (row-byte t (noted-of n t cs) (λ v. 0)) ms)
-            (h ∙ ap (λ (ds : List (List Literal)). padded max-clauses 0 (spread (row-byte t (noted-of n t cs) (λ v. 0)) cs (marks (length ds) taken))) (strips .left)))
+            (row-represents f (declined (Unmatched (length taken)) (spread (marked-byte t (noted-of n t cs)) cs ms)) table tt (spread-count cs q (marked-byte t (noted-of n t cs)) ms)
+            (h ∙ ap (λ (ds : List (List Literal)). padded max-clauses 0 (spread (marked-byte t (noted-of n t cs)) cs (marks (length ds) taken))) (strips .left)))
 
 -- ---- an input
 

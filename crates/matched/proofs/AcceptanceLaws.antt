@@ -2,7 +2,7 @@
 -- what remains of its clauses can be paired; the whole is paired first.
 use Prim.Native.Nat.{ℕ, suc, _≤_}
 use mathlib.Core.List.{List, [], map}
-use mathlib.Core.Path.{_≡_, refl, _∙_}
+use mathlib.Core.Path.{_≡_, refl}
 use native.Mathlib.Omega.{arith}
 use lib.ListN.{length, length-map}
 use Rattle.limits.specs.Limits.{max-clauses}
@@ -30,7 +30,7 @@ use Rattle.splitting.specs.Terms.{Sound}
 use Rattle.splitting.proofs.NodeLaws.{length-remaining}
 use Rattle.splitting.proofs.SatisfiedLaws.{remaining-over}
 use Rattle.splitting.proofs.Theorems.{left-sub-list, matched-sound}
-use Rattle.matched.specs.Acceptance.{Acceptance, accepted, declined, row-byte, whole-byte, dropped-byte, spread, by-left-outcome, by-outcome, formula-acceptance, by-assumed, by-decoding, acceptance}
+use Rattle.matched.specs.Acceptance.{Acceptance, accepted, declined, whole-byte, marked-byte, stripped-byte, spread, by-left-outcome, by-outcome, formula-acceptance, by-assumed, by-decoding, acceptance}
 use Rattle.matched.specs.InnerAccept.{row-of}
 use Rattle.matched.specs.Pairing.{Pairs, noted-of, left-of, Pairable, Walkable, Violator, marked}
 use Rattle.matched.proofs.PairingLaws.{masks-words, matches-pairs, pairs-matches}
@@ -92,9 +92,9 @@ marked-by {n} {cs} z taken e p =
 pub data FormulaComes (n : ℕ) (t : List Literal) (cs : List (List Literal)) : Acceptance → Type 0 where
   paired : (vs : List ℕ) → Pairs (remaining t cs) vs → FormulaComes n t cs (accepted n t cs (spread (whole-byte t) cs (map suc vs)))
   strips : (vs : List ℕ) → ((ws : List ℕ) → Pairs (remaining t cs) ws → ⊥) → Pairs (left-of n t cs) vs
-      → FormulaComes n t cs (accepted n t cs (spread (row-byte t (noted-of n t cs) dropped-byte) cs (map suc vs)))
+      → FormulaComes n t cs (accepted n t cs (spread (stripped-byte t (noted-of n t cs)) cs (map suc vs)))
   unpaired : (ms : List ℕ) → Violator (left-of n t cs) ms → ((vs : List ℕ) → Pairs (left-of n t cs) vs → ⊥)
-      → FormulaComes n t cs (declined (Unmatched (length (marked ms (left-of n t cs)))) (spread (row-byte t (noted-of n t cs) (λ v. 0)) cs ms))
+      → FormulaComes n t cs (declined (Unmatched (length (marked ms (left-of n t cs)))) (spread (marked-byte t (noted-of n t cs)) cs ms))
 
 module _ (n : ℕ) (t : List Literal) (cs : List (List Literal)) (z : Sized n cs) where
   formula-comes : FormulaComes n t cs (formula-acceptance n t cs)
@@ -110,49 +110,6 @@ module _ (n : ℕ) (t : List Literal) (cs : List (List Literal)) (z : Sized n cs
       at : (o : Outcome) → outcome (map variables (remaining t cs)) ≡ o → FormulaComes n t cs (by-outcome n t cs o)
       at (success vs e) p = paired vs (paired-by (remaining-sized t z) vs e p)
       at (failure taken e) p = strip (none-by (remaining-sized t z) taken e p) (outcome (map variables (left-of n t cs))) refl
-
-  -- what remains can be paired: accepted, with such a pairing
-  whole-is : (vs : List ℕ) → Pairs (remaining t cs) vs
-      → (ws : List ℕ) × Pairs (remaining t cs) ws × (formula-acceptance n t cs ≡ accepted n t cs (spread (whole-byte t) cs (map suc ws)))
-  whole-is vs w = by formula-comes
-    where
-      by : {a : Acceptance} → FormulaComes n t cs a → (ws : List ℕ) × Pairs (remaining t cs) ws × (a ≡ accepted n t cs (spread (whole-byte t) cs (map suc ws)))
-      by (paired ws p) = (ws, p, refl)
-      by (strips ws none p) = absurd (none vs w)
-      by (unpaired ms v none) = let x = pairs-left n t cs vs w in absurd (none (x .0) (x .1))
-
-  -- it can't, but what stripping leaves of it can: accepted, with a pairing of that
-  stripped-is : (vs : List ℕ) → Pairs (left-of n t cs) vs → ((ws : List ℕ) → Pairs (remaining t cs) ws → ⊥)
-      → (ws : List ℕ) × Pairs (left-of n t cs) ws × (formula-acceptance n t cs ≡ accepted n t cs (spread (row-byte t (noted-of n t cs) dropped-byte) cs (map suc ws)))
-  stripped-is vs w none = by formula-comes
-    where
-      by : {a : Acceptance} → FormulaComes n t cs a
-          → (ws : List ℕ) × Pairs (left-of n t cs) ws × (a ≡ accepted n t cs (spread (row-byte t (noted-of n t cs) dropped-byte) cs (map suc ws)))
-      by (paired ws p) = absurd (none ws p)
-      by (strips ws _ p) = (ws, p, refl)
-      by (unpaired ms v some) = absurd (some vs w)
-
-  -- either way accepted
-  left-is : (vs : List ℕ) → Pairs (left-of n t cs) vs → (row : List ℕ) × (formula-acceptance n t cs ≡ accepted n t cs row)
-  left-is vs w = by formula-comes
-    where
-      by : {a : Acceptance} → FormulaComes n t cs a → (row : List ℕ) × (a ≡ accepted n t cs row)
-      by (paired ws p) = (spread (whole-byte t) cs (map suc ws), refl)
-      by (strips ws _ p) = (spread (row-byte t (noted-of n t cs) dropped-byte) cs (map suc ws), refl)
-      by (unpaired ms v none) = absurd (none vs w)
-
-  -- what stripping leaves can't be paired: declined by 10, and the marks are a violator
-  unpaired-is : ((vs : List ℕ) → Pairs (left-of n t cs) vs → ⊥)
-      → (ms : List ℕ) × Violator (left-of n t cs) ms
-      × (formula-acceptance n t cs ≡ declined (Unmatched (length (marked ms (left-of n t cs)))) (spread (row-byte t (noted-of n t cs) (λ v. 0)) cs ms))
-  unpaired-is none = by formula-comes
-    where
-      by : {a : Acceptance} → FormulaComes n t cs a
-          → (ms : List ℕ) × Violator (left-of n t cs) ms
-          × (a ≡ declined (Unmatched (length (marked ms (left-of n t cs)))) (spread (row-byte t (noted-of n t cs) (λ v. 0)) cs ms))
-      by (paired vs w) = let x = pairs-left n t cs vs w in absurd (none (x .0) (x .1))
-      by (strips vs _ w) = absurd (none vs w)
-      by (unpaired ms v _) = (ms, v, refl)
 
 -- ---- an input
 
@@ -209,24 +166,52 @@ module _ (s : List ℕ) (us : List Assumption) where
     unfolding acceptance
     read-acceptance = rw (reads, assumes)
 
-    fits : Sized n cs
-    fits = accepted-fits s n cs reads
+    formula-case : FormulaComes n t cs (formula-acceptance n t cs)
+    formula-case = formula-comes n t cs (accepted-fits s n cs reads)
 
+    -- what remains can be paired: accepted, with such a pairing
     pub whole-accepted : (vs : List ℕ) → Pairs (remaining t cs) vs
         → (ws : List ℕ) × Pairs (remaining t cs) ws × (acceptance s us ≡ accepted n t cs (spread (whole-byte t) cs (map suc ws)))
-    whole-accepted vs w = let x = whole-is n t cs fits vs w in (x .0, x .1, read-acceptance ∙ x .2)
+    whole-accepted vs w = by formula-case read-acceptance
+      where
+        by : {a : Acceptance} → FormulaComes n t cs a → acceptance s us ≡ a
+            → (ws : List ℕ) × Pairs (remaining t cs) ws × (acceptance s us ≡ accepted n t cs (spread (whole-byte t) cs (map suc ws)))
+        by (paired ws p) e = (ws, p, e)
+        by (strips ws none p) e = absurd (none vs w)
+        by (unpaired ms v none) e = let x = pairs-left n t cs vs w in absurd (none (x .0) (x .1))
 
+    -- it can't, but what stripping leaves of it can: accepted, with a pairing of that
     pub stripped-accepted : (vs : List ℕ) → Pairs (left-of n t cs) vs → ((ws : List ℕ) → Pairs (remaining t cs) ws → ⊥)
-        → (ws : List ℕ) × Pairs (left-of n t cs) ws × (acceptance s us ≡ accepted n t cs (spread (row-byte t (noted-of n t cs) dropped-byte) cs (map suc ws)))
-    stripped-accepted vs w none = let x = stripped-is n t cs fits vs w none in (x .0, x .1, read-acceptance ∙ x .2)
+        → (ws : List ℕ) × Pairs (left-of n t cs) ws × (acceptance s us ≡ accepted n t cs (spread (stripped-byte t (noted-of n t cs)) cs (map suc ws)))
+    stripped-accepted vs w none = by formula-case read-acceptance
+      where
+        by : {a : Acceptance} → FormulaComes n t cs a → acceptance s us ≡ a
+            → (ws : List ℕ) × Pairs (left-of n t cs) ws × (acceptance s us ≡ accepted n t cs (spread (stripped-byte t (noted-of n t cs)) cs (map suc ws)))
+        by (paired ws p) e = absurd (none ws p)
+        by (strips ws _ p) e = (ws, p, e)
+        by (unpaired ms v some) e = absurd (some vs w)
 
+    -- either way accepted
     pub left-accepted : (vs : List ℕ) → Pairs (left-of n t cs) vs → (row : List ℕ) × (acceptance s us ≡ accepted n t cs row)
-    left-accepted vs w = let x = left-is n t cs fits vs w in (x .0, read-acceptance ∙ x .1)
+    left-accepted vs w = by formula-case read-acceptance
+      where
+        by : {a : Acceptance} → FormulaComes n t cs a → acceptance s us ≡ a → (row : List ℕ) × (acceptance s us ≡ accepted n t cs row)
+        by (paired ws p) e = (_, e)
+        by (strips ws _ p) e = (_, e)
+        by (unpaired ms v none) e = absurd (none vs w)
 
+    -- what stripping leaves can't be paired: declined by 10, and the marks are a violator
     pub unpaired-declined : ((vs : List ℕ) → Pairs (left-of n t cs) vs → ⊥)
         → (ms : List ℕ) × Violator (left-of n t cs) ms
-        × (acceptance s us ≡ declined (Unmatched (length (marked ms (left-of n t cs)))) (spread (row-byte t (noted-of n t cs) (λ v. 0)) cs ms))
-    unpaired-declined none = let x = unpaired-is n t cs fits none in (x .0, x .1, read-acceptance ∙ x .2)
+        × (acceptance s us ≡ declined (Unmatched (length (marked ms (left-of n t cs)))) (spread (marked-byte t (noted-of n t cs)) cs ms))
+    unpaired-declined none = by formula-case read-acceptance
+      where
+        by : {a : Acceptance} → FormulaComes n t cs a → acceptance s us ≡ a
+            → (ms : List ℕ) × Violator (left-of n t cs) ms
+            × (acceptance s us ≡ declined (Unmatched (length (marked ms (left-of n t cs)))) (spread (marked-byte t (noted-of n t cs)) cs ms))
+        by (paired vs w) e = let x = pairs-left n t cs vs w in absurd (none (x .0) (x .1))
+        by (strips vs _ w) e = absurd (none vs w)
+        by (unpaired ms v _) e = (ms, v, e)
 
   -- so what is accepted is what is walkable
   pub accepted-walkable : (n : ℕ) (t : List Literal) (cs : List (List Literal)) (row : List ℕ) → acceptance s us ≡ accepted n t cs row → Walkable s us
@@ -280,8 +265,8 @@ module _ (s : List ℕ) (us : List Assumption) where
       by : {a : Acceptance} → Comes s us a → length (row-of a) ≤ max-clauses
       by (of-formula n t cs reads assumes (paired vs w)) = omega (arith, spread-length (whole-byte t) cs (map suc vs), accepted-fits s n cs reads .few)
       by (of-formula n t cs reads assumes (strips vs none w)) =
-          omega (arith, spread-length (row-byte t (noted-of n t cs) dropped-byte) cs (map suc vs), accepted-fits s n cs reads .few)
+          omega (arith, spread-length (stripped-byte t (noted-of n t cs)) cs (map suc vs), accepted-fits s n cs reads .few)
       by (of-formula n t cs reads assumes (unpaired ms v none)) =
-          omega (arith, spread-length (row-byte t (noted-of n t cs) (λ v. 0)) cs ms, accepted-fits s n cs reads .few)
+          omega (arith, spread-length (marked-byte t (noted-of n t cs)) cs ms, accepted-fits s n cs reads .few)
       by (bad-assumed n cs i reads assumes) = omega arith
       by (unreadable r e) = omega arith

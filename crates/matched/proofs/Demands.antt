@@ -2,10 +2,10 @@
 -- assumption behind the reader's refusals, and every byte of the buffer is fixed. Demand 2: a formula is accepted exactly if what stripping
 -- leaves of what remains is matched; if it is not, a violator is shown.
 use Prim.Native.Nat.{ℕ, suc, _≤_, _<_}
-use mathlib.Core.Bool.{true, false, cond}
-use mathlib.Core.List.{List, [], _∷_, _++_, map}
+use mathlib.Core.Bool.{true, false, cond, not, _&&_}
+use mathlib.Core.List.{List, [], _∷_, _++_, map, List·Memᴰ}
 use mathlib.Core.Logic.{_↔_}
-use mathlib.Core.Path.{_≡_, ap}
+use mathlib.Core.Path.{_≡_, ap, _∙_}
 use native.Mathlib.Omega.{arith}
 use lib.Dec.{ltb}
 use lib.ListN.{length}
@@ -20,13 +20,14 @@ use Rattle.assumptions.specs.declared.Assumption.{Assumption}
 use Rattle.assumptions.specs.Assumed.{literal-of}
 use Rattle.assumptions.specs.FirstBad.{NoneBad, FirstBad}
 use Rattle.assumptions.proofs.Demands.{bad-exactly, literals-exactly, none-bad-literals, literals-are, literals-over}
-use Rattle.splitting.specs.Nodes.{remaining, lowest-with}
+use Rattle.splitting.specs.Nodes.{remaining, satisfied-by, lowest-with}
 use Rattle.splitting.specs.Stripping.{pure}
 use Rattle.splitting.specs.Choosing.{among}
 use Rattle.splitting.specs.Terms.{left-after}
 use Rattle.splitting.proofs.MaskChoiceLaws.{StripsTo, strips-to}
-use Rattle.splitting.proofs.Theorems.{noted-pure, formula-below}
-use Rattle.matched.specs.Acceptance.{accepted, by, dropped-by, row-byte, whole-byte, dropped-byte, spread, acceptance}
+use Rattle.splitting.proofs.SatisfiedLaws.{less-all, less-all-named, remaining-in}
+use Rattle.splitting.proofs.Theorems.{noted-pure, still-there, formula-below}
+use Rattle.matched.specs.Acceptance.{accepted, by, dropped-by, whole-byte, marked-byte, stripped-byte, spread, acceptance}
 use Rattle.matched.specs.Judge.{Judged, accepted-values, refused-values, judgement-of, judge}
 use Rattle.matched.specs.Pairing.{Pairs, PairsUnder, noted-of, left-of, Pairable, Walkable, PairsStripped, Violator, marked, ViolatorUnder}
 use Rattle.matched.specs.WithoutAssumptions.{plain-acceptance}
@@ -78,7 +79,7 @@ acceptance-exactly s us = (
 pub accepted-exactly : (s : List ℕ) (us : List Assumption) (b : List ℕ) → max-clauses ≤ length b → (judge s us b .answer .number ≡ 0) ↔ Walkable s us
 accepted-exactly s us b l = (numberless-walkable s us b l, walkable-numberless s us b l)
 
--- S18.4: so is every input of which what remains is matched itself
+-- S18.1: every input of which what remains is matched itself is accepted so
 pub matched-walkable : (s : List ℕ) (us : List Assumption) → Pairable s us → Walkable s us
 matched-walkable = pairable-walkable
 
@@ -125,33 +126,38 @@ module _ (s : List ℕ) (us : List Assumption) (n : ℕ) (cs : List (List Litera
   -- bytes of the buffer are spread from a matching of what is left; no other byte changes,
   pub stripped-buffer : (b : List ℕ) → max-clauses ≤ length b → (vs : List ℕ) → Pairs (left-of n t cs) vs → ((ws : List ℕ) → Pairs (remaining t cs) ws → ⊥)
       → (ws : List ℕ) × Pairs (left-of n t cs) ws
-      × (judge s us b ≡ record { answer = accepted-values n (length cs); buffer = over (spread (row-byte t (noted-of n t cs) dropped-byte) cs (map suc ws)) b })
+      × (judge s us b ≡ record { answer = accepted-values n (length cs); buffer = over (spread (stripped-byte t (noted-of n t cs)) cs (map suc ws)) b })
   stripped-buffer b long vs p none =
       let x = stripped-accepted s us n t cs (accepted-all s n cs encodes) (none-bad-literals n us good) vs p none in
       (x .0, x .1, judge-accepted s us b long n t cs _ (x .2))
 
   -- these bytes, told clause by clause: 0, or 128 and the variable that drops it, or the variable that a left one is matched with,
-  pub stripped-bytes : (vs : List ℕ) → Pairs (left-of n t cs) vs → PairsStripped n t cs (spread (row-byte t (noted-of n t cs) dropped-byte) cs (map suc vs))
+  pub stripped-bytes : (vs : List ℕ) → Pairs (left-of n t cs) vs → PairsStripped n t cs (spread (stripped-byte t (noted-of n t cs)) cs (map suc vs))
   stripped-bytes = unders.pairs-stripped fits strips
 
-  -- and what it is that drops a clause: the variable was noted, the clause names it, and none of those that were noted before; it was the
-  -- lowest pure one in what they had left.
-  pub dropped-there : (c : List Literal) (v : ℕ) → dropped-by (noted-of n t cs) c ≡ by v
+  -- and what it is that drops a clause that the assumptions do not satisfy: a variable that it names, noted as the lowest pure one in what
+  -- those noted before it had left; the clause names none of these, so that what remains of it was still there.
+  pub dropped-there : (c : List Literal) (v : ℕ) → List·Memᴰ c cs → satisfied-by t c ≡ false → dropped-by (noted-of n t cs) c ≡ by v
       → (before after : List ℕ) × (noted-of n t cs ≡ before ++ (v ∷ after))
       × (names c v ≡ true)
-      × ((y : ℕ) → among before y ≡ true → names c y ≡ false)
       × (lowest-with (pure (left-after before (remaining t cs))) n ≡ v)
+      × (v < n)
       × (pure (left-after before (remaining t cs)) v ≡ true)
-  dropped-there c v e =
+      × ((y : ℕ) → among before y ≡ true → names c y ≡ false)
+      × (d : List Literal) × List·Memᴰ d (left-after before (remaining t cs)) × ((y : ℕ) → names d y ≡ names c y && not (names t y))
+  dropped-there c v m unsatisfied e =
       let w = dropped-first (noted-of n t cs) c v e in
       let p = noted-pure n (remaining t cs) (w .before) (w .after) v (w .order) in
-      (w .before, w .after, w .order, w .named, w .none, p .0, p .2)
+      let d = less-all t c in
+      let there = still-there (w .before) (remaining t cs) d (remaining-in t c cs (literals-over n us t (none-bad-literals n us good) .once) m unsatisfied)
+      (λ y h. less-all-named t c y ∙ rw (w .none y h)) in
+      (w .before, w .after, w .order, w .named, p .0, p .1, p .2, w .none, d, there, less-all-named t c)
 
   -- S10, demand 2: what stripping leaves is not matched. Judge gives 10, at the number of marked clauses; the first bytes of the buffer are
   -- spread from the marks of a violator of what is left; no other byte changes,
   pub refused-buffer : (b : List ℕ) → max-clauses ≤ length b → ((vs : List ℕ) → Pairs (left-of n t cs) vs → ⊥)
       → (ms : List ℕ) × Violator (left-of n t cs) ms
-      × (judge s us b ≡ record { answer = refused-values (Unmatched (length (marked ms (left-of n t cs)))); buffer = over (spread (row-byte t (noted-of n t cs) (λ v. 0)) cs ms) b })
+      × (judge s us b ≡ record { answer = refused-values (Unmatched (length (marked ms (left-of n t cs)))); buffer = over (spread (marked-byte t (noted-of n t cs)) cs ms) b })
   refused-buffer b long none =
       let x = unpaired-declined s us n t cs (accepted-all s n cs encodes) (none-bad-literals n us good) none in
       (x .0, x .1, judge-declined s us b long _ _ (x .2))
@@ -159,7 +165,7 @@ module _ (s : List ℕ) (us : List Assumption) (n : ℕ) (cs : List (List Litera
   -- and these bytes, told clause by clause: as many are marked, only left ones, and they name one variable fewer, the assumed ones not
   -- counted
   pub refused-bytes : (ms : List ℕ) → Violator (left-of n t cs) ms
-      → (let row = spread (row-byte t (noted-of n t cs) (λ v. 0)) cs ms in
+      → (let row = spread (marked-byte t (noted-of n t cs)) cs ms in
       ViolatorUnder n t cs row × (length (marked row cs) ≡ length (marked ms (left-of n t cs))))
   refused-bytes ms v = (unders.violator-under fits strips ms v, unders.marked-many fits strips ms v)
 

@@ -18,7 +18,7 @@ use Rattle.splitting.specs.Nodes.{satisfied-by}
 use Rattle.splitting.specs.Choosing.{among}
 use Rattle.splitting.proofs.SearchLaws.{among-here, among-cases, among-none, among-right}
 use Rattle.splitting.proofs.MaskChoiceLaws.{names-any, StripsTo}
-use Rattle.matched.specs.Acceptance.{Dropped, by, left, dropped-by, known, asked, byte-of, row-byte, whole-byte}
+use Rattle.matched.specs.Acceptance.{Dropped, by, by-none, dropped-by, known, asked, byte-of, row-byte, whole-byte, marked-byte}
 use Rattle.matched.specs.InnerSpread.{first-in}
 use Rattle.matched.specs.Pairing.{noted-of}
 use Rattle.matched.proofs.SpreadLaws.{asks, Sieves}
@@ -52,7 +52,7 @@ dropped-first (x ∷ noted) c v e = at (names c x) refl e (dropped-first noted c
 -- a noted variable drops the clause
 abbrev pub drops : Dropped → Bool
 drops (by v) = true
-drops left = false
+drops by-none = false
 
 -- exactly if the clause names some
 drops-any : (vs : List ℕ) (c : List Literal) → drops (dropped-by vs c) ≡ names-any vs c
@@ -82,13 +82,13 @@ first-dropped (x ∷ noted) c v e = rw (clause-names c x) (at (names c x) e (fir
     at false e ih = ih e
 
 -- a clause that is left names no noted variable
-pub left-names : (noted : List ℕ) (c : List Literal) (v : ℕ) → dropped-by noted c ≡ left → among noted v ≡ true → names c v ≡ false
+pub left-names : (noted : List ℕ) (c : List Literal) (v : ℕ) → dropped-by noted c ≡ by-none → among noted v ≡ true → names c v ≡ false
 unfolding dropped-by
 left-names [] c v e h = among-none v h
 left-names (x ∷ noted) c v e h = at (names c x) refl e (left-names noted c v) (among-cases v x noted h)
   where
-    at : (b : Bool) → names c x ≡ b → cond b (by x) (dropped-by noted c) ≡ left
-        → (dropped-by noted c ≡ left → among noted v ≡ true → names c v ≡ false) → (v ≡ x) ⊎ (among noted v ≡ true) → names c v ≡ false
+    at : (b : Bool) → names c x ≡ b → cond b (by x) (dropped-by noted c) ≡ by-none
+        → (dropped-by noted c ≡ by-none → among noted v ≡ true → names c v ≡ false) → (v ≡ x) ⊎ (among noted v ≡ true) → names c v ≡ false
     at true q e ih h = let z : _≡_ {A = ℕ} 0 1 = cc in absurd (omega arith)
     at false q e ih (inl k) = ap (names c) k ∙ q
     at false q e ih (inr k) = ih e k
@@ -107,19 +107,19 @@ module _ (t : List Literal) (noted : List ℕ) (d : ℕ → ℕ) (c : List Liter
   dropped-known v e q = rw (e, q)
 
   -- another that is left
-  pub left-asked : satisfied-by t c ≡ false → dropped-by noted c ≡ left → row-byte t noted d c ≡ asked
+  pub left-asked : satisfied-by t c ≡ false → dropped-by noted c ≡ by-none → row-byte t noted d c ≡ asked
   unfolding row-byte
   left-asked e q = rw (e, q)
 
   -- and only that asks
-  pub asked-left : row-byte t noted d c ≡ asked → (satisfied-by t c ≡ false) × (dropped-by noted c ≡ left)
+  pub asked-left : row-byte t noted d c ≡ asked → (satisfied-by t c ≡ false) × (dropped-by noted c ≡ by-none)
   unfolding row-byte
   asked-left e = at (satisfied-by t c) (dropped-by noted c) refl refl e
     where
-      at : (b : Bool) (x : Dropped) → satisfied-by t c ≡ b → dropped-by noted c ≡ x → cond b (known 0) (byte-of d x) ≡ asked → (satisfied-by t c ≡ false) × (dropped-by noted c ≡ left)
+      at : (b : Bool) (x : Dropped) → satisfied-by t c ≡ b → dropped-by noted c ≡ x → cond b (known 0) (byte-of d x) ≡ asked → (satisfied-by t c ≡ false) × (dropped-by noted c ≡ by-none)
       at true x p q e = let z : _≡_ {A = ℕ} 0 1 = cc in absurd (omega arith)
       at false (by v) p q e = let z : _≡_ {A = ℕ} 0 1 = cc in absurd (omega arith)
-      at false left p q e = (p, q)
+      at false by-none p q e = (p, q)
 
 -- whatever the byte of a dropped clause is, the same clauses ask
 pub same-asks : (t : List Literal) (noted : List ℕ) (d k : ℕ → ℕ) (c : List Literal) → asks (row-byte t noted d c) ≡ asks (row-byte t noted k c)
@@ -129,7 +129,7 @@ same-asks t noted d k c = at (satisfied-by t c) (dropped-by noted c)
     at : (b : Bool) (x : Dropped) → asks (cond b (known 0) (byte-of d x)) ≡ asks (cond b (known 0) (byte-of k x))
     at true x = refl
     at false (by v) = refl
-    at false left = refl
+    at false by-none = refl
 
 -- nothing is noted: what t does not satisfy asks
 pub whole-zeros : (t : List Literal) (cs : List (List Literal)) → Every (λ c. whole-byte t c ≡ cond (satisfied-by t c) (known 0) asked) cs
@@ -151,16 +151,16 @@ module _ {n : ℕ} {t : List Literal} {cs : List (List Literal)} (w : StripsTo n
       at : (b : Bool) (x : Dropped) → b || drops x ≡ not (asks (cond b (known 0) (byte-of d x)))
       at true x = refl
       at false (by v) = refl
-      at false left = refl
+      at false by-none = refl
 
   -- and where a dropped clause has 0, all others have it
-  pub stripped-zeros : Every (λ c. row-byte t (noted-of n t cs) (λ v. 0) c ≡ cond (satisfied-by (w .trail) c) (known 0) asked) cs
+  pub stripped-zeros : Every (λ c. marked-byte t (noted-of n t cs) c ≡ cond (satisfied-by (w .trail) c) (known 0) asked) cs
   unfolding row-byte
   stripped-zeros =
-      every-of (λ c. row-byte t (noted-of n t cs) (λ v. 0) c ≡ cond (satisfied-by (w .trail) c) (known 0) asked) cs
+      every-of (λ c. marked-byte t (noted-of n t cs) c ≡ cond (satisfied-by (w .trail) c) (known 0) asked) cs
       (λ c m. rw (trail-drops c m) (at (satisfied-by t c) (dropped-by (noted-of n t cs) c)))
     where
       at : (b : Bool) (x : Dropped) → cond b (known 0) (byte-of (λ v. 0) x) ≡ cond (b || drops x) (known 0) asked
       at true x = refl
       at false (by v) = refl
-      at false left = refl
+      at false by-none = refl

@@ -28,7 +28,7 @@ use Rattle.splitting.proofs.ClauseLaws.{named-by}
 use Rattle.splitting.proofs.MaskChoiceLaws.{StripsTo}
 use Rattle.splitting.proofs.SatisfiedLaws.{less-all, less-all-names, less-all-named, remaining-cons}
 use Rattle.splitting.proofs.Theorems.{formula-below, noted-unassigned}
-use Rattle.matched.specs.Acceptance.{Dropped, by, left, dropped-by, Byte, known, asked, row-byte, whole-byte, dropped-byte, spread}
+use Rattle.matched.specs.Acceptance.{Dropped, by, by-none, dropped-by, Byte, known, asked, whole-byte, marked-byte, stripped-byte, dropped-byte, spread}
 use Rattle.matched.specs.Pairing.{Pairs, PairsUnder, PairsStripped, noted-of, left-of, Violator, ViolatorUnder, marked}
 use Rattle.matched.proofs.DroppedLaws.{dropped-first, dropped-noted, left-names, satisfied-byte, dropped-known, left-asked, asked-left, whole-zeros, stripped-sieves, stripped-zeros}
 use Rattle.matched.proofs.SpreadLaws.{asks, asking, asking-less, asking-place, remaining-at, spread-length, spread-known, spread-asked, spread-byte, Sieves, zeros-sieve, remaining-none}
@@ -126,9 +126,9 @@ module _ {n : ℕ} {t : List Literal} {cs : List (List Literal)} (z : Sized n cs
 
   module _ (vs : List ℕ) (p : Pairs (left-of n t cs) vs) where
     abbrev stripped-row : List ℕ
-    stripped-row = spread (row-byte t noted dropped-byte) cs (map suc vs)
+    stripped-row = spread (stripped-byte t noted) cs (map suc vs)
 
-    left-answers : Answers (w .trail) (row-byte t noted dropped-byte) cs vs
+    left-answers : Answers (w .trail) (stripped-byte t noted) cs vs
     left-answers = record {
       once = w .is-trail .once;
       sieves = stripped-sieves w dropped-byte;
@@ -143,16 +143,16 @@ module _ {n : ℕ} {t : List Literal} {cs : List (List Literal)} (z : Sized n cs
     unassigned v e = ⊎-elim (λ k. bool-clash (w .keeps v k) e) (λ k. k) (bool-cases (names t v))
 
     -- the byte of a clause that is left
-    left-byte : (i : ℕ) → i < length cs → row-byte t noted dropped-byte (getD cs i []) ≡ asked
+    left-byte : (i : ℕ) → i < length cs → stripped-byte t noted (getD cs i []) ≡ asked
         → (v : ℕ) × (getD stripped-row i 0 ≡ suc v) × (v < n) × (names (getD cs i []) v ≡ true) × (names t v ≡ false)
     left-byte i h q =
         let k = asked-names left-answers i h q in
-        let v = getD vs (asking (row-byte t noted dropped-byte) cs i) 0 in
+        let v = getD vs (asking (stripped-byte t noted) cs i) 0 in
         (v, asked-byte left-answers i h q, low i v h (k .0), k .0, unassigned v (k .1))
 
     pub pairs-stripped : PairsStripped n t cs stripped-row
     pairs-stripped = record {
-      one-each = spread-length (row-byte t noted dropped-byte) cs (map suc vs);
+      one-each = spread-length (stripped-byte t noted) cs (map suc vs);
       satisfied = λ i h e. known-byte left-answers i 0 h (satisfied-byte t noted dropped-byte (getD cs i []) e);
       dropped = λ i v h e q. (
         known-byte left-answers i (dropped-byte v) h (dropped-known t noted dropped-byte (getD cs i []) v e q),
@@ -163,19 +163,19 @@ module _ {n : ℕ} {t : List Literal} {cs : List (List Literal)} (z : Sized n cs
       distinct = λ i j h k e d q. own i j h k (left-asked t noted dropped-byte (getD cs i []) e d) q (satisfied-by t (getD cs j [])) (dropped-by noted (getD cs j [])) refl refl;
     }
       where
-        own : (i j : ℕ) → i < length cs → j < length cs → row-byte t noted dropped-byte (getD cs i []) ≡ asked → getD stripped-row i 0 ≡ getD stripped-row j 0
+        own : (i j : ℕ) → i < length cs → j < length cs → stripped-byte t noted (getD cs i []) ≡ asked → getD stripped-row i 0 ≡ getD stripped-row j 0
             → (b : Bool) (x : Dropped) → satisfied-by t (getD cs j []) ≡ b → dropped-by noted (getD cs j []) ≡ x → i ≡ j
         own i j h k e q true x f g =
             absurd (omega (arith, left-byte i h e .1, known-byte left-answers j 0 k (satisfied-byte t noted dropped-byte (getD cs j []) f)))
         own i j h k e q false (by v) f g =
             let m = left-byte i h e in
             absurd (omega (arith, m .1, m .2, z .most, known-byte left-answers j (dropped-byte v) k (dropped-known t noted dropped-byte (getD cs j []) v f g)))
-        own i j h k e q false left f g = asked-own left-answers i j h k e (left-asked t noted dropped-byte (getD cs j []) f g) q
+        own i j h k e q false by-none f g = asked-own left-answers i j h k e (left-asked t noted dropped-byte (getD cs j []) f g) q
 
   -- ---- the marks
 
   -- the clause less the trail's variables is, for one that is left, the clause less those of t
-  left-less : (c : List Literal) → dropped-by noted c ≡ left → (v : ℕ) → bit (variables (less-all (w .trail) c)) v ≡ bit (variables c) v && not (bit (variables t) v)
+  left-less : (c : List Literal) → dropped-by noted c ≡ by-none → (v : ℕ) → bit (variables (less-all (w .trail) c)) v ≡ bit (variables c) v && not (bit (variables t) v)
   left-less c e v =
       variables-bit (less-all (w .trail) c) v
       ∙ less-all-named (w .trail) c v
@@ -191,7 +191,7 @@ module _ {n : ℕ} {t : List Literal} {cs : List (List Literal)} (z : Sized n cs
 
   -- the marked clauses are as many as the marked ones of what is left, and name the same variables but those of t
   abbrev all-marked : List (List Literal) → List ℕ → List ℕ
-  all-marked ds ms = marked (spread (row-byte t noted (λ v. 0)) ds ms) ds
+  all-marked ds ms = marked (spread (marked-byte t noted) ds ms) ds
 
   abbrev left-marked : List (List Literal) → List ℕ → List ℕ
   left-marked ds ms = marked ms (remaining (w .trail) ds)
@@ -201,14 +201,14 @@ module _ {n : ℕ} {t : List Literal} {cs : List (List Literal)} (z : Sized n cs
       (length (all-marked ds ms) ≡ length (left-marked ds ms))
       × ((v : ℕ) → bit (minus (union (all-marked ds ms)) (variables t)) v ≡ bit (union (left-marked ds ms)) v)
 
-  same-marked : (ds : List (List Literal)) → Every (λ c. row-byte t noted (λ v. 0) c ≡ cond (satisfied-by (w .trail) c) (known 0) asked) ds
+  same-marked : (ds : List (List Literal)) → Every (λ c. marked-byte t noted c ≡ cond (satisfied-by (w .trail) c) (known 0) asked) ds
       → (ms : List ℕ) → length ms ≡ length (remaining (w .trail) ds) → SameMarked ds ms
   unfolding spread selected union
   same-marked [] zeros [] e = (refl, λ v. bit-minus 0 (variables t) v ∙ rw (bit-none v))
   same-marked [] zeros (m ∷ ms) e = let z = ap (length {A = List Literal}) (remaining-none (w .trail)) in absurd (omega arith)
   same-marked (d ∷ ds) zeros ms e = at (satisfied-by (w .trail) d) refl ms e (same-marked ds (zeros .1))
     where
-      marks : (b : Bool) (m : ℕ) (ms : List ℕ) → eqb m 0 ≡ b → dropped-by noted d ≡ left → SameMarked ds ms
+      marks : (b : Bool) (m : ℕ) (ms : List ℕ) → eqb m 0 ≡ b → dropped-by noted d ≡ by-none → SameMarked ds ms
           → (length (cond b (all-marked ds ms) (variables d ∷ all-marked ds ms)) ≡ length (cond b (left-marked ds ms) (variables (less-all (w .trail) d) ∷ left-marked ds ms)))
           × ((v : ℕ) → bit (minus (union (cond b (all-marked ds ms) (variables d ∷ all-marked ds ms))) (variables t)) v
           ≡ bit (union (cond b (left-marked ds ms) (variables (less-all (w .trail) d) ∷ left-marked ds ms))) v)
@@ -223,10 +223,10 @@ module _ {n : ℕ} {t : List Literal} {cs : List (List Literal)} (z : Sized n cs
             ∙ sym (bit-or (variables (less-all (w .trail) d)) (union (left-marked ds ms)) v),
       )
 
-      next : (ms : List ℕ) → length ms ≡ suc (length (remaining (w .trail) ds)) → dropped-by noted d ≡ left
+      next : (ms : List ℕ) → length ms ≡ suc (length (remaining (w .trail) ds)) → dropped-by noted d ≡ by-none
           → ((ns : List ℕ) → length ns ≡ length (remaining (w .trail) ds) → SameMarked ds ns)
-          → (length (selected (getD ms 0 0 ∷ spread (row-byte t noted (λ v. 0)) ds (drop 1 ms)) (variables d ∷ map variables ds)) ≡ length (marked ms (less-all (w .trail) d ∷ remaining (w .trail) ds)))
-          × ((v : ℕ) → bit (minus (union (selected (getD ms 0 0 ∷ spread (row-byte t noted (λ v. 0)) ds (drop 1 ms)) (variables d ∷ map variables ds))) (variables t)) v
+          → (length (selected (getD ms 0 0 ∷ spread (marked-byte t noted) ds (drop 1 ms)) (variables d ∷ map variables ds)) ≡ length (marked ms (less-all (w .trail) d ∷ remaining (w .trail) ds)))
+          × ((v : ℕ) → bit (minus (union (selected (getD ms 0 0 ∷ spread (marked-byte t noted) ds (drop 1 ms)) (variables d ∷ map variables ds))) (variables t)) v
           ≡ bit (union (marked ms (less-all (w .trail) d ∷ remaining (w .trail) ds))) v)
       next [] e q ih = absurd (omega arith)
       next (m ∷ ms) e q ih = marks (eqb m 0) m ms refl q (ih ms (omega arith))
@@ -235,16 +235,16 @@ module _ {n : ℕ} {t : List Literal} {cs : List (List Literal)} (z : Sized n cs
           → ((ns : List ℕ) → length ns ≡ length (remaining (w .trail) ds) → SameMarked ds ns) → SameMarked (d ∷ ds) ms
       at true q ms e ih =
           let c : remaining (w .trail) (d ∷ ds) ≡ remaining (w .trail) ds = remaining-cons (w .trail) d ds (w .is-trail .once) ∙ rw q in
-          let k : row-byte t noted (λ v. 0) d ≡ known 0 = zeros .0 ∙ rw q in
-          rw (c, spread-known (row-byte t noted (λ v. 0)) d ds ms 0 k) (ih ms (e ∙ ap (length {A = List Literal}) c))
+          let k : marked-byte t noted d ≡ known 0 = zeros .0 ∙ rw q in
+          rw (c, spread-known (marked-byte t noted) d ds ms 0 k) (ih ms (e ∙ ap (length {A = List Literal}) c))
       at false q ms e ih =
           let c : remaining (w .trail) (d ∷ ds) ≡ less-all (w .trail) d ∷ remaining (w .trail) ds = remaining-cons (w .trail) d ds (w .is-trail .once) ∙ rw q in
-          let k : row-byte t noted (λ v. 0) d ≡ asked = zeros .0 ∙ rw q in
-          rw (c, spread-asked (row-byte t noted (λ v. 0)) d ds ms k) (next ms (e ∙ ap (length {A = List Literal}) c) (asked-left t noted (λ v. 0) d k .1) ih)
+          let k : marked-byte t noted d ≡ asked = zeros .0 ∙ rw q in
+          rw (c, spread-asked (marked-byte t noted) d ds ms k) (next ms (e ∙ ap (length {A = List Literal}) c) (asked-left t noted (λ v. 0) d k .1) ih)
 
   module _ (ms : List ℕ) (violates : Violator (left-of n t cs) ms) where
     abbrev marks-row : List ℕ
-    marks-row = spread (row-byte t noted (λ v. 0)) cs ms
+    marks-row = spread (marked-byte t noted) cs ms
 
     as-many : length ms ≡ length (remaining (w .trail) cs)
     as-many = violates .one-each ∙ ap (length {A = List Literal}) (sym (w .left))
@@ -256,20 +256,20 @@ module _ {n : ℕ} {t : List Literal} {cs : List (List Literal)} (z : Sized n cs
     pub marked-many : length (marked marks-row cs) ≡ length (marked ms (left-of n t cs))
     marked-many = same .0 ∙ ap (λ (l : List (List Literal)). length (marked ms l)) (w .left)
 
-    mark-at : (i : ℕ) → i < length cs → (b : Byte) → row-byte t noted (λ v. 0) (getD cs i []) ≡ b
-        → (getD marks-row i 0 ≤ 1) × (getD marks-row i 0 ≡ 1 → row-byte t noted (λ v. 0) (getD cs i []) ≡ asked)
+    mark-at : (i : ℕ) → i < length cs → (b : Byte) → marked-byte t noted (getD cs i []) ≡ b
+        → (getD marks-row i 0 ≤ 1) × (getD marks-row i 0 ≡ 1 → marked-byte t noted (getD cs i []) ≡ asked)
     mark-at i h (known x) e =
-        let z : x ≡ 0 = known-zero (satisfied-by (w .trail) (getD cs i [])) x (sym e ∙ every-getD (λ c. row-byte t noted (λ v. 0) c ≡ cond (satisfied-by (w .trail) c) (known 0) asked) cs i [] h (stripped-zeros w)) in
-        let q : getD marks-row i 0 ≡ x = spread-byte (row-byte t noted (λ v. 0)) cs ms i h ∙ rw e in
+        let z : x ≡ 0 = known-zero (satisfied-by (w .trail) (getD cs i [])) x (sym e ∙ every-getD (λ c. marked-byte t noted c ≡ cond (satisfied-by (w .trail) c) (known 0) asked) cs i [] h (stripped-zeros w)) in
+        let q : getD marks-row i 0 ≡ x = spread-byte (marked-byte t noted) cs ms i h ∙ rw e in
         (omega arith, λ k. absurd (omega arith))
     mark-at i h asked e =
-        let q : getD marks-row i 0 ≡ getD ms (asking (row-byte t noted (λ v. 0)) cs i) 0 = spread-byte (row-byte t noted (λ v. 0)) cs ms i h ∙ rw e in
-        let p = asking-place (w .trail) (w .is-trail .once) (row-byte t noted (λ v. 0)) cs (stripped-sieves w (λ v. 0)) i h (ap asks e) in
-        (omega (arith, violates .low (asking (row-byte t noted (λ v. 0)) cs i) (rw (w .left) at p)), λ k. e)
+        let q : getD marks-row i 0 ≡ getD ms (asking (marked-byte t noted) cs i) 0 = spread-byte (marked-byte t noted) cs ms i h ∙ rw e in
+        let p = asking-place (w .trail) (w .is-trail .once) (marked-byte t noted) cs (stripped-sieves w (λ v. 0)) i h (ap asks e) in
+        (omega (arith, violates .low (asking (marked-byte t noted) cs i) (rw (w .left) at p)), λ k. e)
 
     pub violator-under : ViolatorUnder n t cs marks-row
     violator-under = record {
-      one-each = spread-length (row-byte t noted (λ v. 0)) cs ms;
+      one-each = spread-length (marked-byte t noted) cs ms;
       low = λ i h. mark-at i h _ refl .0;
       left-only = λ i h q. asked-left t noted (λ v. 0) (getD cs i []) (mark-at i h _ refl .1 q);
       fewer =

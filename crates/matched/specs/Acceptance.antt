@@ -17,7 +17,7 @@ use Rattle.splitting.specs.Nodes.{remaining, satisfied-by}
 use Rattle.splitting.specs.Stripping.{Stripped, stripped}
 
 -- Accepted: the number of variables, the literals that are assumed, the clauses, and a byte for each clause: 0 if an assumption satisfies
--- it, else the variable matched with what remains of it, from 1, or, if stripping dropped it, 128 and the variable that dropped it.
+-- it, else the variable matched with what remains of it, from 1, or, if stripping dropped it, 128 plus the variable that dropped it.
 -- Declined: the refusal and, at 10, a byte for each clause, which is 1 if it is marked, else 0; no bytes at 2 to 9 and 16.
 pub data Acceptance : Type 0 where
   accepted : ℕ → List Literal → List (List Literal) → List ℕ → Acceptance
@@ -25,14 +25,14 @@ pub data Acceptance : Type 0 where
 
 -- ---- a byte for each clause
 
--- what stripping does with a clause: a noted variable drops it, or it is left
+-- S18.2: what stripping does with a clause: a noted variable drops it, or none does and it is left
 pub data Dropped : Type 0 where
   by : ℕ → Dropped
-  left : Dropped
+  by-none : Dropped
 
 -- S18.2: the first of the noted variables that the clause names drops it, as it is the first at whose noting it goes
 unfoldable pub dropped-by : List ℕ → List Literal → Dropped
-dropped-by [] c = left
+dropped-by [] c = by-none
 dropped-by (v ∷ vs) c = cond (names c v) (by v) (dropped-by vs c)
 
 -- the byte of a clause: known by itself, or the next of a list of answers
@@ -42,38 +42,47 @@ pub data Byte : Type 0 where
 
 abbrev pub byte-of : (ℕ → ℕ) → Dropped → Byte
 byte-of d (by v) = known (d v)
-byte-of d left = asked
+byte-of d by-none = asked
 
 -- S17.2, S18.2: 0 for a clause that the literals t satisfy; for another d v if v drops it; the next answer if it is left
 unfoldable pub row-byte : List Literal → List ℕ → (ℕ → ℕ) → List Literal → Byte
 row-byte t noted d c = cond (satisfied-by t c) (known 0) (byte-of d (dropped-by noted c))
 
--- a byte for each clause: the answers go, in order, to those that ask for one
+-- S17.2, S18.2: the row, a byte for each clause: the answers go, in order, to those that ask for one
 unfoldable pub spread : (List Literal → Byte) → List (List Literal) → List ℕ → List ℕ
 spread f [] answers = []
 spread f (c ∷ cs) answers =
     elim (f c) [ known x ↦ x ∷ spread f cs answers | asked ↦ getD answers 0 0 ∷ spread f cs (drop 1 answers) ]
 
--- no variable is noted: the clauses that t does not satisfy ask
+-- S17.2: where what remains is matched whole, nothing is noted: the clauses that t does not satisfy ask
 abbrev pub whole-byte : List Literal → List Literal → Byte
 whole-byte t = row-byte t [] (λ v. 0)
 
--- S18.2: what is told of a dropped clause: 128 and the variable, from 1; and where marks are told, 0
+-- S18.2: where what is left is matched, a dropped clause has 128 plus the number of the variable, from 1
 abbrev pub dropped-byte : ℕ → ℕ
 dropped-byte v = 128 + suc v
 
+abbrev pub stripped-byte : List Literal → List ℕ → List Literal → Byte
+stripped-byte t noted = row-byte t noted dropped-byte
+
+-- S18.3: where marks are told, it has 0
+abbrev pub marked-byte : List Literal → List ℕ → List Literal → Byte
+marked-byte t noted = row-byte t noted (λ v. 0)
+
 -- ---- what comes of a formula under assumptions
 
--- S18.1: what stripping leaves is matched: its matching, with variables from 1; else 10, at the number of marked clauses, and the marks
+-- S18.2: what stripping leaves is matched: its matching, with variables from 1; S18.3: else 10, at the number of marked clauses, and the
+-- marks
 abbrev pub by-left-outcome : ℕ → List Literal → List (List Literal) → Stripped → Outcome → Acceptance
-by-left-outcome n t cs st (success vs e) = accepted n t cs (spread (row-byte t (st .noted) dropped-byte) cs (map suc vs))
+by-left-outcome n t cs st (success vs e) = accepted n t cs (spread (stripped-byte t (st .noted)) cs (map suc vs))
 by-left-outcome n t cs st (failure taken e) =
-    declined (Unmatched (length taken)) (spread (row-byte t (st .noted) (λ v. 0)) cs (marks (length (st .left)) taken))
+    declined (Unmatched (length taken)) (spread (marked-byte t (st .noted)) cs (marks (length (st .left)) taken))
 
+-- S18.1: what stripping leaves, by its own matching, from nothing
 abbrev pub by-stripped : ℕ → List Literal → List (List Literal) → Stripped → Acceptance
 by-stripped n t cs st = by-left-outcome n t cs st (outcome (map variables (st .left)))
 
--- what remains is matched: its matching, with variables from 1; else it is stripped
+-- S5.6, S17.2: what remains is matched: its matching, with variables from 1; S18.1: else it is stripped
 abbrev pub by-outcome : ℕ → List Literal → List (List Literal) → Outcome → Acceptance
 by-outcome n t cs (success vs e) = accepted n t cs (spread (whole-byte t) cs (map suc vs))
 by-outcome n t cs (failure taken e) = by-stripped n t cs (stripped n (remaining t cs))

@@ -1,4 +1,4 @@
--- S18.4: what comes of an input if nothing is stripped, in the words of S5.6 and S17.2: an input that can be paired keeps it,
+-- S18.4: what comes of an input if nothing is stripped, as S5.6 and S17.2 had it until slip 5: an input that can be paired keeps it,
 -- `acceptance-kept` in proofs/Demands.antt.
 use Prim.Native.Nat.{ℕ, suc}
 use mathlib.Core.Bool.{cond}

@@ -31,7 +31,7 @@ use splitting::Assignment;
 use splitting::Stripping;
 
 // What comes of an input (`acceptance`), beside its formula: whether it is accepted, and the first `length` bytes of the table: for each
-// clause 0 if an assumption satisfies it, else its variable, from 1, or, if stripping dropped it, 128 and the variable that dropped it; or,
+// clause 0 if an assumption satisfies it, else its variable, from 1, or, if stripping dropped it, 128 plus the variable that dropped it; or,
 // where what stripping leaves can't be matched, 1 for a marked clause and 0 for another. Another refused input has no bytes. Zeros follow.
 pub struct Row {
     pub outcome: Outcome,
@@ -95,7 +95,7 @@ fn first_noted(s: Stripping, c: Clause) -> usize
     0
 }
 
-// The byte of a clause: 128 and the variable, from 1, that dropped it, or the given one if stripping did not drop it.
+// The byte of a clause: 128 plus the variable, from 1, that dropped it, or the given one if stripping did not drop it.
 fn tell(a: Assignment, s: Stripping, c: Clause, byte: u8) -> u8
     requires { ⌜ NotesFit s ⌝ }
     ensures { λ r. ⌜ r ≡ told-byte a s c byte ⌝ }

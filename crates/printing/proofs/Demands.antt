@@ -1,7 +1,8 @@
--- What the print owes to the limit of its input (S12.2): of a longer input the program takes the first 16,384 bytes as the whole. And that
--- assumptions, of which it takes none, change nothing in it (S17.6).
+-- What the print owes to the limit of its input (S12.2): of a longer input the program takes the first 16,384 bytes as the whole. That
+-- assumptions, of which it takes none, change nothing in it (S17.6). And what it is where a formula is refused by 10 (S18.3), and where one is
+-- matched whole (S18.4).
 use Prim.Native.Nat.{ℕ, _≤_, _<_}
-use mathlib.Core.List.{List, [], _++_, map}
+use mathlib.Core.List.{List, [], _++_}
 use mathlib.Core.Path.{_≡_, refl, sym, ap, _∙_}
 use native.Mathlib.Omega.{arith}
 use lib.ListN.{length, take, drop, length-drop, take-append-drop}
@@ -9,21 +10,17 @@ use lib.Seq.{length-take-le, take-append-seam}
 use Rattle.limits.specs.Limits.{max-clauses}
 use Rattle.formula.specs.declared.Refusal.the-variants.{Unmatched}
 use Rattle.formula.specs.Format.{Literal, Encodes}
-use Rattle.formula.specs.InnerDecode.{decode}
-use Rattle.formula.specs.Decoding.{Decoding, readable, refused}
-use Rattle.formula.specs.Masked.{variables}
 use Rattle.formula.proofs.Demands.{cut, accepted-all}
 use Rattle.assumptions.proofs.Demands.{no-assumptions}
-use Rattle.matching.specs.Search.{Outcome, success, failure, outcome}
-use Rattle.splitting.specs.Stripping.{Stripped, stripped}
 use Rattle.matched.specs.Acceptance.{acceptance}
 use Rattle.matched.specs.Judge.{Judged, refused-values, judge}
 use Rattle.matched.specs.Pairing.{Pairs, left-of, Pairable, marked}
-use Rattle.matched.specs.WithoutAssumptions.{plain-by-left, plain-by-outcome, plain-by-decoding, plain-acceptance}
+use Rattle.matched.specs.WithoutAssumptions.{plain-acceptance}
 use Rattle.matched.specs.WithoutStripping.{whole-acceptance}
 use Rattle.matched.proofs.AcceptanceLaws.{unpaired-declined}
 use Rattle.matched.proofs.Demands.{acceptance-unassumed, acceptance-kept}
 use Rattle.matched.proofs.JudgeLaws.{judge-declined}
+use Rattle.matched.proofs.UnassumedLaws.{plain-same}
 use Rattle.walk.specs.Task.{Task}
 use Rattle.walk.proofs.Demands.{task-unassumed}
 use Rattle.printing.specs.Printed.{header, refused-line, max-models, walk-lines, acceptance-lines, printed}
@@ -49,20 +46,10 @@ tail-unseen s t h = ap printed (ap (λ (k : ℕ). take k (s ++ t)) (sym h) ∙ t
 
 -- S17.6: what is printed is told without assumptions
 pub printed-unassumed : (s : List ℕ) → printed s ≡ plain-lines (plain-acceptance s)
-unfolding printed plain-acceptance
-printed-unassumed s = ap acceptance-lines (acceptance-unassumed s) ∙ by (decode s)
-  where
-    stripped-at : (n : ℕ) (cs : List (List Literal)) (st : Stripped) (o : Outcome) → acceptance-lines (plain-by-left n cs st o) ≡ plain-lines (plain-by-left n cs st o)
-    stripped-at n cs st (success vs e) = ap (λ (T : Task). header n (length cs) ++ walk-lines T max-models 0) (task-unassumed n cs)
-    stripped-at n cs st (failure taken e) = refl
-
-    at : (n : ℕ) (cs : List (List Literal)) (o : Outcome) → acceptance-lines (plain-by-outcome n cs o) ≡ plain-lines (plain-by-outcome n cs o)
-    at n cs (success vs e) = ap (λ (T : Task). header n (length cs) ++ walk-lines T max-models 0) (task-unassumed n cs)
-    at n cs (failure taken e) = stripped-at n cs (stripped n cs) (outcome (map variables (stripped n cs .left)))
-
-    by : (d : Decoding) → acceptance-lines (plain-by-decoding d) ≡ plain-lines (plain-by-decoding d)
-    by (readable n cs) = at n cs (outcome (map variables cs))
-    by (refused r) = refl
+unfolding printed
+printed-unassumed s =
+    ap acceptance-lines (acceptance-unassumed s)
+    ∙ plain-same acceptance-lines plain-lines (λ n cs row. ap (λ (T : Task). header n (length cs) ++ walk-lines T max-models 0) (task-unassumed n cs)) (λ r row. refl) s
 
 -- S18.4: and for an input of which what remains is matched itself, it is what it is if nothing is stripped
 pub printed-kept : (s : List ℕ) → Pairable s [] → printed s ≡ acceptance-lines (whole-acceptance s [])

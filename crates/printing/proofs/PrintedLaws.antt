@@ -30,7 +30,7 @@ use Rattle.walk.specs.WalkCall.{walk-call}
 use Rattle.walk.specs.InnerLocate.{task-call}
 use Rattle.walk.specs.Results.{says-model, says-ended, answer-kind, plain-result}
 use Rattle.walk.specs.Gaps.{ample-budget, gap-after, gaps-from, gaps, PacedLater, Paced}
-use Rattle.walk.proofs.Demands.{under-size, demand-3, sharper}
+use Rattle.walk.proofs.Demands.{under-size, demand-3, paced-sharper}
 use Rattle.walk.proofs.TaskLaws.{call-plain, last-plain}
 use Rattle.walk.proofs.RefusalLaws.{accepted-posed, call-accepted}
 use Rattle.printing.specs.Printing.{max-input, max-model-line, max-print}
@@ -102,7 +102,7 @@ walk-short s n cs row w j =
     let e = accepted-only s n cs (w .reads) in
     let bs = replicate j ample-budget in
     let d = demand-3 s [] n cs e (none-bad n) (w .vs) (w .pairs) bs .plain in
-    let p = sharper s [] n cs e (none-bad n) (w .vs) (w .pairs) bs in
+    let p = paced-sharper s [] n cs e (none-bad n) (w .vs) (w .pairs) bs in
     first-short T (to-assign T) (to-assign T * (n * suc n)) (z .most) (omega (arith, z .most)) (omega arith) j 0 (rw d at p)
 
 -- a refusal's place is within the input

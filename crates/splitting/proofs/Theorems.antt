@@ -53,7 +53,7 @@ stripped-next n cs l = turns.stripped-next n cs l
 pub stripped-end : (n : ℕ) (cs : List (List Literal)) → n ≤ lowest-with (pure cs) n → stripped n cs ≡ record { noted = []; left = cs }
 stripped-end n cs l = turns.stripped-end n cs l
 
--- S18.1: a clause is left exactly if it names no noted variable.
+-- S6.2: a clause is left exactly if it names no noted variable.
 pub left-exactly : (n : ℕ) (cs : List (List Literal)) (c : List Literal) → List·Memᴰ c cs
     → List·Memᴰ c (stripped n cs .left) ↔ ((y : ℕ) → among (stripped n cs .noted) y ≡ true → names c y ≡ false)
 left-exactly n cs c m = (stripping.left-unnoted n cs c, stripping.unnoted-left n cs c m)

@@ -21,7 +21,7 @@ Below n cs = (v : ℕ) → named cs v ≡ true → v < n
 abbrev pub NonePure : List (List Literal) → Type 0
 NonePure cs = (v : ℕ) → pure cs v ≡ false
 
--- what is left of the clauses once the variables of a list, in order, have dropped theirs
+-- S6.2, S18.2: what is left of the clauses once the variables of a list, in order, have dropped theirs
 unfoldable pub left-after : List ℕ → List (List Literal) → List (List Literal)
 left-after [] cs = cs
 left-after (v ∷ vs) cs = left-after vs (not-naming v cs)

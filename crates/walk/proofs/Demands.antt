@@ -5,7 +5,7 @@ use mathlib.Core.List.{List, [], _∷_, _++_, map, List·Memᴰ}
 use mathlib.Core.Logic.{_⊎_, _↔_}
 use mathlib.Core.Path.{_≡_, sym, ap, _∙_}
 use native.Mathlib.Omega.{arith}
-use lib.ListN.{length, length-map}
+use lib.ListN.{length, length-map, replicate}
 use Rattle.limits.specs.Limits.{max-variables, max-clauses}
 use Rattle.lists.specs.Distinct.{Distinct}
 use Rattle.lists.specs.Every.{Every}
@@ -19,7 +19,7 @@ use Rattle.formula.proofs.Demands.{accepted-only, accepted-all, refused-all}
 use Rattle.assumptions.specs.declared.Assumption.{Assumption}
 use Rattle.assumptions.specs.Assumed.{literal-of}
 use Rattle.assumptions.specs.FirstBad.{NoneBad, FirstBad}
-use Rattle.assumptions.proofs.Demands.{bad-exactly, none-bad-literals, literals-over}
+use Rattle.assumptions.proofs.Demands.{bad-exactly, literals-exactly, none-bad-literals, literals-are, literals-over}
 use Rattle.matched.specs.Acceptance.{Acceptance, accepted, acceptance}
 use Rattle.matched.specs.Judge.{refused-values, judge}
 use Rattle.matched.specs.Pairing.{Pairs, left-of, Pairable, Walkable}
@@ -121,10 +121,14 @@ module _ (s : List ℕ) (us : List Assumption) (n : ℕ) (cs : List (List Litera
   pub demand-3 : (bs : List ℕ) → Dealt s us task bs
   demand-3 = dealt s us task P walks
 
-  -- S9.5: the waits in expansions, sharper: what stripping leaves at a node is matched, so that it has no more clauses than variables, and
-  -- an assignment makes at most s × n × (n + 1), s the variables to assign. In Dealt the bound has the number of clauses.
-  pub sharper : (bs : List ℕ) → Paced (to-assign task) (to-assign task * (n * suc n)) (gaps (walk-calls s us start bs))
-  sharper = laws.calls-paced-sound s us task P walks
+  -- S6.7, S9.5: the same by the number of variables in place of that of the clauses: what stripping leaves at a node of the walk is matched, so
+  -- that no more clauses than variables are tried. One assignment makes at most s × n × (n + 1) expansions, s the variables to assign,
+  pub cheap-sharper : (l : Literal) (e : ℕ) → List·Memᴰ (assigns l e) (plain-walk task) → e ≤ to-assign task * (n * suc n)
+  cheap-sharper = laws.assignment-cheap-sound s us task P walks
+
+  -- and a gap at most s times as many.
+  pub paced-sharper : (bs : List ℕ) → Paced (to-assign task) (to-assign task * (n * suc n)) (gaps (walk-calls s us start bs))
+  paced-sharper = laws.calls-paced-sound s us task P walks
 
   -- S10, demands 2 and 3: the listing has the models of the formula that keep the assumptions and no others: `exact`, over the formula
   -- itself
@@ -225,6 +229,20 @@ pub unmatched : (s : List ℕ) (us : List Assumption) (buffer : List ℕ) (n : �
     → Encodes s n cs → NoneBad n us → ((vs : List ℕ) → Pairs (left-of n (map literal-of us) cs) vs → ⊥)
     → (k : ℕ) × (judge s us buffer .answer ≡ refused-values (Unmatched k)) × (walk-call s us c b ≡ refusing (Unmatched k) c)
 unmatched s us buffer n cs c b l w good = refusals.call-unmatched s us buffer n (map literal-of us) cs c b l (accepted-all s n cs w) (none-bad-literals n us good)
+
+-- S18.1: so the number is 10 exactly for such an input, whatever the checkpoint and the budget.
+pub unmatched-exactly : (s : List ℕ) (us : List Assumption) (c : Checkpoint) (b : ℕ)
+    → (walk-call s us c b .number ≡ 10)
+    ↔ ((n : ℕ) × (cs : List (List Literal)) × Encodes s n cs × NoneBad n us × ((vs : List ℕ) → Pairs (left-of n (map literal-of us) cs) vs → ⊥))
+unmatched-exactly s us c b = (
+  λ e.
+      let w = refusals.called-unmatched s us c b e in
+      let q = literals-are (w .0) us (w .1) (w .4) in
+      (w .0, w .2, accepted-only s (w .0) (w .2) (w .3), literals-exactly (w .0) us .0 (w .1, w .4), rw q at (w .5)),
+  λ w.
+      let x = refusals.call-unmatched s us (replicate max-clauses 0) (w .0) (map literal-of us) (w .1) c b (omega arith) (accepted-all s (w .0) (w .1) (w .2)) (none-bad-literals (w .0) us (w .3)) (w .4) in
+      ap (λ (r : Result). r .number) (x .2),
+)
 
 -- S17.1: a readable input with a bad assumption is refused by 16, at the index of the first; the checkpoint comes back, and all else is 0.
 pub bad-assumption : (s : List ℕ) (us : List Assumption) (n : ℕ) (cs : List (List Literal)) (i : ℕ) (c : Checkpoint) (b : ℕ) → Encodes s n cs → FirstBad n us i

@@ -1,5 +1,5 @@
 -- Which inputs are walked at all, under which assumptions: the refusals 2 to 10 and 16; and that a call returns a checkpoint of 48 bytes.
-use Prim.Native.Nat.{ℕ, _≤_}
+use Prim.Native.Nat.{ℕ, _≤_, _<_}
 use mathlib.Core.List.{List, [], _∷_, map}
 use mathlib.Core.Logic.{_↔_}
 use mathlib.Core.Path.{_≡_, refl, ap, _∙_}
@@ -9,19 +9,18 @@ use Rattle.limits.specs.Limits.{max-variables, max-clauses}
 use Rattle.formula.specs.declared.Refusal.{Refusal}
 use Rattle.formula.specs.declared.Refusal.the-variants.{Unmatched, BadAssumption}
 use Rattle.formula.specs.InnerDecode.{decode}
-use Rattle.formula.specs.Decoding.{Decoding, readable, refused}
+use Rattle.formula.specs.Decoding.{readable, refused}
 use Rattle.formula.specs.Format.{Literal}
 use Rattle.formula.specs.Masked.{variables}
 use Rattle.formula.proofs.Demands.{numbers}
 use Rattle.assumptions.specs.declared.Assumption.{Assumption}
 use Rattle.assumptions.specs.Assumed.{literals, bad, literal-of, assumed}
-use Rattle.matching.specs.Search.{Outcome, success, failure, outcome}
-use Rattle.splitting.specs.Stripping.{Stripped, stripped}
 use Rattle.matched.specs.Acceptance.{Acceptance, accepted, declined, acceptance}
 use Rattle.matched.specs.Judge.{Judged, refused-values, judge}
 use Rattle.matched.specs.Pairing.{Pairs, left-of, Walkable, marked}
-use Rattle.matched.specs.WithoutAssumptions.{plain-by-left, plain-by-outcome, plain-by-decoding, plain-acceptance}
+use Rattle.matched.specs.WithoutAssumptions.{plain-acceptance}
 use Rattle.matched.proofs.Demands.{acceptance-unassumed}
+use Rattle.matched.proofs.UnassumedLaws.{plain-same}
 use Rattle.matched.proofs.JudgeLaws.{judge-declined}
 use Rattle.matched.proofs.AcceptanceLaws.{left-sound, paired, strips, unpaired, Comes, of-formula, bad-assumed, unreadable, comes, accepted-is, accepted-walkable, walkable-accepted, unpaired-declined, bad-declined, unreadable-declined}
 use Rattle.walk.specs.Task.{Task, under, Posed}
@@ -33,6 +32,11 @@ use Rattle.walk.specs.InnerLocate.{Located, at-state, nowhere, located, 
 use Rattle.walk.specs.Results.{says-refused, Result, refusing}
 use Rattle.walk.proofs.TaskLaws.{calls-unrefused, call-is, after-bytes}
 use Rattle.walk.proofs.UnderLaws.{under-posed, under-none}
+
+-- a call on a task is refused by 11 or by nothing
+walked-number : (T : Task) (c : Checkpoint) (b : ℕ) (x : Located) {k : ℕ} → 0 < k → (k ≡ 11 → ⊥) → by-state T c x b .number ≡ k → ⊥
+walked-number T c b (at-state i) some other e = omega arith
+walked-number T c b nowhere some other e = other (omega arith)
 
 module _ (s : List ℕ) (us : List Assumption) where
   -- a declined input gets its refusal
@@ -89,40 +93,40 @@ module _ (s : List ℕ) (us : List Assumption) where
   pub walked-exactly : (b : ℕ) → (walk-call s us start b .kind ≡ says-refused → ⊥) ↔ Walkable s us
   walked-exactly b = (unrefused-walkable start b, walkable-unrefused b)
 
+  -- a call is refused by 10 only where what stripping leaves can't be paired
+  pub called-unmatched : (c : Checkpoint) (b : ℕ) → walk-call s us c b .number ≡ 10
+      → (n : ℕ) × (t : List Literal) × (cs : List (List Literal)) × (decode s ≡ readable n cs) × (assumed n us ≡ literals t) × ((vs : List ℕ) → Pairs (left-of n t cs) vs → ⊥)
+  unfolding walk-call task-call
+  called-unmatched c b = by (comes s us)
+    where
+      by : {a : Acceptance} → Comes s us a → call-on a c b .number ≡ 10
+          → (n : ℕ) × (t : List Literal) × (cs : List (List Literal)) × (decode s ≡ readable n cs) × (assumed n us ≡ literals t) × ((vs : List ℕ) → Pairs (left-of n t cs) vs → ⊥)
+      by (of-formula n t cs reads assumes (paired vs w)) e = absurd (walked-number (under n t cs) c b (located (under n t cs) c) (omega arith) (λ z. omega arith) e)
+      by (of-formula n t cs reads assumes (strips vs none w)) e = absurd (walked-number (under n t cs) c b (located (under n t cs) c) (omega arith) (λ z. omega arith) e)
+      by (of-formula n t cs reads assumes (unpaired ms v none)) e = (n, t, cs, reads, assumes, none)
+      by (bad-assumed n cs j reads assumes) e = absurd (omega arith)
+      by (unreadable r reads) e = absurd (omega (arith, numbers s r reads .1))
+
   -- a call is refused by 16 only where the input is readable and an assumption is bad, the first at the place
   pub called-bad : (c : Checkpoint) (b i : ℕ) → walk-call s us c b .number ≡ 16 → walk-call s us c b .place ≡ i
       → (n : ℕ) × (cs : List (List Literal)) × (decode s ≡ readable n cs) × (assumed n us ≡ bad i)
   unfolding walk-call task-call
   called-bad c b i = by (comes s us)
     where
-      walked : (T : Task) (x : Located) → by-state T c x b .number ≡ 16 → ⊥
-      walked T (at-state k) e = omega arith
-      walked T nowhere e = omega arith
-
       by : {a : Acceptance} → Comes s us a → call-on a c b .number ≡ 16 → call-on a c b .place ≡ i
           → (n : ℕ) × (cs : List (List Literal)) × (decode s ≡ readable n cs) × (assumed n us ≡ bad i)
-      by (of-formula n t cs reads assumes (paired vs w)) e p = absurd (walked (under n t cs) (located (under n t cs) c) e)
-      by (of-formula n t cs reads assumes (strips vs none w)) e p = absurd (walked (under n t cs) (located (under n t cs) c) e)
+      by (of-formula n t cs reads assumes (paired vs w)) e p = absurd (walked-number (under n t cs) c b (located (under n t cs) c) (omega arith) (λ z. omega arith) e)
+      by (of-formula n t cs reads assumes (strips vs none w)) e p = absurd (walked-number (under n t cs) c b (located (under n t cs) c) (omega arith) (λ z. omega arith) e)
       by (of-formula n t cs reads assumes (unpaired ms v none)) e p = absurd (omega arith)
       by (bad-assumed n cs j reads assumes) e p = (n, cs, reads, assumes ∙ ap bad p)
       by (unreadable r reads) e p = absurd (omega (arith, numbers s r reads .1))
 
 -- on an empty list a call is what it is without assumptions
 pub called-unassumed : (s : List ℕ) (c : Checkpoint) (b : ℕ) → walk-call s [] c b ≡ plain-call-on (plain-acceptance s) c b
-unfolding walk-call plain-acceptance
-called-unassumed s c b = ap (λ (a : Acceptance). call-on a c b) (acceptance-unassumed s) ∙ by (decode s)
-  where
-    stripped-at : (n : ℕ) (cs : List (List Literal)) (st : Stripped) (o : Outcome) → call-on (plain-by-left n cs st o) c b ≡ plain-call-on (plain-by-left n cs st o) c b
-    stripped-at n cs st (success vs e) = ap (λ (T : Task). task-call T c b) (under-none n cs)
-    stripped-at n cs st (failure taken e) = refl
-
-    at : (n : ℕ) (cs : List (List Literal)) (o : Outcome) → call-on (plain-by-outcome n cs o) c b ≡ plain-call-on (plain-by-outcome n cs o) c b
-    at n cs (success vs e) = ap (λ (T : Task). task-call T c b) (under-none n cs)
-    at n cs (failure taken e) = stripped-at n cs (stripped n cs) (outcome (map variables (stripped n cs .left)))
-
-    by : (d : Decoding) → call-on (plain-by-decoding d) c b ≡ plain-call-on (plain-by-decoding d) c b
-    by (readable n cs) = at n cs (outcome (map variables cs))
-    by (refused r) = refl
+unfolding walk-call
+called-unassumed s c b =
+    ap (λ (a : Acceptance). call-on a c b) (acceptance-unassumed s)
+    ∙ plain-same (λ a. call-on a c b) (λ a. plain-call-on a c b) (λ n cs row. ap (λ (T : Task). task-call T c b) (under-none n cs)) (λ r row. refl) s
 
 -- ---- the bytes of a checkpoint
 

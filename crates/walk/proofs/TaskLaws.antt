@@ -350,7 +350,11 @@ module _ (s : List ℕ) (us : List Assumption) (T : Task) (P : Posed T) (walks :
 
   -- the expansions of one assignment
   pub assignment-cheap : (l : Literal) (e : ℕ) → List·Memᴰ (assigns l e) (plain-walk T) → e ≤ step-bound T
-  assignment-cheap l e m = walk-cheap (tree T) (step-bound T) (cheap T P) l e (rw (walk-same T) at m)
+  assignment-cheap l e m = walk-cheap (tree T) (step-bound T) (λ t r. cheap T P t) l e (rw (walk-same T) at m)
+
+  -- and by the number of variables alone
+  pub assignment-cheap-sound : (l : Literal) (e : ℕ) → List·Memᴰ (assigns l e) (plain-walk T) → e ≤ to-assign T * (T .variables * suc (T .variables))
+  assignment-cheap-sound l e m = walk-cheap (tree T) (to-assign T * (T .variables * suc (T .variables))) (cheap-sound T P) l e (rw (walk-same T) at m)
 
   -- a variable of the trail is none of those assigned before
   pub behind-apart : (k v : ℕ) → names (behind T k .trail) v ≡ true → names (T .before) v ≡ false

@@ -1,7 +1,7 @@
 -- `matched::match_row` meets its contract: by whether all clauses are matched.
 use borrow.Author.Needs.{needs}
 use native.Mathlib.Omega.{arith}
-use Rattle.matched.proofs.AcceptLaws.{answers-small, whole-represents, stripped-represents}
+use Rattle.matched.proofs.AcceptLaws.{answers-fit, whole-represents, stripped-represents}
 use Rattle.matched.proofs.match_row.Statement.{statement}
 use Rattle.matched.proofs.match_row.Tie as tie
 
@@ -11,7 +11,7 @@ match-open-requires c κs = search needs
 spread-requires : tie.Need-spread-requires
 spread-requires c κs =
     let m = c .before .before in
-    (m .before .pre .few, λ i l. omega (arith, answers-small _ (m .before .pre) _ (m .match-open .result) (m .match-open .ensures) i l))
+    answers-fit _ (m .before .pre) _ (m .match-open .result) (m .match-open .ensures) 1 (omega arith)
 
 returns : tie.Need-returns
 returns c n t cs z o q d =

@@ -1,7 +1,7 @@
 -- `matched::strip_row` meets its contract: by whether all clauses that are left are matched.
 use borrow.Author.Needs.{needs}
 use native.Mathlib.Omega.{arith}
-use Rattle.matched.proofs.AcceptLaws.{answers-small, notes-fit, left-represents, unmatched-represents}
+use Rattle.matched.proofs.AcceptLaws.{answers-fit, notes-fit, left-represents, unmatched-represents}
 use Rattle.matched.proofs.strip_row.Statement.{statement}
 use Rattle.matched.proofs.strip_row.Tie as tie
 
@@ -14,8 +14,7 @@ match-open-requires c κs = search needs
 spread-requires : tie.Need-spread-requires
 spread-requires c κs =
     let m = c .before .before in
-    let p = m .before .before .pre in
-    (p .few, λ i l. omega (arith, answers-small _ p _ (m .match-open .result) (m .match-open .ensures) i l))
+    answers-fit _ (m .before .before .pre) _ (m .match-open .result) (m .match-open .ensures) 1 (omega arith)
 
 tell-dropped-requires : tie.Need-tell-dropped-requires
 tell-dropped-requires c κs =
@@ -31,8 +30,7 @@ returns c n t cs z over q d =
 spread-requires-2 : tie.Need-spread-requires-2
 spread-requires-2 c κs =
     let m = c .before .before in
-    let p = m .before .before .pre in
-    (p .few, λ i l. omega (arith, answers-small _ p _ (m .match-open .result) (m .match-open .ensures) i l))
+    answers-fit _ (m .before .before .pre) _ (m .match-open .result) (m .match-open .ensures) 0 (omega arith)
 
 returns-2 : tie.Need-returns-2
 returns-2 c n t cs z over q d =
