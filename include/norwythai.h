@@ -31,11 +31,11 @@
  * assignment is a 64-bit number: variable v, counted from 1, is true if bit v - 1 is set. A model is an assignment in which every clause
  * has a literal that is true, and no variable above n is.
  *
- * ACCEPTED formulas are those that judge, walk and list are for. Clauses are matched if each can have a variable that it names, no
- * variable used twice. Stripping (pure literal elimination) takes the lowest variable that the clauses name one way only, as positive or
- * as negative literals, notes it and drops all clauses that name it, and goes on with the clauses that are left until there is no such
- * variable. A formula is accepted if it is matched, or if what stripping leaves of it is. So it may have more clauses than variables. All
- * three functions accept the same formulas, under the same assumptions.
+ * ACCEPTED formulas are those that judge accepts and that walk and list go through. Clauses are matched if each can have a variable that
+ * it names, no variable used twice. Stripping (pure literal elimination) takes the lowest variable that the clauses name one way only, as
+ * positive or as negative literals, notes it and drops all clauses that name it, and goes on with the clauses that are left until there is
+ * no such variable. A formula is accepted if it is matched, or if what stripping leaves of it is. So it may have more clauses than
+ * variables. All three functions accept the same formulas, under the same assumptions.
  *
  * ASSUMPTIONS are values that judge, walk and list are to take for some variables. The list has two bytes for each: the variable,
  * counted from 1, and its value, 0 for false and any other byte for true. `assumptions_length` counts bytes; with 0 nothing is assumed.

@@ -46,7 +46,7 @@ impl<S: ClauseSet> Occurrences<S> {
     }
 }
 
-/// What is left of the formula when some variables are assigned.
+/// What remains of the formula when some variables are assigned.
 #[derive(Clone, Copy, Default)]
 pub(crate) struct Node<S> {
     /// The variables without a value.

@@ -17,6 +17,10 @@ const IN_PART: &[u8] = &[1, 3, 2, 1, 4, 2, 1, 4, 2, 2, 2, 3, 4, 3, 2, 3, 3, 4, 5
 /// (2) (2) (1) (not 1)
 const LEFT_UNMATCHED: &[u8] = &[1, 3, 2, 2, 4, 2, 2, 4, 2, 1, 4, 3, 1, 4, 5];
 
+/// The example of README.md, in which stripping drops the first five of seven clauses, as DIMACS text and encoded.
+const ATHLETICS_TEXT: &[u8] = include_bytes!("../../../examples/athletics.cnf");
+const ATHLETICS: &[u8] = include_bytes!("../../../examples/athletics.bin");
+
 /// 96 times (1)
 fn most_clauses() -> Vec<u8> {
     [&[1, 1][..], &[2, 1, 4].repeat(96), &[5]].concat()
@@ -115,4 +119,39 @@ fn a_stripped_formula_is_walked_and_listed() {
     assert_eq!(all.next(), Some(Ok(Assignment::from_bits(0b101))));
     let rest = formula.models_from(all.checkpoint());
     assert!(rest.eq([Ok(Assignment::from_bits(0b011))]));
+}
+
+/// All models, a digit for each of five variables, in the order of the walk.
+fn lines(models: Models) -> Vec<String> {
+    models.map(|m| m.unwrap().digits(5).to_string()).collect()
+}
+
+#[test]
+fn the_athletics_example_is_what_its_readme_says() {
+    let formula = Formula::from_dimacs(ATHLETICS_TEXT).unwrap();
+    assert_eq!(formula.as_bytes(), ATHLETICS);
+    let judged = formula.judge(&[]).unwrap();
+    assert_eq!((judged.variables(), judged.clauses()), (5, 7));
+    assert_eq!(judged.matched(), [130, 130, 130, 129, 129, 3, 4]);
+    assert_eq!(
+        lines(formula.models()),
+        ["01010", "11010", "11011", "11100", "11101"]
+    );
+    let counts = walked(ATHLETICS, &[]).into_iter();
+    let counts: Vec<(u32, u64)> = counts
+        .map(|(_, steps, expansions)| (steps, expansions))
+        .collect();
+    assert_eq!(counts, [(5, 2), (2, 0), (8, 0), (10, 0), (8, 0), (5, 0)]);
+
+    let third = [Assumption::positive(3)];
+    let judged = formula.judge(&third).unwrap();
+    assert_eq!(judged.matched(), [130, 130, 130, 129, 129, 0, 132]);
+    assert_eq!(lines(formula.models_under(&third)), ["11100", "11101"]);
+
+    let not_first = [Assumption::negative(1)];
+    let mut buffer = [7; 96];
+    let refusal = judge_into(ATHLETICS, &not_first, &mut buffer).unwrap_err();
+    assert_eq!((refusal.number(), refusal.place()), (10, 3));
+    assert_eq!(buffer[..8], [0, 0, 0, 1, 0, 1, 1, 7]);
+    assert!(formula.models_under(&not_first).eq([Err(refusal)]));
 }

@@ -1,4 +1,4 @@
-//! Which formulas are accepted (S5.6), and the act judge.
+//! Which formulas are accepted (S5.6, S18), and the act judge.
 
 use crate::assumptions::Assumption;
 use crate::bits::bit;

@@ -100,8 +100,8 @@ fn try_upward(left: &[Clause]) -> Choice {
     unreachable!("the source's theorem 5.9: some variable passes its trial")
 }
 
-/// One half of a trial: whether the clauses can be matched once the variable has the value. They are matched as they are, so that there
-/// are no more of them than variables.
+/// One half of a trial: whether the clauses can be matched once the variable has the value. What stripping leaves at a node of a walk is
+/// matched, so that there are no more of these clauses than variables.
 fn try_value(left: &[Clause], variable: usize, value: bool, matching: &mut Matching) -> bool {
     let mut named = [0; MAX_VARIABLES];
     let mut count = 0;

@@ -143,14 +143,14 @@ fn print_takes_16_384_bytes_as_the_whole() {
 }
 
 #[test]
-fn unmatched_formulas_have_a_violator() {
+fn formulas_that_are_not_accepted_have_a_violator() {
     let mut buffer = [170; 96];
     assert_eq!(judge(&[1, 1, 4, 5], &[], &mut buffer), Err(refusal(10, 1)));
     assert_eq!(buffer[..2], [1, 170]);
     let both = encode(1, &[vec![1], vec![-1]]);
     assert_eq!(judge(&both, &[], &mut buffer), Err(refusal(10, 2)));
     assert_eq!(buffer[..3], [1, 1, 170]);
-    // The checkpoint is tested after the matching.
+    // The checkpoint is tested only once the formula is accepted.
     assert_eq!(walk(&both, &[], &[9; 50], 0), Err(refusal(10, 2)));
     assert_eq!(check(&both, 1), Ok(false));
 }

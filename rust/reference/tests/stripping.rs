@@ -36,9 +36,10 @@ type Accepted<'a> = (usize, &'a [&'a [i8]], &'a [Assumption], &'a [u8]);
 
 #[test]
 fn dropped_clauses_have_the_noted_variable() {
+    let first = [Assumption::from((1, true))];
     let second = [Assumption::from((2, true))];
     let pair: [&[i8]; 4] = [&[1], &[1], &[2, 3], &[-2, -3]];
-    let cases: [Accepted; 8] = [
+    let cases: [Accepted; 9] = [
         (1, &[&[1], &[1]], &[], &[129, 129]),
         (2, &[&[1], &[1], &[1, 2], &[-2]], &[], &[129, 129, 129, 130]),
         // What is left is matched; under the assumption it is (not 3), which is dropped.
@@ -60,7 +61,10 @@ fn dropped_clauses_have_the_noted_variable() {
         ),
         // As a whole it is matched, so that nothing is stripped.
         (2, &[&[1], &[1, 2]], &[], &[1, 2]),
+        // The third is satisfied, and what remains is (1) (1), which is dropped.
         (2, &[&[1], &[1], &[2]], &second, &[129, 129, 0]),
+        // What remains is (2) (2). Without the assumption no variable is pure.
+        (2, &[&[-1, 2], &[-1, 2], &[1, -2]], &first, &[130, 130, 0]),
     ];
     for (variables, clauses, assumptions, row) in cases {
         let clauses: Clauses = clauses.iter().map(|clause| clause.to_vec()).collect();
@@ -74,7 +78,9 @@ fn dropped_clauses_have_the_noted_variable() {
 
 #[test]
 fn marks_are_those_of_the_left_clauses() {
-    let cases: [(&[&[i8]], &[u8]); 4] = [
+    let cases: [(&[&[i8]], &[u8]); 5] = [
+        // Nothing is dropped.
+        (&[&[-1, 2], &[-1, 2], &[1, -2]], &[1, 1, 1]),
         // As a whole the first two would be marked.
         (&[&[2], &[2], &[1], &[-1]], &[0, 0, 1, 1]),
         (&[&[1], &[-1], &[2], &[-1], &[2]], &[1, 1, 0, 0, 0]),
@@ -291,7 +297,13 @@ fn acceptance_is_that_of_the_definition() {
         let count = seen.get(&(list, kind)).copied().unwrap_or(0);
         assert!(count >= inputs / 100, "{list}: {kind}: only {count}");
     }
-    for (kind, least) in KINDS.into_iter().zip([1, 10, 100, 50, 0, 5]) {
+    // The inputs are generated as those of the vectors are, of which rust/README.md says: about one in five.
+    let stripped = [KINDS[2], KINDS[3]].map(|kind| seen[&("without", kind)]);
+    let percent = 100 * stripped.iter().sum::<usize>() / inputs;
+    assert!((17..=24).contains(&percent), "{percent} of a hundred");
+    // Without the list refused and none dropped: that never came by chance, and stands among the cases above.
+    let without = [(0, 1), (1, 10), (2, 100), (3, 50), (5, 5)];
+    for (kind, least) in without.map(|(kind, least)| (KINDS[kind], least)) {
         let count = seen.get(&(DROPPED_UNDER, kind)).copied().unwrap_or(0);
         assert!(count >= least, "{DROPPED_UNDER}: {kind}: only {count}");
     }

@@ -15,7 +15,7 @@
 /* Two variables, of which exactly one is true. */
 static const uint8_t INPUT[] = {1, 2, 2, 1, 2, 2, 4, 3, 1, 3, 2, 4, 5};
 
-/* One variable, and two clauses that both name it. */
+/* One variable, and two clauses, (1) and (not 1): stripping drops neither. */
 static const uint8_t UNMATCHED[] = {1, 1, 2, 1, 4, 3, 1, 4, 5};
 
 /* A literal that comes again, which counts once, and a variable that is named both ways. */
