@@ -69,6 +69,15 @@ refusal-of (refused r) = table-row r
 abbrev pub number-at : ℕ → ℕ → TableRow
 number-at k p = record { number = k; place = p }
 
+-- S5.7: judge accepts n variables and as many clauses as the row has bytes, and writes the row into a buffer that is not short
+abbrev pub AcceptedUnder : List ℕ → List Assumption → ℕ → List ℕ → Type 0
+AcceptedUnder s us n row =
+    (b : List ℕ) → max-clauses ≤ length b
+    → judge s us b ≡ record { answer = accepted-values n (length row); buffer = row ++ drop (length row) b }
+
+abbrev pub AcceptedAs : List ℕ → ℕ → List ℕ → Type 0
+AcceptedAs s n row = AcceptedUnder s [] n row
+
 -- S5.7: judge refuses by 10 with this place, and writes these marks into a buffer that is not short
 abbrev pub UnmatchedUnder : List ℕ → List Assumption → ℕ → List ℕ → Type 0
 UnmatchedUnder s us p marks =

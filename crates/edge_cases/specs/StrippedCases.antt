@@ -1,25 +1,12 @@
 -- The cases of formulas that strip down, as one table (S18), written as in specs/MarkedCases.antt.
-use Prim.Native.Nat.{ℕ, _≤_}
+use Prim.Native.Nat.{ℕ}
 use mathlib.Core.List.{List, [], _∷_, _++_}
 use mathlib.Core.Path.{_≡_}
-use lib.ListN.{length, drop}
-use Rattle.limits.specs.Limits.{max-clauses}
 use Rattle.writing.specs.Text.{line-feed, blank}
 use Rattle.formula.specs.Format.{formula-bytes}
-use Rattle.assumptions.specs.declared.Assumption.{Assumption}
-use Rattle.matched.specs.Judge.{accepted-values, judge}
 use Rattle.printing.specs.Printed.{switches-word, rules-word, end-word, printed}
-use Rattle.edge_cases.specs.MarkedCases.{on, model-at, end-at, walked-under, walked, UnmatchedAt}
+use Rattle.edge_cases.specs.MarkedCases.{on, model-at, end-at, walked-under, walked, AcceptedUnder, AcceptedAs, UnmatchedAt}
 use Rattle.edge_cases.specs.AssumedCases.{assume-on}
-
--- S5.7: judge accepts n variables and as many clauses as the row has bytes, and writes the row into a buffer that is not short
-abbrev pub AcceptedUnder : List ℕ → List Assumption → ℕ → List ℕ → Type 0
-AcceptedUnder s us n row =
-    (b : List ℕ) → max-clauses ≤ length b
-    → judge s us b ≡ record { answer = accepted-values n (length row); buffer = row ++ drop (length row) b }
-
-abbrev pub AcceptedAs : List ℕ → ℕ → List ℕ → Type 0
-AcceptedAs s n row = AcceptedUnder s [] n row
 
 -- 1 variable, the clause (1) twice
 abbrev pub twice : List ℕ

@@ -122,8 +122,8 @@ module _ (s : List ℕ) (us : List Assumption) (n : ℕ) (cs : List (List Litera
   strips : StripsTo n cs t
   strips = strips-to n cs (omega (arith, fits .most)) (formula-below n cs (fits .clauses)) t (literals-over n us t (none-bad-literals n us good))
 
-  -- S18.2: what remains is not matched, but what stripping leaves of it is. Judge gives the numbers of variables and of clauses, and the first
-  -- bytes of the buffer are spread from a matching of what is left; no other byte changes,
+  -- S18.2: what remains is not matched, but what stripping leaves of it is. Judge gives the numbers of variables and of clauses, and the
+  -- first bytes of the buffer are spread from a matching of what is left; no other byte changes,
   pub stripped-buffer : (b : List ℕ) → max-clauses ≤ length b → (vs : List ℕ) → Pairs (left-of n t cs) vs → ((ws : List ℕ) → Pairs (remaining t cs) ws → ⊥)
       → (ws : List ℕ) × Pairs (left-of n t cs) ws
       × (judge s us b ≡ record { answer = accepted-values n (length cs); buffer = over (spread (stripped-byte t (noted-of n t cs)) cs (map suc ws)) b })
@@ -131,7 +131,7 @@ module _ (s : List ℕ) (us : List Assumption) (n : ℕ) (cs : List (List Litera
       let x = stripped-accepted s us n t cs (accepted-all s n cs encodes) (none-bad-literals n us good) vs p none in
       (x .0, x .1, judge-accepted s us b long n t cs _ (x .2))
 
-  -- these bytes, told clause by clause: 0, or 128 and the variable that drops it, or the variable that a left one is matched with,
+  -- these bytes, told clause by clause: 0, or 128 plus the variable that drops it, or the variable that a left one is matched with,
   pub stripped-bytes : (vs : List ℕ) → Pairs (left-of n t cs) vs → PairsStripped n t cs (spread (stripped-byte t (noted-of n t cs)) cs (map suc vs))
   stripped-bytes = unders.pairs-stripped fits strips
 
@@ -169,7 +169,8 @@ module _ (s : List ℕ) (us : List Assumption) (n : ℕ) (cs : List (List Litera
       ViolatorUnder n t cs row × (length (marked row cs) ≡ length (marked ms (left-of n t cs))))
   refused-bytes ms v = (unders.violator-under fits strips ms v, unders.marked-many fits strips ms v)
 
--- S10, demand 2: the number is 10 exactly if the input is readable, none of the assumptions is bad, and what stripping leaves is not matched
+-- S10, demand 2: the number is 10 exactly if the input is readable, none of the assumptions is bad, and what stripping leaves is not
+-- matched
 pub unmatched-exactly : (s : List ℕ) (us : List Assumption) (b : List ℕ) → max-clauses ≤ length b
     → (judge s us b .answer .number ≡ 10)
     ↔ ((n : ℕ) × (cs : List (List Literal)) × Encodes s n cs × NoneBad n us × ((vs : List ℕ) → Pairs (left-of n (map literal-of us) cs) vs → ⊥))

@@ -22,8 +22,8 @@ pub record Pairs (cs : List (List Literal)) (vs : List ℕ) : Type 0 where
   pub named : (i : ℕ) → i < length cs → names (getD cs i []) (getD vs i 0) ≡ true
   pub distinct : (i j : ℕ) → i < length cs → j < length cs → getD vs i 0 ≡ getD vs j 0 → i ≡ j
 
--- S17.2: the bytes of a formula of which what remains under the literals t is matched whole: a byte for each clause, which is 0 for one that t satisfies and for another
--- the number, from 1, of a variable that the clause names and t does not; none of those twice
+-- S17.2: the bytes of a formula of which what remains under the literals t is matched whole: a byte for each clause, which is 0 for one that
+-- t satisfies and for another the number, from 1, of a variable that the clause names and t does not; none of those twice
 pub record PairsUnder (t : List Literal) (cs : List (List Literal)) (row : List ℕ) : Type 0 where
   pub one-each : length row ≡ length cs
   pub satisfied : (i : ℕ) → i < length cs → satisfied-by t (getD cs i []) ≡ true → getD row i 0 ≡ 0
@@ -49,7 +49,8 @@ abbrev pub left-of : ℕ → List Literal → List (List Literal) → List (List
 left-of n t cs = stripped n (remaining t cs) .left
 
 -- S18.1: the input is readable, none of the assumptions is bad, and what stripping leaves of what remains is matched: under the assumptions
--- the formula is pure literal matched (definition 5.2 of the source; request: what stripping leaves can be paired, and from slip 5 on pairable)
+-- the formula is pure literal matched (definition 5.2 of the source; request: what stripping leaves can be paired, and from slip 5 on
+-- pairable)
 pub record Walkable (s : List ℕ) (us : List Assumption) : Type 0 where
   pub variables : ℕ
   pub clauses : List (List Literal)
@@ -58,8 +59,8 @@ pub record Walkable (s : List ℕ) (us : List Assumption) : Type 0 where
   pub vs : List ℕ
   pub pairs : Pairs (left-of variables (map literal-of us) clauses) vs
 
--- S18.2: the bytes of a formula that is accepted after stripping: 0 for a clause that t satisfies; of the others 128 plus the variable, from
--- 1, that drops it for a dropped one, and for one that is left the number, from 1, of a variable that it names and t does not; none of
+-- S18.2: the bytes of a formula that is accepted after stripping: 0 for a clause that t satisfies; of the others 128 plus the variable,
+-- from 1, that drops it for a dropped one, and for one that is left the number, from 1, of a variable that it names and t does not; none of
 -- those twice
 pub record PairsStripped (n : ℕ) (t : List Literal) (cs : List (List Literal)) (row : List ℕ) : Type 0 where
   pub one-each : length row ≡ length cs

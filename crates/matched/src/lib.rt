@@ -31,8 +31,9 @@ use splitting::Assignment;
 use splitting::Stripping;
 
 // What comes of an input (`acceptance`), beside its formula: whether it is accepted, and the first `length` bytes of the table: for each
-// clause 0 if an assumption satisfies it, else its variable, from 1, or, if stripping dropped it, 128 plus the variable that dropped it; or,
-// where what stripping leaves can't be matched, 1 for a marked clause and 0 for another. Another refused input has no bytes. Zeros follow.
+// clause 0 if an assumption satisfies it, else its variable, from 1, or, if stripping dropped it, 128 plus the variable that dropped it;
+// or, where what stripping leaves can't be matched, 1 for a marked clause and 0 for another. Another refused input has no bytes. Zeros
+// follow.
 pub struct Row {
     pub outcome: Outcome,
     pub length: usize,
@@ -180,8 +181,8 @@ fn no_row(refusal: Refusal) -> Row
     }
 }
 
-// S5.6, S17.2, S18.1: what comes of an input, by the reader's answer and the assumptions. The formula stays with the caller: to hand it on would be to
-// copy it.
+// S5.6, S17.2, S18.1: what comes of an input, by the reader's answer and the assumptions. The formula stays with the caller: to hand it on
+// would be to copy it.
 pub fn accept(outcome: Outcome, f: Formula, u: Assumptions) -> Row
     requires { ⌜ ((s : List ℕ) × (us : List Assumption) × ReaderGives s outcome f × MasksOf s us u) ⌝ }
     ensures { λ r. ⌜ ((s : List ℕ) (us : List Assumption) → ReaderGives s outcome f → MasksOf s us u → Represents (acceptance s us) f r) ⌝ }

@@ -1,6 +1,6 @@
 -- What the print owes to the limit of its input (S12.2): of a longer input the program takes the first 16,384 bytes as the whole. That
--- assumptions, of which it takes none, change nothing in it (S17.6). And what it is where a formula is refused by 10 (S18.3), and where one is
--- matched whole (S18.4).
+-- assumptions, of which it takes none, change nothing in it (S17.6). And what it is where a formula is refused by 10 (S18.3), and where
+-- one is matched whole (S18.4).
 use Prim.Native.Nat.{ℕ, _≤_, _<_}
 use mathlib.Core.List.{List, [], _++_}
 use mathlib.Core.Path.{_≡_, refl, sym, ap, _∙_}

@@ -97,8 +97,8 @@ module _ (s : List ℕ) (us : List Assumption) (T : Task) (P : Posed T) (walks :
     ample = laws.calls-ample s us T P walks bs;
   }
 
--- S5.6, S17.2, S18.1: an accepted formula: the input encodes n and cs, none of the assumptions is bad, and vs is a matching of what stripping
--- leaves of what remains of the clauses.
+-- S5.6, S17.2, S18.1: an accepted formula: the input encodes n and cs, none of the assumptions is bad, and vs is a matching of what
+-- stripping leaves of what remains of the clauses.
 module _ (s : List ℕ) (us : List Assumption) (n : ℕ) (cs : List (List Literal)) (encodes : Encodes s n cs) (good : NoneBad n us)
     (vs : List ℕ) (pairs : Pairs (left-of n (map literal-of us) cs) vs) where
   -- what its walk is over
@@ -121,8 +121,8 @@ module _ (s : List ℕ) (us : List Assumption) (n : ℕ) (cs : List (List Litera
   pub demand-3 : (bs : List ℕ) → Dealt s us task bs
   demand-3 = dealt s us task P walks
 
-  -- S6.7, S9.5: the same by the number of variables in place of that of the clauses: what stripping leaves at a node of the walk is matched, so
-  -- that no more clauses than variables are tried. One assignment makes at most s × n × (n + 1) expansions, s the variables to assign,
+  -- S6.7, S9.5: the same by the number of variables in place of that of the clauses: what stripping leaves at a node of the walk is matched,
+  -- so that no more clauses than variables are tried. One assignment makes at most s × n × (n + 1) expansions, s the variables to assign,
   pub cheap-sharper : (l : Literal) (e : ℕ) → List·Memᴰ (assigns l e) (plain-walk task) → e ≤ to-assign task * (n * suc n)
   cheap-sharper = laws.assignment-cheap-sound s us task P walks
 
