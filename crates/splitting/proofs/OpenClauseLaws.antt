@@ -127,6 +127,19 @@ unfolding survey-from
 survey-snoc s [] c = refl
 survey-snoc s (x ∷ l) c = survey-snoc (surveys s x) l c
 
+-- of what is left of an array's open clauses: one more,
+pub survey-open : (cs : List Clause) (a : Assignment) (i : ℕ) (s : Survey) → s ≡ survey-of (open-clauses cs a i) → satisfied-under a (getD cs i no-clause) ≡ false
+    → surveys s (left-under a (getD cs i no-clause)) ≡ survey-of (open-clauses cs a (i + 1))
+survey-open cs a i s e q =
+    let c = getD cs i no-clause in
+    ap (λ (t : Survey). surveys t (left-under a c)) e
+    ∙ sym (ap survey-of (open-more cs a i c refl q) ∙ survey-snoc (record { positive = 0; negative = 0; any = false }) (open-clauses cs a i) (left-under a c))
+
+-- or a satisfied one
+pub survey-gone : (cs : List Clause) (a : Assignment) (i : ℕ) (s : Survey) → s ≡ survey-of (open-clauses cs a i) → satisfied-under a (getD cs i no-clause) ≡ true
+    → s ≡ survey-of (open-clauses cs a (i + 1))
+survey-gone cs a i s e q = e ∙ ap survey-of (sym (open-gone cs a i (getD cs i no-clause) refl q))
+
 pub survey-more : (p q : List ℕ) (i : ℕ) → survey-of (clauses-in p q (i + 1)) ≡ surveys (survey-of (clauses-in p q i)) (clause-in p q i)
 survey-more p q i = rw (tabulated-more (clause-in p q) i) (survey-snoc (record { positive = 0; negative = 0; any = false }) (clauses-in p q i) (clause-in p q i))
 

@@ -389,13 +389,28 @@ fn reduce(
 
 // What the formula's open clauses name.
 fn survey_open(f: Formula, a: Assignment) -> Survey
-    requires { ⌜ Small f ⌝ }
+    requires { ⌜ f .count ≤ max-clauses ⌝ }
     ensures { λ r. ⌜ r ≡ survey-of (node f a) ⌝ }
 {
-    let mut positives = [0u64; limits::MAX_CLAUSES];
-    let mut negatives = [0u64; limits::MAX_CLAUSES];
-    let count = open_node(f, a, &mut positives, &mut negatives);
-    survey_clauses(&positives, &negatives, count)
+    let mut positive: u64 = 0;
+    let mut negative: u64 = 0;
+    let mut any = false;
+    let mut i: usize = 0;
+    while i < f.count {
+        let c = f.clauses[i];
+        if !is_satisfied(a, c) {
+            let l = left(a, c);
+            positive = positive | l.positive;
+            negative = negative | l.negative;
+            any = true;
+        }
+        i += 1;
+    }
+    Survey {
+        positive,
+        negative,
+        any,
+    }
 }
 
 // S6.2: strips at a node, and tells the order of noting. (The choice has `reduce`, which drops clauses in place and needs no order.)

@@ -33,7 +33,7 @@ loop-holds : tie.Need-loop-holds Inv-loop μ-loop
 loop-holds c = stands-start (c .args .f) (c .args .a)
 
 survey-open-requires : tie.Need-survey-open-requires Inv-loop μ-loop
-survey-open-requires c κs = small-of _ (c .before .before .before .pre)
+survey-open-requires c κs = c .before .before .before .pre .few
 
 returns : tie.Need-returns Inv-loop μ-loop
 returns c =
