@@ -52,7 +52,7 @@ use Rattle.splitting.proofs.ReduceLaws.{noted-fits}
 use Rattle.splitting.proofs.SatisfiedLaws.{satisfied-masks}
 use Rattle.splitting.proofs.Theorems.{formula-below}
 use Rattle.matched.specs.declared.Row.{Row}
-use Rattle.matched.specs.Acceptance.{Acceptance, accepted, declined, Dropped, by, by-none, dropped-by, Byte, byte-of, known, asked, row-byte, whole-byte, marked-byte, stripped-byte, dropped-byte, spread, by-stripped, formula-acceptance, acceptance}
+use Rattle.matched.specs.Acceptance.{Acceptance, accepted, declined, Dropped, by, by-none, dropped-by, RowByte, byte-of, known, asked, row-byte, whole-byte, marked-byte, stripped-byte, dropped-byte, spread, by-stripped, formula-acceptance, acceptance}
 use Rattle.matched.specs.InnerAccept.{outcome-of, row-of, HasClauses, raised, assigned-by, refused-row, Represents, Takes, Decides}
 use Rattle.matched.specs.InnerSpread.{bytes-at, NotesFit, first-in, told-byte, told-bytes}
 use Rattle.matched.specs.Pairing.{noted-of, left-of}
@@ -233,7 +233,7 @@ module _ {n : ℕ} {cs : List (List Literal)} {f : Formula} {u : List Literal} {
       at (failure taken e) p q = (taken, e, p, ap (λ (y : Matching). y .marked) q, ap (λ (y : Matching). y .table) q)
 
   -- the table that is spread from the answers l, raised by k
-  table-is : (g : List Literal → Byte) → Every (λ c. g c ≡ cond (satisfied-by u c) (known 0) asked) cs → (l : List ℕ) → length l ≡ length rs → (k : ℕ) (table : List ℕ)
+  table-is : (g : List Literal → RowByte) → Every (λ c. g c ≡ cond (satisfied-by u c) (known 0) asked) cs → (l : List ℕ) → length l ≡ length rs → (k : ℕ) (table : List ℕ)
       → m .table ≡ padded max-clauses 0 l → table ≡ padded max-clauses 0 (bytes-at (f .clauses) b (m .table) k (f .count))
       → table ≡ padded max-clauses 0 (spread g cs (raised k l))
   table-is g zeros l h k table e w = w ∙ rw (e, M .masks, M .assigned, spread-bytes n cs u (M .once) g zeros l k h)
@@ -246,7 +246,7 @@ row-represents f a table h k w =
     record { outcome = refl; formula = h; length = k; bytes = bytes; rest = w ∙ ap (padded max-clauses 0) (sym bytes) }
 
 -- a byte for each clause
-spread-count : {n : ℕ} (cs : List (List Literal)) {f : Formula} (q : f ≡ formula-of n cs) (g : List Literal → Byte) (answers : List ℕ) → f .count ≡ length (spread g cs answers)
+spread-count : {n : ℕ} (cs : List (List Literal)) {f : Formula} (q : f ≡ formula-of n cs) (g : List Literal → RowByte) (answers : List ℕ) → f .count ≡ length (spread g cs answers)
 spread-count cs q g answers = ap (λ (h : Formula). h .count) q ∙ sym (spread-length g cs answers)
 
 -- ---- matched whole

@@ -23,7 +23,7 @@ use Rattle.splitting.specs.declared.Assignment.{Assignment}
 use Rattle.splitting.specs.Nodes.{assign, remaining, satisfied-by}
 use Rattle.splitting.specs.InnerChoose.{satisfied-under, assignment-of}
 use Rattle.splitting.proofs.SatisfiedLaws.{less-all, remaining-cons, satisfied-masks}
-use Rattle.matched.specs.Acceptance.{Byte, known, asked, spread}
+use Rattle.matched.specs.Acceptance.{RowByte, known, asked, spread}
 use Rattle.matched.specs.InnerAccept.{raised}
 use Rattle.matched.specs.InnerSpread.{open-before, byte-at, bytes-at}
 
@@ -73,22 +73,22 @@ module _ (cs : List Clause) (a : Assignment) (answers : List ℕ) (k i next : �
 -- ---- the clauses that ask, by their places
 
 -- the byte of a clause whose answer is x
-abbrev pub answered : Byte → ℕ → ℕ
+abbrev pub answered : RowByte → ℕ → ℕ
 answered (known y) x = y
 answered asked x = x
 
 -- the clause asks for an answer
-abbrev pub asks : Byte → Bool
+abbrev pub asks : RowByte → Bool
 asks (known y) = false
 asks asked = true
 
-module _ (f : List Literal → Byte) where
+module _ (f : List Literal → RowByte) where
   pub spread-length : (cs : List (List Literal)) (answers : List ℕ) → length (spread f cs answers) ≡ length cs
   unfolding spread
   spread-length [] answers = refl
   spread-length (c ∷ cs) answers = at (f c) (spread-length cs answers) (spread-length cs (drop 1 answers))
     where
-      at : (b : Byte) → length (spread f cs answers) ≡ length cs → length (spread f cs (drop 1 answers)) ≡ length cs
+      at : (b : RowByte) → length (spread f cs answers) ≡ length cs → length (spread f cs (drop 1 answers)) ≡ length cs
           → length {A = ℕ} (elim b [ known x ↦ x ∷ spread f cs answers | asked ↦ getD answers 0 0 ∷ spread f cs (drop 1 answers) ]) ≡ suc (length cs)
       at (known x) p q = omega arith
       at asked p q = omega arith
@@ -128,7 +128,7 @@ module _ (f : List Literal → Byte) where
   spread-byte [] answers i h = absurd (omega arith)
   spread-byte (c ∷ cs) answers zero h = at (f c)
     where
-      at : (b : Byte)
+      at : (b : RowByte)
           → getD {A = ℕ} (elim b [ known x ↦ x ∷ spread f cs answers | asked ↦ getD answers 0 0 ∷ spread f cs (drop 1 answers) ]) 0 0
           ≡ answered b (getD answers 0 0)
       at (known x) = refl
@@ -138,7 +138,7 @@ module _ (f : List Literal → Byte) where
       k : ℕ
       k = asking cs i
 
-      at : (b : Byte) → getD (spread f cs answers) i 0 ≡ answered (f (getD cs i [])) (getD answers k 0)
+      at : (b : RowByte) → getD (spread f cs answers) i 0 ≡ answered (f (getD cs i [])) (getD answers k 0)
           → getD (spread f cs (drop 1 answers)) i 0 ≡ answered (f (getD cs i [])) (getD (drop 1 answers) k 0)
           → getD {A = ℕ} (elim b [ known x ↦ x ∷ spread f cs answers | asked ↦ getD answers 0 0 ∷ spread f cs (drop 1 answers) ]) (suc i) 0
           ≡ answered (f (getD cs i [])) (getD answers (cond (asks b) (suc k) k) 0)
@@ -146,7 +146,7 @@ module _ (f : List Literal → Byte) where
       at asked p q = let z : 1 + k ≡ suc k = omega arith in q ∙ rw (getD-drop 1 answers k 0, z)
 
 -- whether clauses ask is all that places depend on
-pub asking-same : (f g : List Literal → Byte) → ((c : List Literal) → asks (f c) ≡ asks (g c)) → (cs : List (List Literal)) (i : ℕ) → asking f cs i ≡ asking g cs i
+pub asking-same : (f g : List Literal → RowByte) → ((c : List Literal) → asks (f c) ≡ asks (g c)) → (cs : List (List Literal)) (i : ℕ) → asking f cs i ≡ asking g cs i
 unfolding asking
 asking-same f g e cs zero = refl
 asking-same f g e [] (suc i) = refl
@@ -154,11 +154,11 @@ asking-same f g e (c ∷ cs) (suc i) = rw (e c, asking-same f g e cs i)
 
 -- ---- the trail u satisfies the clauses that do not ask
 
-abbrev pub Sieves : List Literal → (List Literal → Byte) → List (List Literal) → Type 0
+abbrev pub Sieves : List Literal → (List Literal → RowByte) → List (List Literal) → Type 0
 Sieves u f cs = Every (λ c. satisfied-by u c ≡ not (asks (f c))) cs
 
 -- so it is where those have 0
-pub zeros-sieve : (u : List Literal) (f : List Literal → Byte) (cs : List (List Literal)) → Every (λ c. f c ≡ cond (satisfied-by u c) (known 0) asked) cs → Sieves u f cs
+pub zeros-sieve : (u : List Literal) (f : List Literal → RowByte) (cs : List (List Literal)) → Every (λ c. f c ≡ cond (satisfied-by u c) (known 0) asked) cs → Sieves u f cs
 zeros-sieve u f [] h = tt
 zeros-sieve u f (c ∷ cs) h = (rw (h .0) (by (satisfied-by u c)), zeros-sieve u f cs (h .1))
   where
@@ -171,7 +171,7 @@ unfolding remaining assign
 remaining-none [] = refl
 remaining-none (l ∷ u) = remaining-none u
 
-module _ (u : List Literal) (once : distinct u ≡ true) (f : List Literal → Byte) where
+module _ (u : List Literal) (once : distinct u ≡ true) (f : List Literal → RowByte) where
   -- there are as many that ask as clauses remain
   asking-all : (cs : List (List Literal)) → Sieves u f cs → asking f cs (length cs) ≡ length (remaining u cs)
   unfolding asking
@@ -216,7 +216,7 @@ open-cons a c cs (suc i) = rw (open-cons a c cs i) (at (satisfied-under a c) (sa
     at false false = refl
 
 -- the clauses that the assignment of u does not satisfy are those that ask
-open-asking : (u : List Literal) (f : List Literal → Byte) (cs : List (List Literal)) → Sieves u f cs → (i : ℕ) → i ≤ length cs
+open-asking : (u : List Literal) (f : List Literal → RowByte) (cs : List (List Literal)) → Sieves u f cs → (i : ℕ) → i ≤ length cs
     → open-before (map clause-of cs) (assignment-of u) i ≡ asking f cs i
 unfolding asking open-before
 open-asking u f cs s zero h = refl
@@ -245,7 +245,7 @@ module _ (n : ℕ) (cs : List (List Literal)) where
       rw (getD-padded max-clauses no-clause (map clause-of cs) i no-clause (rw (length-map cs clause-of) h), array-open a i (omega arith))
 
   -- the answers of what remains under u, spread over the clauses, 0 for those that u satisfies
-  pub spread-bytes : (u : List Literal) → distinct u ≡ true → (f : List Literal → Byte) → Every (λ c. f c ≡ cond (satisfied-by u c) (known 0) asked) cs
+  pub spread-bytes : (u : List Literal) → distinct u ≡ true → (f : List Literal → RowByte) → Every (λ c. f c ≡ cond (satisfied-by u c) (known 0) asked) cs
       → (l : List ℕ) (k : ℕ) → length l ≡ length (remaining u cs)
       → bytes-at array (assignment-of u) (padded max-clauses 0 l) k (length cs) ≡ spread f cs (raised k l)
   spread-bytes u once f zeros l k e =
@@ -265,6 +265,6 @@ module _ (n : ℕ) (cs : List (List Literal)) where
       same i h =
           let z = every-getD (λ c. f c ≡ cond (satisfied-by u c) (known 0) asked) cs i [] h zeros in
           spread-byte f cs (raised k l) i h
-          ∙ ap (λ (b : Byte). answered b (getD (raised k l) (asking f cs i) 0)) z
+          ∙ ap (λ (b : RowByte). answered b (getD (raised k l) (asking f cs i) 0)) z
           ∙ at i h (satisfied-by u (getD cs i [])) refl z
           ∙ sym (rw (array-at i h, array-open (assignment-of u) i (omega arith), satisfied-masks u (getD cs i []), open-asking u f cs s i (omega arith)) refl)

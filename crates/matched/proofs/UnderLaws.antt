@@ -28,7 +28,7 @@ use Rattle.splitting.proofs.ClauseLaws.{named-by}
 use Rattle.splitting.proofs.MaskChoiceLaws.{StripsTo}
 use Rattle.splitting.proofs.SatisfiedLaws.{less-all, less-all-names, less-all-named, remaining-cons}
 use Rattle.splitting.proofs.Theorems.{formula-below, noted-unassigned}
-use Rattle.matched.specs.Acceptance.{Dropped, by, by-none, dropped-by, Byte, known, asked, whole-byte, marked-byte, stripped-byte, dropped-byte, spread}
+use Rattle.matched.specs.Acceptance.{Dropped, by, by-none, dropped-by, RowByte, known, asked, whole-byte, marked-byte, stripped-byte, dropped-byte, spread}
 use Rattle.matched.specs.Pairing.{Pairs, PairsUnder, PairsStripped, noted-of, left-of, Violator, ViolatorUnder, marked}
 use Rattle.matched.proofs.DroppedLaws.{dropped-first, dropped-noted, left-names, satisfied-byte, dropped-known, left-asked, asked-left, whole-zeros, stripped-sieves, stripped-zeros}
 use Rattle.matched.proofs.SpreadLaws.{asks, asking, asking-less, asking-place, remaining-at, spread-length, spread-known, spread-asked, spread-byte, Sieves, zeros-sieve, remaining-none}
@@ -47,12 +47,12 @@ and-or false y z = refl
 -- ---- the clauses that ask have a matching of what remains under u
 
 -- vs is a matching of what remains under u, whose clauses are those that ask
-record Answers (u : List Literal) (f : List Literal → Byte) (cs : List (List Literal)) (vs : List ℕ) : Type 0 where
+record Answers (u : List Literal) (f : List Literal → RowByte) (cs : List (List Literal)) (vs : List ℕ) : Type 0 where
   once : format.distinct u ≡ true
   sieves : Sieves u f cs
   pairs : Pairs (remaining u cs) vs
 
-module _ {u : List Literal} {f : List Literal → Byte} {cs : List (List Literal)} {vs : List ℕ} (A : Answers u f cs vs) where
+module _ {u : List Literal} {f : List Literal → RowByte} {cs : List (List Literal)} {vs : List ℕ} (A : Answers u f cs vs) where
   abbrev row : List ℕ
   row = spread f cs (map suc vs)
 
@@ -256,7 +256,7 @@ module _ {n : ℕ} {t : List Literal} {cs : List (List Literal)} (z : Sized n cs
     pub marked-many : length (marked marks-row cs) ≡ length (marked ms (left-of n t cs))
     marked-many = same .0 ∙ ap (λ (l : List (List Literal)). length (marked ms l)) (w .left)
 
-    mark-at : (i : ℕ) → i < length cs → (b : Byte) → marked-byte t noted (getD cs i []) ≡ b
+    mark-at : (i : ℕ) → i < length cs → (b : RowByte) → marked-byte t noted (getD cs i []) ≡ b
         → (getD marks-row i 0 ≤ 1) × (getD marks-row i 0 ≡ 1 → marked-byte t noted (getD cs i []) ≡ asked)
     mark-at i h (known x) e =
         let z : x ≡ 0 = known-zero (satisfied-by (w .trail) (getD cs i [])) x (sym e ∙ every-getD (λ c. marked-byte t noted c ≡ cond (satisfied-by (w .trail) c) (known 0) asked) cs i [] h (stripped-zeros w)) in

@@ -36,37 +36,37 @@ dropped-by [] c = by-none
 dropped-by (v ∷ vs) c = cond (names c v) (by v) (dropped-by vs c)
 
 -- the byte of a clause: known by itself, or the next of a list of answers
-pub data Byte : Type 0 where
-  known : ℕ → Byte
-  asked : Byte
+pub data RowByte : Type 0 where
+  known : ℕ → RowByte
+  asked : RowByte
 
-abbrev pub byte-of : (ℕ → ℕ) → Dropped → Byte
+abbrev pub byte-of : (ℕ → ℕ) → Dropped → RowByte
 byte-of d (by v) = known (d v)
 byte-of d by-none = asked
 
 -- S17.2, S18.2: 0 for a clause that the literals t satisfy; for another d v if v drops it; the next answer if it is left
-unfoldable pub row-byte : List Literal → List ℕ → (ℕ → ℕ) → List Literal → Byte
+unfoldable pub row-byte : List Literal → List ℕ → (ℕ → ℕ) → List Literal → RowByte
 row-byte t noted d c = cond (satisfied-by t c) (known 0) (byte-of d (dropped-by noted c))
 
 -- S17.2, S18.2: the row, a byte for each clause: the answers go, in order, to those that ask for one
-unfoldable pub spread : (List Literal → Byte) → List (List Literal) → List ℕ → List ℕ
+unfoldable pub spread : (List Literal → RowByte) → List (List Literal) → List ℕ → List ℕ
 spread f [] answers = []
 spread f (c ∷ cs) answers =
     elim (f c) [ known x ↦ x ∷ spread f cs answers | asked ↦ getD answers 0 0 ∷ spread f cs (drop 1 answers) ]
 
 -- S17.2: where what remains is matched whole, nothing is noted: the clauses that t does not satisfy ask
-abbrev pub whole-byte : List Literal → List Literal → Byte
+abbrev pub whole-byte : List Literal → List Literal → RowByte
 whole-byte t = row-byte t [] (λ v. 0)
 
 -- S18.2: where what is left is matched, a dropped clause has 128 plus the number of the variable, from 1
 abbrev pub dropped-byte : ℕ → ℕ
 dropped-byte v = 128 + suc v
 
-abbrev pub stripped-byte : List Literal → List ℕ → List Literal → Byte
+abbrev pub stripped-byte : List Literal → List ℕ → List Literal → RowByte
 stripped-byte t noted = row-byte t noted dropped-byte
 
 -- S18.3: where marks are told, it has 0
-abbrev pub marked-byte : List Literal → List ℕ → List Literal → Byte
+abbrev pub marked-byte : List Literal → List ℕ → List Literal → RowByte
 marked-byte t noted = row-byte t noted (λ v. 0)
 
 -- ---- what comes of a formula under assumptions

@@ -10,10 +10,10 @@ use Rattle.formula.specs.Format.{Literal}
 use Rattle.formula.specs.Masked.{variables}
 use Rattle.matching.specs.Search.{Outcome, success, failure, outcome, marks}
 use Rattle.splitting.specs.Stripping.{Stripped, stripped}
-use Rattle.matched.specs.Acceptance.{Acceptance, accepted, declined, dropped-by, Byte, byte-of, spread, dropped-byte}
+use Rattle.matched.specs.Acceptance.{Acceptance, accepted, declined, dropped-by, RowByte, byte-of, spread, dropped-byte}
 
 -- the byte of a clause: d v if v drops it, the next answer if it is left
-abbrev pub plain-byte : List ℕ → (ℕ → ℕ) → List Literal → Byte
+abbrev pub plain-byte : List ℕ → (ℕ → ℕ) → List Literal → RowByte
 plain-byte noted d c = byte-of d (dropped-by noted c)
 
 -- what stripping leaves is matched: its matching, with variables from 1; else 10, at the number of marked clauses, and the marks
