@@ -2,7 +2,7 @@
 -- what remains of its clauses can be paired; the whole is paired first.
 use Prim.Native.Nat.{ℕ, suc, _≤_}
 use mathlib.Core.List.{List, [], map}
-use mathlib.Core.Path.{_≡_, refl}
+use mathlib.Core.Path.{_≡_, refl, ap, _∙_}
 use native.Mathlib.Omega.{arith}
 use lib.ListN.{length, length-map}
 use Rattle.limits.specs.Limits.{max-clauses}
@@ -13,13 +13,14 @@ use Rattle.formula.specs.declared.Refusal.{Refusal}
 use Rattle.formula.specs.declared.Refusal.the-variants.{Unmatched, BadAssumption}
 use Rattle.formula.specs.InnerDecode.{decode}
 use Rattle.formula.specs.Decoding.{Decoding, readable, refused}
-use Rattle.formula.specs.Format.{Literal, Sized, ClauseOver}
+use Rattle.formula.specs.Format.{Literal, Sized, ClauseOver, Encodes}
 use Rattle.formula.specs.Masked.{variables}
 use Rattle.formula.specs.Refusals.{table-row}
 use Rattle.formula.proofs.Demands.{accepted-only, accepted-all, accepted-fits, numbers}
 use Rattle.assumptions.specs.declared.Assumption.{Assumption}
 use Rattle.assumptions.specs.Assumed.{Assumed, literals, bad, literal-of, assumed}
-use Rattle.assumptions.proofs.Demands.{literals-exactly, none-bad-literals, literals-are, literals-over}
+use Rattle.assumptions.specs.FirstBad.{NoneBad, FirstBad}
+use Rattle.assumptions.proofs.Demands.{bad-exactly, literals-exactly, none-bad-literals, literals-are, literals-over}
 use Rattle.matching.specs.Sets.{union}
 use Rattle.matching.specs.Search.{Outcome, success, failure, outcome, marks}
 use Rattle.matching.proofs.MatchedLaws.{length-marks, marks-le}
@@ -257,6 +258,34 @@ module _ (s : List ℕ) (us : List Assumption) where
       by (of-formula n t cs reads assumes (unpaired ms v none)) q = let e : Unmatched (length (marked ms (left-of n t cs))) ≡ r = cc in rw (← e) (omega arith)
       by (bad-assumed n cs i reads assumes) q = let e : BadAssumption i ≡ r = cc in rw (← e) (omega arith)
       by (unreadable t reads) q = let e : t ≡ r = cc in rw (← e) (numbers s t reads .0)
+
+  -- 10 is for an input of which what stripping leaves can't be paired
+  pub declined-unmatched : (r : Refusal) (row : List ℕ) → acceptance s us ≡ declined r row → table-row r .number ≡ 10
+      → (n : ℕ) × (cs : List (List Literal)) × Encodes s n cs × NoneBad n us × ((vs : List ℕ) → Pairs (left-of n (map literal-of us) cs) vs → ⊥)
+  declined-unmatched r row e q = by comes e
+    where
+      by : {a : Acceptance} → Comes s us a → a ≡ declined r row
+          → (n : ℕ) × (cs : List (List Literal)) × Encodes s n cs × NoneBad n us × ((vs : List ℕ) → Pairs (left-of n (map literal-of us) cs) vs → ⊥)
+      by (of-formula n t cs reads assumes (paired vs w)) e = let z : _≡_ {A = ℕ} 0 1 = cc in absurd (omega arith)
+      by (of-formula n t cs reads assumes (strips vs none w)) e = let z : _≡_ {A = ℕ} 0 1 = cc in absurd (omega arith)
+      by (of-formula n t cs reads assumes (unpaired ms v none)) e =
+          (n, cs, accepted-only s n cs reads, literals-exactly n us .0 (t, assumes), rw (literals-are n us t assumes) at none)
+      by (bad-assumed n cs i reads assumes) e = let z : BadAssumption i ≡ r = cc in absurd (omega (arith, rw (← z) at q))
+      by (unreadable k reads) e = let z : k ≡ r = cc in absurd (omega (arith, numbers s k reads .1, rw (← z) at q))
+
+  -- and 16 for one with a bad assumption, the first at the place
+  pub declined-bad : (r : Refusal) (row : List ℕ) (i : ℕ) → acceptance s us ≡ declined r row → table-row r .number ≡ 16 → table-row r .place ≡ i
+      → (n : ℕ) × (cs : List (List Literal)) × Encodes s n cs × FirstBad n us i
+  declined-bad r row i e q p = by comes e
+    where
+      by : {a : Acceptance} → Comes s us a → a ≡ declined r row → (n : ℕ) × (cs : List (List Literal)) × Encodes s n cs × FirstBad n us i
+      by (of-formula n t cs reads assumes (paired vs w)) e = let z : _≡_ {A = ℕ} 0 1 = cc in absurd (omega arith)
+      by (of-formula n t cs reads assumes (strips vs none w)) e = let z : _≡_ {A = ℕ} 0 1 = cc in absurd (omega arith)
+      by (of-formula n t cs reads assumes (unpaired ms v none)) e =
+          let z : Unmatched (length (marked ms (left-of n t cs))) ≡ r = cc in absurd (omega (arith, rw (← z) at q))
+      by (bad-assumed n cs j reads assumes) e =
+          let z : BadAssumption j ≡ r = cc in (n, cs, accepted-only s n cs reads, bad-exactly n us i .0 (assumes ∙ ap bad (rw (← z) at p)))
+      by (unreadable k reads) e = let z : k ≡ r = cc in absurd (omega (arith, numbers s k reads .1, rw (← z) at q))
 
   -- the bytes fit a table
   pub row-few : length (row-of (acceptance s us)) ≤ max-clauses

@@ -15,11 +15,11 @@ use Rattle.formula.specs.declared.Refusal.{Refusal}
 use Rattle.formula.specs.declared.Refusal.the-variants.{ShortBuffer, Unmatched, BadAssumption}
 use Rattle.formula.specs.Format.{Literal, names, Sized, Encodes}
 use Rattle.formula.specs.Table.{Refuses}
-use Rattle.formula.proofs.Demands.{accepted-only, accepted-all, accepted-fits, refused-all}
+use Rattle.formula.proofs.Demands.{accepted-all, accepted-fits, refused-all}
 use Rattle.assumptions.specs.declared.Assumption.{Assumption}
 use Rattle.assumptions.specs.Assumed.{literal-of}
 use Rattle.assumptions.specs.FirstBad.{NoneBad, FirstBad}
-use Rattle.assumptions.proofs.Demands.{bad-exactly, literals-exactly, none-bad-literals, literals-are, literals-over}
+use Rattle.assumptions.proofs.Demands.{bad-exactly, none-bad-literals, literals-over}
 use Rattle.splitting.specs.Nodes.{remaining, satisfied-by, lowest-with}
 use Rattle.splitting.specs.Stripping.{pure}
 use Rattle.splitting.specs.Choosing.{among}
@@ -55,7 +55,7 @@ unreadable s us b r l w = judge-declined s us b l r [] (unreadable-declined s us
 pub bad-assumption-exactly : (s : List ℕ) (us : List Assumption) (b : List ℕ) (i : ℕ) → max-clauses ≤ length b
     → ((judge s us b .answer .number ≡ 16) × (judge s us b .answer .place ≡ i)) ↔ ((n : ℕ) × (cs : List (List Literal)) × Encodes s n cs × FirstBad n us i)
 bad-assumption-exactly s us b i l = (
-  λ e. let w = judged-bad s us b l i (e .0) (e .1) in (w .0, w .1, accepted-only s (w .0) (w .1) (w .2), bad-exactly (w .0) us i .0 (w .3)),
+  λ e. judged-bad s us b l i (e .0) (e .1),
   λ w.
       let e = judge-declined s us b l (BadAssumption i) [] (bad-declined s us (w .0) (w .1) i (accepted-all s (w .0) (w .1) (w .2)) (bad-exactly (w .0) us i .1 (w .3))) in
       (ap (λ (j : Judged). j .answer .number) e, ap (λ (j : Judged). j .answer .place) e),
@@ -175,10 +175,7 @@ pub unmatched-exactly : (s : List ℕ) (us : List Assumption) (b : List ℕ) →
     → (judge s us b .answer .number ≡ 10)
     ↔ ((n : ℕ) × (cs : List (List Literal)) × Encodes s n cs × NoneBad n us × ((vs : List ℕ) → Pairs (left-of n (map literal-of us) cs) vs → ⊥))
 unmatched-exactly s us b l = (
-  λ e.
-      let w = judged-unmatched s us b l e in
-      let q = literals-are (w .0) us (w .1) (w .4) in
-      (w .0, w .2, accepted-only s (w .0) (w .2) (w .3), literals-exactly (w .0) us .0 (w .1, w .4), rw q at (w .5)),
+  judged-unmatched s us b l,
   λ w. let x = refused-buffer s us (w .0) (w .1) (w .2) (w .3) b l (w .4) in ap (λ (j : Judged). j .answer .number) (x .2),
 )
 

@@ -11,18 +11,17 @@ use Rattle.formula.specs.declared.Formula.{Formula}
 use Rattle.formula.specs.declared.Outcome.the-variants as outcomes
 use Rattle.formula.specs.declared.Refusal.{Refusal}
 use Rattle.formula.specs.declared.Refusal.the-variants.{ShortBuffer}
-use Rattle.formula.specs.InnerDecode.{decode}
-use Rattle.formula.specs.Decoding.{readable}
-use Rattle.formula.specs.Format.{Literal}
-use Rattle.formula.proofs.Demands.{numbers}
+use Rattle.formula.specs.Format.{Literal, Encodes}
+use Rattle.formula.specs.Refusals.{table-row}
 use Rattle.assumptions.specs.declared.Assumption.{Assumption}
-use Rattle.assumptions.specs.Assumed.{literals, bad, literal-of, assumed}
+use Rattle.assumptions.specs.FirstBad.{NoneBad, FirstBad}
+use Rattle.assumptions.specs.Assumed.{literal-of}
 use Rattle.matched.specs.declared.Row.{Row}
 use Rattle.matched.specs.Acceptance.{Acceptance, accepted, declined, acceptance}
 use Rattle.matched.specs.InnerAccept.{Represents}
 use Rattle.matched.specs.Judge.{JudgementValues, Judged, accepted-values, refused-values, judgement-of, judge}
 use Rattle.matched.specs.Pairing.{Pairs, left-of, Walkable}
-use Rattle.matched.proofs.AcceptanceLaws.{paired, strips, unpaired, Comes, of-formula, bad-assumed, unreadable, comes, accepted-walkable, walkable-accepted, declined-number}
+use Rattle.matched.proofs.AcceptanceLaws.{accepted-walkable, walkable-accepted, declined-number, declined-unmatched, declined-bad}
 
 -- the parts of what judge is
 pub told : {j : Judged} {a : JudgementValues} {row left : List ℕ} → j ≡ record { answer = a; buffer = row } → left ≡ row → (a ≡ j .answer) × (left ≡ j .buffer)
@@ -79,28 +78,22 @@ module _ (s : List ℕ) (us : List Assumption) (b : List ℕ) (l : max-clauses �
       let x = walkable-accepted s us w in
       ap (λ (j : Judged). j .answer .number) (judge-accepted (w .variables) (map literal-of us) (w .clauses) (x .0) (x .1))
 
-  -- an input is refused by 16 only where it is readable and an assumption is bad, the first at the place
-  pub judged-bad : (i : ℕ) → judge s us b .answer .number ≡ 16 → judge s us b .answer .place ≡ i
-      → (n : ℕ) × (cs : List (List Literal)) × (decode s ≡ readable n cs) × (assumed n us ≡ bad i)
-  judged-bad i q p = by (comes s us) (ap (λ (j : Judged). j .answer .number) (sym judge-long) ∙ q) (ap (λ (j : Judged). j .answer .place) (sym judge-long) ∙ p)
+  -- an answer with a number is that of what declines the input
+  numbered : (k : ℕ) → 0 < k → judge s us b .answer .number ≡ k
+      → (r : Refusal) × (row : List ℕ) × (acceptance s us ≡ declined r row) × (table-row r .number ≡ k) × (judge s us b .answer .place ≡ table-row r .place)
+  numbered k some q = by (acceptance s us) refl
     where
-      by : {a : Acceptance} → Comes s us a → judgement-of a b .answer .number ≡ 16 → judgement-of a b .answer .place ≡ i
-          → (n : ℕ) × (cs : List (List Literal)) × (decode s ≡ readable n cs) × (assumed n us ≡ bad i)
-      by (of-formula n t cs reads assumes (paired vs w)) e p = absurd (omega arith)
-      by (of-formula n t cs reads assumes (strips vs none w)) e p = absurd (omega arith)
-      by (of-formula n t cs reads assumes (unpaired ms v none)) e p = absurd (omega arith)
-      by (bad-assumed n cs j reads assumes) e p = (n, cs, reads, assumes ∙ ap bad p)
-      by (unreadable r reads) e p = absurd (omega (arith, numbers s r reads .1))
+      by : (a : Acceptance) → acceptance s us ≡ a
+          → (r : Refusal) × (row : List ℕ) × (acceptance s us ≡ declined r row) × (table-row r .number ≡ k) × (judge s us b .answer .place ≡ table-row r .place)
+      by (accepted n t cs row) e = absurd (omega (arith, ap (λ (j : Judged). j .answer .number) (judge-accepted n t cs row e)))
+      by (declined r row) e =
+          let w = judge-declined r row e in
+          (r, row, e, sym (ap (λ (j : Judged). j .answer .number) w) ∙ q, ap (λ (j : Judged). j .answer .place) w)
 
-  -- and by 10 only where what stripping leaves can't be paired
+  -- so 16 is given only where an assumption is bad, the first at the place, and 10 only where what stripping leaves can't be paired
+  pub judged-bad : (i : ℕ) → judge s us b .answer .number ≡ 16 → judge s us b .answer .place ≡ i → (n : ℕ) × (cs : List (List Literal)) × Encodes s n cs × FirstBad n us i
+  judged-bad i q p = let w = numbered 16 (omega arith) q in declined-bad s us (w .0) (w .1) i (w .2) (w .3) (sym (w .4) ∙ p)
+
   pub judged-unmatched : judge s us b .answer .number ≡ 10
-      → (n : ℕ) × (t : List Literal) × (cs : List (List Literal)) × (decode s ≡ readable n cs) × (assumed n us ≡ literals t) × ((vs : List ℕ) → Pairs (left-of n t cs) vs → ⊥)
-  judged-unmatched q = by (comes s us) (ap (λ (j : Judged). j .answer .number) (sym judge-long) ∙ q)
-    where
-      by : {a : Acceptance} → Comes s us a → judgement-of a b .answer .number ≡ 10
-          → (n : ℕ) × (t : List Literal) × (cs : List (List Literal)) × (decode s ≡ readable n cs) × (assumed n us ≡ literals t) × ((vs : List ℕ) → Pairs (left-of n t cs) vs → ⊥)
-      by (of-formula n t cs reads assumes (paired vs w)) e = absurd (omega arith)
-      by (of-formula n t cs reads assumes (strips vs none w)) e = absurd (omega arith)
-      by (of-formula n t cs reads assumes (unpaired ms v none)) e = (n, t, cs, reads, assumes, none)
-      by (bad-assumed n cs j reads assumes) e = absurd (omega arith)
-      by (unreadable r reads) e = absurd (omega (arith, numbers s r reads .1))
+      → (n : ℕ) × (cs : List (List Literal)) × Encodes s n cs × NoneBad n us × ((vs : List ℕ) → Pairs (left-of n (map literal-of us) cs) vs → ⊥)
+  judged-unmatched q = let w = numbered 10 (omega arith) q in declined-unmatched s us (w .0) (w .1) (w .2) (w .3)

@@ -15,11 +15,11 @@ use Rattle.formula.specs.declared.Refusal.the-variants.{Unmatched, ForeignCheck
 use Rattle.formula.specs.Format.{Literal, names, Encodes}
 use Rattle.formula.specs.Table.{Refuses}
 use Rattle.formula.specs.Models.{Model}
-use Rattle.formula.proofs.Demands.{accepted-only, accepted-all, refused-all}
+use Rattle.formula.proofs.Demands.{accepted-all, refused-all}
 use Rattle.assumptions.specs.declared.Assumption.{Assumption}
 use Rattle.assumptions.specs.Assumed.{literal-of}
 use Rattle.assumptions.specs.FirstBad.{NoneBad, FirstBad}
-use Rattle.assumptions.proofs.Demands.{bad-exactly, literals-exactly, none-bad-literals, literals-are, literals-over}
+use Rattle.assumptions.proofs.Demands.{bad-exactly, none-bad-literals, literals-over}
 use Rattle.matched.specs.Acceptance.{Acceptance, accepted, acceptance}
 use Rattle.matched.specs.Judge.{refused-values, judge}
 use Rattle.matched.specs.Pairing.{Pairs, left-of, Pairable, Walkable}
@@ -235,10 +235,7 @@ pub unmatched-exactly : (s : List ℕ) (us : List Assumption) (c : Checkpoint) (
     → (walk-call s us c b .number ≡ 10)
     ↔ ((n : ℕ) × (cs : List (List Literal)) × Encodes s n cs × NoneBad n us × ((vs : List ℕ) → Pairs (left-of n (map literal-of us) cs) vs → ⊥))
 unmatched-exactly s us c b = (
-  λ e.
-      let w = refusals.called-unmatched s us c b e in
-      let q = literals-are (w .0) us (w .1) (w .4) in
-      (w .0, w .2, accepted-only s (w .0) (w .2) (w .3), literals-exactly (w .0) us .0 (w .1, w .4), rw q at (w .5)),
+  refusals.called-unmatched s us c b,
   λ w.
       let x = refusals.call-unmatched s us (replicate max-clauses 0) (w .0) (map literal-of us) (w .1) c b (omega arith) (accepted-all s (w .0) (w .1) (w .2)) (none-bad-literals (w .0) us (w .3)) (w .4) in
       ap (λ (r : Result). r .number) (x .2),
@@ -254,7 +251,7 @@ bad-assumption s us n cs i c b w f = refusals.call-bad s us n cs i c b (accepted
 pub bad-assumption-exactly : (s : List ℕ) (us : List Assumption) (c : Checkpoint) (b i : ℕ)
     → ((walk-call s us c b .number ≡ 16) × (walk-call s us c b .place ≡ i)) ↔ ((n : ℕ) × (cs : List (List Literal)) × Encodes s n cs × FirstBad n us i)
 bad-assumption-exactly s us c b i = (
-  λ e. let w = refusals.called-bad s us c b i (e .0) (e .1) in (w .0, w .1, accepted-only s (w .0) (w .1) (w .2), bad-exactly (w .0) us i .0 (w .3)),
+  λ e. refusals.called-bad s us c b i (e .0) (e .1),
   λ w. let e = bad-assumption s us (w .0) (w .1) i c b (w .2) (w .3) in (ap (λ (r : Result). r .number) e, ap (λ (r : Result). r .place) e),
 )
 

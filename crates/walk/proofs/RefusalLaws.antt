@@ -2,7 +2,7 @@
 use Prim.Native.Nat.{ℕ, _≤_, _<_}
 use mathlib.Core.List.{List, [], _∷_, map}
 use mathlib.Core.Logic.{_↔_}
-use mathlib.Core.Path.{_≡_, refl, ap, _∙_}
+use mathlib.Core.Path.{_≡_, refl, sym, ap, _∙_}
 use native.Mathlib.Omega.{arith}
 use lib.ListN.{length}
 use Rattle.limits.specs.Limits.{max-variables, max-clauses}
@@ -10,10 +10,11 @@ use Rattle.formula.specs.declared.Refusal.{Refusal}
 use Rattle.formula.specs.declared.Refusal.the-variants.{Unmatched, BadAssumption}
 use Rattle.formula.specs.InnerDecode.{decode}
 use Rattle.formula.specs.Decoding.{readable, refused}
-use Rattle.formula.specs.Format.{Literal}
+use Rattle.formula.specs.Format.{Literal, Encodes}
+use Rattle.formula.specs.Refusals.{table-row}
 use Rattle.formula.specs.Masked.{variables}
-use Rattle.formula.proofs.Demands.{numbers}
 use Rattle.assumptions.specs.declared.Assumption.{Assumption}
+use Rattle.assumptions.specs.FirstBad.{NoneBad, FirstBad}
 use Rattle.assumptions.specs.Assumed.{literals, bad, literal-of, assumed}
 use Rattle.matched.specs.Acceptance.{Acceptance, accepted, declined, acceptance}
 use Rattle.matched.specs.Judge.{Judged, refused-values, judge}
@@ -22,7 +23,7 @@ use Rattle.matched.specs.WithoutAssumptions.{plain-acceptance}
 use Rattle.matched.proofs.Demands.{acceptance-unassumed}
 use Rattle.matched.proofs.UnassumedLaws.{plain-same}
 use Rattle.matched.proofs.JudgeLaws.{judge-declined}
-use Rattle.matched.proofs.AcceptanceLaws.{left-sound, paired, strips, unpaired, Comes, of-formula, bad-assumed, unreadable, comes, accepted-is, accepted-walkable, walkable-accepted, unpaired-declined, bad-declined, unreadable-declined}
+use Rattle.matched.proofs.AcceptanceLaws.{left-sound, accepted-is, accepted-walkable, walkable-accepted, unpaired-declined, bad-declined, unreadable-declined, declined-unmatched, declined-bad}
 use Rattle.walk.specs.Task.{Task, under, Posed}
 use Rattle.walk.specs.Checkpoints.{Checkpoint, start}
 use Rattle.walk.specs.PlainMachine.{plain-call}
@@ -93,33 +94,28 @@ module _ (s : List ℕ) (us : List Assumption) where
   pub walked-exactly : (b : ℕ) → (walk-call s us start b .kind ≡ says-refused → ⊥) ↔ Walkable s us
   walked-exactly b = (unrefused-walkable start b, walkable-unrefused b)
 
-  -- a call is refused by 10 only where what stripping leaves can't be paired
-  pub called-unmatched : (c : Checkpoint) (b : ℕ) → walk-call s us c b .number ≡ 10
-      → (n : ℕ) × (t : List Literal) × (cs : List (List Literal)) × (decode s ≡ readable n cs) × (assumed n us ≡ literals t) × ((vs : List ℕ) → Pairs (left-of n t cs) vs → ⊥)
-  unfolding walk-call task-call
-  called-unmatched c b = by (comes s us)
+  -- a call with a number but 11 is refused by what declines the input
+  numbered : (c : Checkpoint) (b k : ℕ) → 0 < k → (k ≡ 11 → ⊥) → walk-call s us c b .number ≡ k
+      → (r : Refusal) × (row : List ℕ) × (acceptance s us ≡ declined r row) × (table-row r .number ≡ k) × (walk-call s us c b .place ≡ table-row r .place)
+  unfolding task-call
+  numbered c b k some other q = by (acceptance s us) refl
     where
-      by : {a : Acceptance} → Comes s us a → call-on a c b .number ≡ 10
-          → (n : ℕ) × (t : List Literal) × (cs : List (List Literal)) × (decode s ≡ readable n cs) × (assumed n us ≡ literals t) × ((vs : List ℕ) → Pairs (left-of n t cs) vs → ⊥)
-      by (of-formula n t cs reads assumes (paired vs w)) e = absurd (walked-number (under n t cs) c b (located (under n t cs) c) (omega arith) (λ z. omega arith) e)
-      by (of-formula n t cs reads assumes (strips vs none w)) e = absurd (walked-number (under n t cs) c b (located (under n t cs) c) (omega arith) (λ z. omega arith) e)
-      by (of-formula n t cs reads assumes (unpaired ms v none)) e = (n, t, cs, reads, assumes, none)
-      by (bad-assumed n cs j reads assumes) e = absurd (omega arith)
-      by (unreadable r reads) e = absurd (omega (arith, numbers s r reads .1))
+      by : (a : Acceptance) → acceptance s us ≡ a
+          → (r : Refusal) × (row : List ℕ) × (acceptance s us ≡ declined r row) × (table-row r .number ≡ k) × (walk-call s us c b .place ≡ table-row r .place)
+      by (accepted n t cs row) e =
+          absurd (walked-number (under n t cs) c b (located (under n t cs) c) some other (sym (ap (λ (r : Result). r .number) (call-accepted n t cs row e c b)) ∙ q))
+      by (declined r row) e =
+          let w = call-declined r row c b e in
+          (r, row, e, sym (ap (λ (x : Result). x .number) w) ∙ q, ap (λ (x : Result). x .place) w)
 
-  -- a call is refused by 16 only where the input is readable and an assumption is bad, the first at the place
+  -- so 16 is given only where an assumption is bad, the first at the place, and 10 only where what stripping leaves can't be paired
   pub called-bad : (c : Checkpoint) (b i : ℕ) → walk-call s us c b .number ≡ 16 → walk-call s us c b .place ≡ i
-      → (n : ℕ) × (cs : List (List Literal)) × (decode s ≡ readable n cs) × (assumed n us ≡ bad i)
-  unfolding walk-call task-call
-  called-bad c b i = by (comes s us)
-    where
-      by : {a : Acceptance} → Comes s us a → call-on a c b .number ≡ 16 → call-on a c b .place ≡ i
-          → (n : ℕ) × (cs : List (List Literal)) × (decode s ≡ readable n cs) × (assumed n us ≡ bad i)
-      by (of-formula n t cs reads assumes (paired vs w)) e p = absurd (walked-number (under n t cs) c b (located (under n t cs) c) (omega arith) (λ z. omega arith) e)
-      by (of-formula n t cs reads assumes (strips vs none w)) e p = absurd (walked-number (under n t cs) c b (located (under n t cs) c) (omega arith) (λ z. omega arith) e)
-      by (of-formula n t cs reads assumes (unpaired ms v none)) e p = absurd (omega arith)
-      by (bad-assumed n cs j reads assumes) e p = (n, cs, reads, assumes ∙ ap bad p)
-      by (unreadable r reads) e p = absurd (omega (arith, numbers s r reads .1))
+      → (n : ℕ) × (cs : List (List Literal)) × Encodes s n cs × FirstBad n us i
+  called-bad c b i q p = let w = numbered c b 16 (omega arith) (λ z. omega arith) q in declined-bad s us (w .0) (w .1) i (w .2) (w .3) (sym (w .4) ∙ p)
+
+  pub called-unmatched : (c : Checkpoint) (b : ℕ) → walk-call s us c b .number ≡ 10
+      → (n : ℕ) × (cs : List (List Literal)) × Encodes s n cs × NoneBad n us × ((vs : List ℕ) → Pairs (left-of n (map literal-of us) cs) vs → ⊥)
+  called-unmatched c b q = let w = numbered c b 10 (omega arith) (λ z. omega arith) q in declined-unmatched s us (w .0) (w .1) (w .2) (w .3)
 
 -- on an empty list a call is what it is without assumptions
 pub called-unassumed : (s : List ℕ) (c : Checkpoint) (b : ℕ) → walk-call s [] c b ≡ plain-call-on (plain-acceptance s) c b
