@@ -14,6 +14,7 @@ use Rattle.assumptions.specs.declared.Assumption.{Assumption}
 use Rattle.assumptions.specs.declared.Assumptions.{Assumptions}
 use Rattle.assumptions.specs.InnerAssumed.{MasksOf}
 use Rattle.splitting.specs.declared.Assignment.{Assignment}
+use Rattle.matched.specs.Acceptance.{accepted}
 use Rattle.matched.specs.InnerAccept.{assigned-by, Takes, Decides}
 use Rattle.matched.proofs.AcceptLaws.{given-assignment}
 use Rattle.walk.specs.Task.{Task, under}
@@ -53,10 +54,14 @@ module _ (s : List ℕ) (us : List Assumption) (f : Formula) (z : Scope) (w : Wa
     entered-begun r a h p = record {
       tree = tree T;
       fits = w .fits;
+      accepted = w .accepted;
       follows = walked-follows;
       holds = h;
+      passes = a;
+      position = p;
       calls = λ b. call-tested s us T (w .posed) (w .calls) c b whole-bytes ∙ rw (a, p);
       lists = λ k l. brought-resumed s us T (w .posed) (w .calls) c whole-bytes k ∙ brought-from f z (tree T) walked-follows k c l a ∙ rw p;
+      tested = λ x b h. call-tested s us T (w .posed) (w .calls) x b h;
     }
 
     -- it does not: 11
@@ -80,6 +85,12 @@ module _ (s : List ℕ) (us : List Assumption) (u : Assumptions) (given : MasksO
         ∙ ap₂ (λ (g : Formula) (a : Assignment). scope-under (g .variables) a) (w .formula) (given-assignment s us u given (w .variables) (w .clauses) (w .reads) (w .trail) (w .assumes))
         ∙ under-task (w .variables) (w .clauses) (w .trail);
     fits = w .fits;
+    accepted = record {
+      trail = w .trail;
+      clauses = w .clauses;
+      row = w .row;
+      accepts = w .accepts ∙ ap (λ (g : Formula). accepted (g .variables) (w .trail) (w .clauses) (w .row)) (sym (w .formula));
+    };
     calls = call-accepted s us (w .variables) (w .trail) (w .clauses) (w .row) (w .accepts);
   }
 

@@ -9,6 +9,7 @@ pub mod FormLaws
 pub mod ReplayLaws
 pub mod TellLaws
 pub mod ListLaws
+pub mod ArriveLaws
 pub mod PlaceLaws
 pub mod EnterLaws
 pub mod RefusedLaws

@@ -11,6 +11,7 @@ pub mod LengthLaws
 pub mod LiteralLaws
 pub mod MaskedLaws
 pub mod ModelLaws
+pub mod NumberLaws
 pub mod OneTo
 pub mod OutcomeLaws
 pub mod ReaderLaws

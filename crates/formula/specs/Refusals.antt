@@ -1,14 +1,14 @@
 -- S3.1: the number and the place of each refusal.
 use Prim.Native.Nat.{ℕ}
 use Rattle.formula.specs.declared.Refusal.{Refusal}
-use Rattle.formula.specs.declared.Refusal.the-variants.{ShortBuffer, Truncated, UnknownKind, Misplaced, BadVariableCount, NoSuchVariable, ComplementaryLiteral, TooManyClauses, TrailingByte, Unmatched, ForeignCheckpoint, StrayVariable, BadOpening, BadWord, ClauseCountDiffers, BadAssumption}
+use Rattle.formula.specs.declared.Refusal.the-variants.{ShortBuffer, Truncated, UnknownKind, Misplaced, BadVariableCount, NoSuchVariable, ComplementaryLiteral, TooManyClauses, TrailingByte, Unmatched, ForeignCheckpoint, StrayVariable, BadOpening, BadWord, ClauseCountDiffers, BadAssumption, ShortPage, BadSerial}
 
 pub record TableRow : Type 0 where
   pub number : ℕ
   pub place : ℕ
 
 -- (request: short slate, cut short, unknown kind, misplaced, bad kit, no such switch, named twice, too many rules, tail,
--- over-ruled, foreign marker, stray switch, bad opening, bad word, rule count differs, bad fixing)
+-- over-ruled, foreign marker, stray switch, bad opening, bad word, rule count differs, bad fixing, short page, bad serial)
 abbrev pub table-row : Refusal → TableRow
 table-row (ShortBuffer p) = record { number = 1; place = p }
 table-row (Truncated p) = record { number = 2; place = p }
@@ -26,3 +26,5 @@ table-row (BadOpening p) = record { number = 13; place = p }
 table-row (BadWord p) = record { number = 14; place = p }
 table-row (ClauseCountDiffers p) = record { number = 15; place = p }
 table-row (BadAssumption p) = record { number = 16; place = p }
+table-row (ShortPage p) = record { number = 17; place = p }
+table-row (BadSerial p) = record { number = 18; place = p }

@@ -47,6 +47,8 @@ pub enum Refusal {
     BadWord(usize),
     ClauseCountDiffers(usize),
     BadAssumption(usize),
+    ShortPage(usize),
+    BadSerial(usize),
 }
 
 // Accepted or refused: by the reader, and above it by acceptance and on entering a walk.
@@ -405,6 +407,8 @@ pub fn number_of(refusal: Refusal) -> u64
         Refusal::BadWord(_) => 14,
         Refusal::ClauseCountDiffers(_) => 15,
         Refusal::BadAssumption(_) => 16,
+        Refusal::ShortPage(_) => 17,
+        Refusal::BadSerial(_) => 18,
     }
 }
 
@@ -429,6 +433,8 @@ pub fn place_of(refusal: Refusal) -> usize
         Refusal::BadWord(p) => p,
         Refusal::ClauseCountDiffers(p) => p,
         Refusal::BadAssumption(p) => p,
+        Refusal::ShortPage(p) => p,
+        Refusal::BadSerial(p) => p,
     }
 }
 

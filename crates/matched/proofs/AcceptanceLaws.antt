@@ -248,16 +248,16 @@ module _ (s : List ℕ) (us : List Assumption) where
   unfolding acceptance
   unreadable-declined r e = rw e
 
-  -- a declined input has a number
-  pub declined-number : (r : Refusal) (row : List ℕ) → acceptance s us ≡ declined r row → 2 ≤ table-row r .number
+  -- a declined input has a number, from 2 to 16
+  pub declined-number : (r : Refusal) (row : List ℕ) → acceptance s us ≡ declined r row → (2 ≤ table-row r .number) × (table-row r .number ≤ 16)
   declined-number r row = by comes
     where
-      by : {a : Acceptance} → Comes s us a → a ≡ declined r row → 2 ≤ table-row r .number
+      by : {a : Acceptance} → Comes s us a → a ≡ declined r row → (2 ≤ table-row r .number) × (table-row r .number ≤ 16)
       by (of-formula n t cs reads assumes (paired vs w)) q = let z : _≡_ {A = ℕ} 0 1 = cc in absurd (omega arith)
       by (of-formula n t cs reads assumes (strips vs none w)) q = let z : _≡_ {A = ℕ} 0 1 = cc in absurd (omega arith)
       by (of-formula n t cs reads assumes (unpaired ms v none)) q = let e : Unmatched (length (marked ms (left-of n t cs))) ≡ r = cc in rw (← e) (omega arith)
       by (bad-assumed n cs i reads assumes) q = let e : BadAssumption i ≡ r = cc in rw (← e) (omega arith)
-      by (unreadable t reads) q = let e : t ≡ r = cc in rw (← e) (numbers s t reads .0)
+      by (unreadable t reads) q = let e : t ≡ r = cc in rw (← e) (omega (arith, numbers s t reads))
 
   -- 10 is for an input of which what stripping leaves can't be paired
   pub declined-unmatched : (r : Refusal) (row : List ℕ) → acceptance s us ≡ declined r row → table-row r .number ≡ 10

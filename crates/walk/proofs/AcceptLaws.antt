@@ -2,18 +2,20 @@
 -- position. Over any tree of at most 48 variables.
 use Prim.Native.Nat.{ℕ, _≤_}
 use mathlib.Core.Bool.{true, false}
+use mathlib.Core.List.{map}
 use mathlib.Core.Path.{_≡_, refl, ap, ap₂, _∙_, subst}
 use native.Mathlib.Omega.{arith}
-use lib.ListN.{length}
+use lib.ListN.{length, length-map}
 use Rattle.limits.specs.Limits.{max-variables}
+use Rattle.lists.proofs.PaddedLaws.{length-padded}
 use Rattle.lists.proofs.TestLaws.{and-left, and-right, and-both}
-use Rattle.walk.specs.Checkpoints.{Checkpoint, checkpoint-of}
+use Rattle.walk.specs.Checkpoints.{byte, Checkpoint, checkpoint-of}
 use Rattle.walk.specs.InnerStack.{Stack, empty, push, trail-of, Tree}
 use Rattle.walk.specs.InnerMachine.{Position, down, full, back, over, resume}
 use Rattle.walk.specs.InnerTest.{mode-of, stack-of, shown, read, position-of, formed, fits, accepts}
 use Rattle.walk.specs.InnerCall.{resumed-result, call-from}
 use Rattle.walk.proofs.RestLaws.{Stops, Replayed, replayed-depth, Reachable, Live}
-use Rattle.walk.proofs.PositionLaws.{position-back}
+use Rattle.walk.proofs.PositionLaws.{position-back, length-trail}
 use Rattle.walk.proofs.TestLaws.{fits-stop, stop-fits}
 use Rattle.walk.proofs.ByteLaws.{Below, read-written, written-formed, formed-written, formed-mode}
 
@@ -33,6 +35,16 @@ module _ (K : Tree) where
   stack-replayed (full t) o = o .0
   stack-replayed (back b t) o = o .0
   stack-replayed over o = tt
+
+  -- the checkpoint of a position has 48 bytes
+  pub shown-bytes : (p : Position) → Reachable K p → K .size ≤ max-variables → length (shown p .bytes) ≡ max-variables
+  unfolding checkpoint-of
+  shown-bytes p o small =
+      let t = stack-of p in
+      let d = replayed-depth K t (stack-replayed p o) in
+      let l = length-trail t in
+      let m : length (map byte (trail-of t)) ≤ max-variables = rw length-map (omega arith) in
+      length-padded max-variables 0 (map byte (trail-of t)) m
 
 module _ (K : Tree) (L : Live K) (small : K .size ≤ max-variables) (low : (t : Stack) → Replayed K t → Below max-variables t) where
   shown-mode : (p : Position) → shown p .mode ≡ mode-of p

@@ -111,30 +111,34 @@ module _ (s : List ℕ) (us : List Assumption) (n : ℕ) (cs : List (List Litera
   accepts : acceptance s us ≡ accepted n (map literal-of us) cs row
   accepts = left-accepted s us n (map literal-of us) cs (accepted-all s n cs encodes) (none-bad-literals n us good) vs pairs .1
 
-  P : Posed task
-  P = refusals.accepted-posed s us n (map literal-of us) cs row accepts
+  -- it is accepted, with some row; its task is as the walk asks it; and its calls are those on the task
+  pub accepted-row : (r : List ℕ) × (acceptance s us ≡ accepted n (map literal-of us) cs r)
+  accepted-row = (row, accepts)
 
-  walks : (c : Checkpoint) (b : ℕ) → walk-call s us c b ≡ task-call task c b
+  pub posed : Posed task
+  posed = refusals.accepted-posed s us n (map literal-of us) cs row accepts
+
+  pub walks : (c : Checkpoint) (b : ℕ) → walk-call s us c b ≡ task-call task c b
   walks = refusals.call-accepted s us n (map literal-of us) cs row accepts
 
   -- S10, demand 3
   pub demand-3 : (bs : List ℕ) → Dealt s us task bs
-  demand-3 = dealt s us task P walks
+  demand-3 = dealt s us task posed walks
 
   -- S6.7, S9.5: the same by the number of variables in place of that of the clauses: what stripping leaves at a node of the walk is matched,
   -- so that no more clauses than variables are tried. One assignment makes at most s × n × (n + 1) expansions, s the variables to assign,
   pub cheap-sharper : (l : Literal) (e : ℕ) → List·Memᴰ (assigns l e) (plain-walk task) → e ≤ to-assign task * (n * suc n)
-  cheap-sharper = laws.assignment-cheap-sound s us task P walks
+  cheap-sharper = laws.assignment-cheap-sound s us task posed walks
 
   -- and a gap at most s times as many.
   pub paced-sharper : (bs : List ℕ) → Paced (to-assign task) (to-assign task * (n * suc n)) (gaps (walk-calls s us start bs))
-  paced-sharper = laws.calls-paced-sound s us task P walks
+  paced-sharper = laws.calls-paced-sound s us task posed walks
 
   -- S10, demands 2 and 3: the listing has the models of the formula that keep the assumptions and no others: `exact`, over the formula
   -- itself
   pub listing-exact : (a : ℕ) → List·Memᴰ a (listing task) ↔ (Model n cs a × Agrees (bit a) (map literal-of us))
   listing-exact a =
-      let e = laws.listing-models s us task P walks a in
+      let e = laws.listing-models s us task posed walks a in
       let w = under-models n us cs a in
       (λ m. w .0 (e .0 m), λ m. e .1 (w .1 m))
 
@@ -144,70 +148,70 @@ module _ (s : List ℕ) (us : List Assumption) (n : ℕ) (cs : List (List Litera
       → (opened (choice-at task (behind task k .trail)) b ≡ true)
       ↔ ((a : ℕ) × Model n cs a × Agrees (bit a) (map literal-of us) × Agrees (bit a) (behind task k .trail) × (bit a (choice-at task (behind task k .trail) .variable) ≡ b))
   open-means k h b =
-      let e = laws.node-open s us task P walks k (rw (under-size n us cs (P .most) good) h) b in (
+      let e = laws.node-open s us task posed walks k (rw (under-size n us cs (posed .most) good) h) b in (
         λ o. let w = e .0 o in (w .0, w .1 .model, w .1 .agrees, w .2, w .3),
         λ w. e .1 (w .0, under-models n us cs (w .0) .1 (w .1, w .2), w .3, w .4),
       )
 
   -- From every checkpoint that the walk has, and on any budget, a call gives what the plain machine gives from there.
   pub from-checkpoint : (c : Checkpoint) (w : Has task c) (b : ℕ) → walk-call s us c b ≡ plain-result task (plain-call task b (state-after task 0 (w .0)))
-  from-checkpoint c w b = ap (λ (x : Checkpoint). walk-call s us x b) (sym (w .1)) ∙ laws.call-plain s us task P walks (w .0) b
+  from-checkpoint c w b = ap (λ (x : Checkpoint). walk-call s us x b) (sym (w .1)) ∙ laws.call-plain s us task posed walks (w .0) b
 
   -- S10, demand 1: 11 exactly for the checkpoints that the walk has not (S7.4)
   pub foreign-exactly : (c : Checkpoint) (b : ℕ) → (walk-call s us c b .number ≡ 11) ↔ (Has task c → ⊥)
-  foreign-exactly c b = laws.foreign-number s us task P walks c b
+  foreign-exactly c b = laws.foreign-number s us task posed walks c b
 
   -- S3.3: then the checkpoint is returned unchanged, and all else but the number is 0
   pub foreign-returned : (c : Checkpoint) (b : ℕ) → (Has task c → ⊥) → walk-call s us c b ≡ refusing (ForeignCheckpoint 0) c
-  foreign-returned c b f = laws.foreign s us task P walks c b f
+  foreign-returned c b f = laws.foreign s us task posed walks c b f
 
   -- S7.4: the checkpoints that the walk has are the start checkpoint and those that calls return.
   pub returned : (c : Checkpoint) → Has task c ↔ ((bs : List ℕ) × (last-checkpoint s us start bs ≡ c))
-  returned c = laws.has-returned s us task P walks c
+  returned c = laws.has-returned s us task posed walks c
 
   -- Told by themselves: a trail by choice with open values, the mode's own condition, the bytes of that trail, and 0 behind them.
   pub proper : (c : Checkpoint) → Has task c ↔ Proper task c
-  proper c = laws.has-proper s us task P walks c
+  proper c = laws.has-proper s us task posed walks c
 
   -- S17.3: an assumed variable is in no trail of the walk, and so in no checkpoint.
   pub trail-apart : (k v : ℕ) → names (behind task k .trail) v ≡ true → names (map literal-of us) v ≡ false
-  trail-apart = laws.behind-apart s us task P walks
+  trail-apart = laws.behind-apart s us task posed walks
 
   -- S8.2: a call that says spent has made all the steps of its budget
   pub spent-exactly : (bs : List ℕ) (b : ℕ) → walk-call s us (last-checkpoint s us start bs) b .kind ≡ says-spent → walk-call s us (last-checkpoint s us start bs) b .steps ≡ b
-  spent-exactly bs b = laws.calls-spent s us task P walks bs b
+  spent-exactly bs b = laws.calls-spent s us task posed walks bs b
 
   -- no call makes more steps than its budget
   pub within-budget : (bs : List ℕ) (b : ℕ) → walk-call s us (last-checkpoint s us start bs) b .steps ≤ b
-  within-budget bs b = laws.calls-within s us task P walks bs b
+  within-budget bs b = laws.calls-within s us task posed walks bs b
 
   -- S8.2: from the checkpoint of the end every call says ended, with no step made
   pub from-end : (b : ℕ) → walk-call s us (checkpoint-of 4 []) b ≡ answered ended 0 0 (checkpoint-of 4 [])
-  from-end b = laws.call-over s us task P walks b
+  from-end b = laws.call-over s us task posed walks b
 
   -- S8.2: where a variable is not assumed, a call on budget 0 from the start checkpoint says spent, and returns it
   pub start-zero : length us < n → walk-call s us start 0 ≡ answered spent 0 0 start
-  start-zero h = laws.start-zero s us task P walks (let e = under-size n us cs (P .most) good in omega arith)
+  start-zero h = laws.start-zero s us task posed walks (let e = under-size n us cs (posed .most) good in omega arith)
 
   -- no call of budget 0 brings a model then
   pub zero-model : length us < n → (c : Checkpoint) → walk-call s us c 0 .kind ≡ says-model → ⊥
-  zero-model h = laws.zero-brings-none s us task P walks (let e = under-size n us cs (P .most) good in omega arith)
+  zero-model h = laws.zero-brings-none s us task posed walks (let e = under-size n us cs (posed .most) good in omega arith)
 
   -- S17.5: where all variables are assumed, there is one model, that of the assumptions. On any budget a call from the start checkpoint
   -- hands it out, with no step made, and returns mode 1 and no trail;
   module _ (all : n ≤ length us) where
     none : to-assign task ≡ 0
-    none = let e = under-size n us cs (P .most) good in omega arith
+    none = let e = under-size n us cs (posed .most) good in omega arith
 
     pub none-left-listing : listing task ≡ assignment (map literal-of us) ∷ []
     none-left-listing = lefts.one-model task none
 
     pub none-left-first : (b : ℕ) → walk-call s us start b ≡ answered (found (assignment (map literal-of us))) 0 0 (checkpoint-of 1 [])
-    none-left-first b = lefts.call-first task none s us P walks b
+    none-left-first b = lefts.call-first task none s us posed walks b
 
     -- a call from there says ended, with no step made, and so does every later one (`from-end`);
     pub none-left-second : (b : ℕ) → walk-call s us (checkpoint-of 1 []) b ≡ answered ended 0 0 (checkpoint-of 4 [])
-    none-left-second b = lefts.call-second task none s us P walks b
+    none-left-second b = lefts.call-second task none s us posed walks b
 
     -- and the walk has no checkpoints but these three.
     pub none-left-checkpoints : (c : Checkpoint) → Has task c ↔ ((c ≡ start) ⊎ ((c ≡ checkpoint-of 1 []) ⊎ (c ≡ checkpoint-of 4 [])))

@@ -23,7 +23,7 @@ use Rattle.matched.specs.WithoutAssumptions.{plain-acceptance}
 use Rattle.matched.proofs.Demands.{acceptance-unassumed}
 use Rattle.matched.proofs.UnassumedLaws.{plain-same}
 use Rattle.matched.proofs.JudgeLaws.{judge-declined}
-use Rattle.matched.proofs.AcceptanceLaws.{left-sound, accepted-is, accepted-walkable, walkable-accepted, unpaired-declined, bad-declined, unreadable-declined, declined-unmatched, declined-bad}
+use Rattle.matched.proofs.AcceptanceLaws.{left-sound, accepted-is, accepted-walkable, walkable-accepted, unpaired-declined, bad-declined, unreadable-declined, declined-number, declined-unmatched, declined-bad}
 use Rattle.walk.specs.Task.{Task, under, Posed}
 use Rattle.walk.specs.Checkpoints.{Checkpoint, start}
 use Rattle.walk.specs.PlainMachine.{plain-call}
@@ -31,7 +31,7 @@ use Rattle.walk.specs.WalkCall.{call-on, walk-call, walk-calls}
 use Rattle.walk.specs.WithoutAssumptions.{plain-call-on}
 use Rattle.walk.specs.InnerLocate.{Located, at-state, nowhere, located, by-state, task-call}
 use Rattle.walk.specs.Results.{says-refused, Result, refusing}
-use Rattle.walk.proofs.TaskLaws.{calls-unrefused, call-is, after-bytes}
+use Rattle.walk.proofs.TaskLaws.{answer-unrefused, calls-unrefused, call-is, call-within, after-bytes}
 use Rattle.walk.proofs.UnderLaws.{under-posed, under-none}
 
 -- a call on a task is refused by 11 or by nothing
@@ -116,6 +116,27 @@ module _ (s : List ℕ) (us : List Assumption) where
   pub called-unmatched : (c : Checkpoint) (b : ℕ) → walk-call s us c b .number ≡ 10
       → (n : ℕ) × (cs : List (List Literal)) × Encodes s n cs × NoneBad n us × ((vs : List ℕ) → Pairs (left-of n (map literal-of us) cs) vs → ⊥)
   called-unmatched c b q = let w = numbered c b 10 (omega arith) (λ z. omega arith) q in declined-unmatched s us (w .0) (w .1) (w .2) (w .3)
+
+  -- a refused call has a number, and no call has one above 16
+  pub call-number : (c : Checkpoint) (b : ℕ) → (walk-call s us c b .kind ≡ says-refused → 0 < walk-call s us c b .number) × (walk-call s us c b .number ≤ 16)
+  unfolding walk-call task-call
+  call-number c b = by (acceptance s us) refl
+    where
+      at : (T : Task) (x : Located) → (by-state T c x b .kind ≡ says-refused → 0 < by-state T c x b .number) × (by-state T c x b .number ≤ 16)
+      at T (at-state k) = (λ e. absurd (answer-unrefused (plain-call T b k .answer) e), omega arith)
+      at T nowhere = (λ e. omega arith, omega arith)
+
+      by : (x : Acceptance) → acceptance s us ≡ x → (call-on x c b .kind ≡ says-refused → 0 < call-on x c b .number) × (call-on x c b .number ≤ 16)
+      by (accepted n t cs row) e = at (under n t cs) (located (under n t cs) c)
+      by (declined r row) e = let h = declined-number s us r row e in (λ q. omega arith, omega arith)
+
+  -- no call makes more steps than its budget
+  pub call-steps : (c : Checkpoint) (b : ℕ) → walk-call s us c b .steps ≤ b
+  call-steps c b = by (acceptance s us) refl
+    where
+      by : (x : Acceptance) → acceptance s us ≡ x → walk-call s us c b .steps ≤ b
+      by (accepted n t cs row) e = call-within s us (under n t cs) (accepted-posed n t cs row e) (call-accepted n t cs row e) c b
+      by (declined r row) e = rw (call-declined r row c b e) (omega arith)
 
 -- on an empty list a call is what it is without assumptions
 pub called-unassumed : (s : List ℕ) (c : Checkpoint) (b : ℕ) → walk-call s [] c b ≡ plain-call-on (plain-acceptance s) c b

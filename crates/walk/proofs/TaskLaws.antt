@@ -6,11 +6,10 @@ use mathlib.Core.Logic.{_⊎_, inl, inr, _↔_}
 use mathlib.Core.Path.{_≡_, refl, sym, ap, ap₂, _∙_, subst}
 use native.Mathlib.Nat.{sub-zero}
 use native.Mathlib.Omega.{arith}
-use lib.ListN.{length, take, length-map}
+use lib.ListN.{length, take, drop}
 use Rattle.limits.specs.Limits.{max-variables}
 use Rattle.lists.specs.Distinct.{Distinct}
 use Rattle.lists.specs.Every.{Every}
-use Rattle.lists.proofs.PaddedLaws.{length-padded}
 use Rattle.lists.proofs.TestLaws.{bool-clash}
 use Rattle.masks.specs.Mask.{bit}
 use Rattle.masks.proofs.SizeLaws.{size-le}
@@ -22,28 +21,28 @@ use Rattle.splitting.specs.Terms as terms
 use Rattle.splitting.specs.Terms.{opened}
 use Rattle.walk.specs.Task.{Task, to-assign, choice-at, ModelFor, Posed}
 use Rattle.walk.specs.Plain.{Entry, assigns, plain-walk, models-of, listing}
-use Rattle.walk.specs.Checkpoints.{Checkpoint, Behind, byte, checkpoint-of, start, past-all, behind, checkpoint-after}
+use Rattle.walk.specs.Checkpoints.{Checkpoint, Behind, checkpoint-of, start, past-all, behind, checkpoint-after}
 use Rattle.walk.specs.PlainMachine.{Answer, found, spent, ended, Call, plain-call, plain-calls, state-after, Has}
 use Rattle.walk.specs.WalkCall.{walk-call, walk-calls, last-checkpoint}
 use Rattle.walk.specs.InnerLocate.{Located, at-state, nowhere, located, by-state, task-call}
 use Rattle.walk.specs.Results.{says-model, says-spent, says-ended, says-refused, Result, answer-kind, answered, refusing, plain-result}
-use Rattle.walk.specs.Gaps.{brought, SaysEnded, gaps, Paced, step-bound, ample-budget}
+use Rattle.walk.specs.Gaps.{brings, brought, SaysEnded, gaps, Paced, step-bound, ample-budget}
 use Rattle.walk.specs.Proper.{Proper}
 use Rattle.walk.specs.InnerStack.{Stack, empty, depth, trail-of, tree}
 use Rattle.walk.specs.InnerMachine.{Position, down, over, Next, nothing, hands, ends, steps, next, halted, onward, resume}
 use Rattle.walk.specs.InnerTest.{stack-of, shown, read, position-of, accepts}
 use Rattle.walk.specs.InnerCall.{resumed-result, call-from}
-use Rattle.walk.proofs.LocateLaws.{located-stands, has-located}
+use Rattle.walk.proofs.LocateLaws.{located-stands, has-located, state-append}
 use Rattle.walk.proofs.RestLaws.{Pauses, Stops, walk, node, after-node, rest, Replayed, replayed-depth, Reachable, Live}
 use Rattle.walk.proofs.PositionLaws.{behind-of, length-trail}
 use Rattle.walk.proofs.AgreeLaws.{behind-after, At, at-start, at-every, Same, call-same}
 use Rattle.walk.proofs.ListingLaws.{walk-lists, walk-distinct, node-model}
-use Rattle.walk.proofs.CallLaws.{call-effect, resumes, last-position, results, brought-first, brought-all, never-spent, over-stops, steps-within, spent-all}
+use Rattle.walk.proofs.CallLaws.{call-effect, resumes, last-position, results, brought-first, brought-all, never-spent, over-stops, resume-within, spent-all, models-next, model-mode, ended-stops}
 use Rattle.walk.proofs.LoopLaws.{loop-over}
 use Rattle.walk.proofs.CostLaws.{walk-cheap}
 use Rattle.walk.proofs.PaceLaws.{pace}
 use Rattle.walk.proofs.MetLaws.{start-stops, down-spent, all-got}
-use Rattle.walk.proofs.AcceptLaws.{stack-replayed, shown-position, call-shown, accepted-stopped, stopped-accepted}
+use Rattle.walk.proofs.AcceptLaws.{stack-replayed, shown-bytes, shown-position, call-shown, accepted-stopped, stopped-accepted}
 use Rattle.walk.proofs.ProperLaws.{stop-proper, proper-stop}
 use Rattle.walk.proofs.ByteLaws.{Below}
 use Rattle.walk.proofs.TreeLaws.{walk-same, trail-over, trail-agrees, agrees-trail, trail-below, live, open-model, model-open, splits, cheap, cheap-sound}
@@ -61,6 +60,12 @@ module _ (T : Task) where
   rest-start : rest (tree T) (down empty) ≡ plain-walk T
   unfolding rest node after-node walk
   rest-start = rw sub-zero (sym (walk-same T))
+
+-- no answer of the plain machine is a refusal
+pub answer-unrefused : (a : Answer) → answer-kind a ≡ says-refused → ⊥
+answer-unrefused (found m) e = let z : _≡_ {A = ℕ} 0 1 = cc in omega arith
+answer-unrefused spent e = let z : _≡_ {A = ℕ} 0 1 = cc in omega arith
+answer-unrefused ended e = let z : _≡_ {A = ℕ} 0 1 = cc in omega arith
 
 -- an input whose walk calls are those on a task
 module _ (s : List ℕ) (us : List Assumption) (T : Task) (P : Posed T) (walks : (c : Checkpoint) (b : ℕ) → walk-call s us c b ≡ task-call T c b) where
@@ -175,14 +180,9 @@ module _ (s : List ℕ) (us : List Assumption) (T : Task) (P : Posed T) (walks :
   calls-plain bs = calls-results bs ∙ sym (plain-results bs 0 (down empty) (at-start (tree T)))
 
   -- none is refused
-  plain-kind : (a : Answer) → answer-kind a ≡ says-refused → ⊥
-  plain-kind (found a) e = let z : _≡_ {A = ℕ} 0 1 = cc in omega arith
-  plain-kind spent e = let z : _≡_ {A = ℕ} 0 1 = cc in omega arith
-  plain-kind ended e = let z : _≡_ {A = ℕ} 0 1 = cc in omega arith
-
   none-refused : (l : List Call) → Every (λ r. r .kind ≡ says-refused → ⊥) (map (plain-result T) l)
   none-refused [] = tt
-  none-refused (c ∷ l) = (plain-kind (c .answer), none-refused l)
+  none-refused (c ∷ l) = (answer-unrefused (c .answer), none-refused l)
 
   -- so no call is refused
   pub calls-unrefused : (bs : List ℕ) → Every (λ r. r .kind ≡ says-refused → ⊥) (walk-calls s us start bs)
@@ -255,11 +255,11 @@ module _ (s : List ℕ) (us : List Assumption) (T : Task) (P : Posed T) (walks :
       rw (last-plain bs, at-checkpoint T a, call-goes b (standing bs) (a .fine) (standing-stops bs))
       (not-spent (resume (tree T) b (standing bs) .answer) (never-spent (tree T) alive b (standing bs) (a .fine) (omega (arith, small))))
 
-  -- a call makes at most its budget's steps, and all of them where it says spent
+  -- a call makes at most its budget's steps
   pub calls-within : (bs : List ℕ) (b : ℕ) → walk-call s us (last-checkpoint s us start bs) b .steps ≤ b
   calls-within bs b =
       let a = standing-at bs in
-      rw (last-plain bs, at-checkpoint T a, call-goes b (standing bs) (a .fine) (standing-stops bs)) (steps-within (tree T) alive b (standing bs) (a .fine))
+      rw (last-plain bs, at-checkpoint T a, call-goes b (standing bs) (a .fine) (standing-stops bs)) (resume-within (tree T) b (standing bs))
 
   -- and all of them where it says spent
   pub calls-spent : (bs : List ℕ) (b : ℕ) → walk-call s us (last-checkpoint s us start bs) b .kind ≡ says-spent → walk-call s us (last-checkpoint s us start bs) b .steps ≡ b
@@ -309,14 +309,9 @@ module _ (s : List ℕ) (us : List Assumption) (T : Task) (P : Posed T) (walks :
 
   -- the checkpoint behind k entries has 48 bytes
   pub after-bytes : (k : ℕ) → length (checkpoint-after T k .bytes) ≡ max-variables
-  unfolding checkpoint-of
   after-bytes k =
       let x = at-every (tree T) alive k in
-      let t = stack-of (x .0) in
-      let d = replayed-depth (tree T) t (stack-replayed (tree T) (x .0) (x .1 .fine)) in
-      let l = length-trail t in
-      let m : length (map byte (trail-of t)) ≤ max-variables = rw length-map (omega (arith, small)) in
-      ap (λ (c : Checkpoint). length (c .bytes)) (at-checkpoint T (x .1)) ∙ length-padded max-variables 0 (map byte (trail-of t)) m
+      ap (λ (c : Checkpoint). length (c .bytes)) (at-checkpoint T (x .1)) ∙ shown-bytes (tree T) (x .0) (x .1 .fine) small
 
   -- the checkpoints that the walk has are those that calls from the start return
   pub has-returned : (c : Checkpoint) → Has T c ↔ ((bs : List ℕ) × (last-checkpoint s us start bs ≡ c))
@@ -389,3 +384,44 @@ module _ (s : List ℕ) (us : List Assumption) (T : Task) (P : Posed T) (walks :
           ∙ ap (λ (d : Checkpoint). walk-call s us d 0 .kind) (sym (at-checkpoint T a) ∙ same)
           ∙ e)
       at nowhere q e = let z : _≡_ {A = ℕ} 0 1 = cc (ap (λ (r : Result). r .kind) (call-is c 0 nowhere q)) in omega arith
+
+  -- no call makes more steps than its budget, from whatever checkpoint
+  pub call-within : (c : Checkpoint) (b : ℕ) → walk-call s us c b .steps ≤ b
+  call-within c b = at (located T c) refl
+    where
+      at : (x : Located) → located T c ≡ x → walk-call s us c b .steps ≤ b
+      at (at-state k) e =
+          let w = located-stands T c k e in
+          subst (λ (d : Checkpoint). walk-call s us d b .steps ≤ b) (last-plain (w .0) ∙ ap (checkpoint-after T) (w .1) ∙ w .2) (calls-within (w .0) b)
+      at nowhere e = rw (call-is c b nowhere e) (omega arith)
+
+  -- ---- one call
+
+  -- r, the result of a call, k entries behind before it and j behind it: the checkpoint is that behind j; the models that were left are the
+  -- one that it brings, if any, and those left then; behind a model the mode is 1; if it says ended, none is left, and the checkpoint is
+  -- that of the end
+  pub record Onward (k j : ℕ) (r : Result) : Type 0 where
+    pub returned : checkpoint-after T j ≡ r .checkpoint
+    pub models : models-of (drop k (plain-walk T)) ≡ brings (r .kind) (r .model) ++ models-of (drop j (plain-walk T))
+    pub mode : r .kind ≡ says-model → r .checkpoint .mode ≡ 1
+    pub none : r .kind ≡ says-ended → models-of (drop j (plain-walk T)) ≡ []
+    pub over : r .kind ≡ says-ended → r .checkpoint ≡ checkpoint-of 4 []
+
+  at-models : {k : ℕ} {p : Position} → At (tree T) k p → models-of (drop k (plain-walk T)) ≡ models-of (rest (tree T) p)
+  at-models {k} a = ap (λ (l : List Entry). models-of (drop k l)) (walk-same T) ∙ ap models-of (a .ahead)
+
+  -- a call from a checkpoint that the walk has
+  pub call-onward : (bs : List ℕ) (b : ℕ) → Onward (state-after T 0 bs) (state-after T 0 (bs ++ (b ∷ []))) (walk-call s us (checkpoint-after T (state-after T 0 bs)) b)
+  unfolding state-after trail-of checkpoint-of
+  call-onward bs b =
+      let a = standing-at bs in
+      let p = standing bs in
+      let v = plain-same b (state-after T 0 bs) p a .at in
+      rw (at-checkpoint T a, call-goes b p (a .fine) (standing-stops bs), state-append T bs (b ∷ []) 0) (record {
+        returned = at-checkpoint T v;
+        models = at-models a ∙ models-next (tree T) alive b p (a .fine)
+            ∙ ap (λ (l : List ℕ). brings (resumed-result (resume (tree T) b p) .kind) (resumed-result (resume (tree T) b p) .model) ++ l) (sym (at-models v));
+        mode = λ x. model-mode (tree T) alive b p (a .fine) x;
+        none = λ x. at-models v ∙ ended-stops (tree T) alive b p (a .fine) x .1;
+        over = λ x. ap shown (ended-stops (tree T) alive b p (a .fine) x .0);
+      })

@@ -1,3 +1,4 @@
+pub mod BlankLaws
 pub mod DecimalLaws
 pub mod LineLaws
 pub mod PlacedLaws

@@ -1,10 +1,10 @@
 -- Laws of a list written into another at an offset.
 use Prim.Native.Nat.{ℕ, _+_, _≤_, _<_}
-use mathlib.Core.List.{List, [], _∷_, _++_, append-assoc}
+use mathlib.Core.List.{List, [], _∷_, _++_, append-nil, append-assoc}
 use mathlib.Core.Path.{_≡_, refl, sym, ap, _∙_}
 use native.Mathlib.Numerals.{add-one}
 use native.Mathlib.Omega.{arith}
-use lib.ListN.{length, take, drop, getD, set, take-append-drop, length-append, length-drop}
+use lib.ListN.{length, take, drop, getD, set, take-append-drop, length-append, length-drop, drop-of-length-le}
 use lib.Seq.{length-take-le, take-suc, set-split, take-at, drop-append-add, drop-drop}
 use Rattle.lists.specs.Tabulated.{tabulated}
 use Rattle.lists.proofs.TabulatedLaws.{length-tabulated, tabulated-more}
@@ -51,6 +51,11 @@ module _ {A : Type 0} where
       ∙ ap (λ (k : ℕ). placed (at + k) (x ∷ []) (placed at xs b)) (sym e)
       ∙ placed-placed at xs (x ∷ []) b (omega arith)
 
+  -- a part of k elements that was lent, and came back as xs
+  pub placed-part : (at k : ℕ) (xs b : List A) → length xs ≡ k → take at b ++ (xs ++ drop k (drop at b)) ≡ placed at xs b
+  placed-part at k xs b h =
+      ap (λ (j : ℕ). take at b ++ (xs ++ drop j (drop at b))) (sym h) ∙ ap (λ (d : List A). take at b ++ (xs ++ d)) (drop-drop (length xs) at b)
+
 -- ---- loops that write
 
 -- one element more of a list
@@ -69,6 +74,13 @@ value-next f b c at i x v k e = rw (e, tabulated-more f i, v) (placed-set at i (
 pub wrote-length : {xs : List ℕ} {at : ℕ} {b c : List ℕ} {r : ℕ} → Room at xs b → Wrote xs at b c r → length c ≡ length b
 wrote-length {xs} {at} {b} {c} h w = ap length (w .buffer) ∙ placed-length at xs b h
 
+-- and the answer lies within it
+pub wrote-within : {xs : List ℕ} {at : ℕ} {b c : List ℕ} {r : ℕ} → at ≤ length b → Wrote xs at b c r → r ≤ length c
+wrote-within {xs} {at} {b} h w =
+    let t : length (take at b) ≡ at = length-take-le at b h in
+    let n = w .next in
+    rw (w .buffer) (simp length-append (omega arith))
+
 -- a store
 pub wrote-one : (at x : ℕ) (b : List ℕ) → at < length b → Wrote (x ∷ []) at b (set b at x) (at + 1)
 wrote-one at x b h = record { buffer = set-placed at x b h; next = refl }
@@ -80,6 +92,12 @@ wrote-more {xs} {ys} {at} {p} {r} {b} {c} {d} h v w =
       buffer = w .buffer ∙ ap (λ (t : ℕ). placed t ys c) (v .next) ∙ ap (placed (at + length xs) ys) (v .buffer) ∙ placed-placed at xs ys b h;
       next = (let l = length-append xs ys in let m = v .next in let n = w .next in omega arith);
     }
+
+-- a buffer that is written whole
+pub wrote-whole : {xs : List ℕ} {b c : List ℕ} {r : ℕ} → length b ≡ length xs → Wrote xs 0 b c r → c ≡ xs
+wrote-whole {xs} {b} h w =
+    let e : drop (0 + length xs) b ≡ [] = drop-of-length-le b {i = 0 + length xs} (omega arith) in
+    w .buffer ∙ rw e (append-nil xs)
 
 -- ---- room
 

@@ -1,8 +1,9 @@
 -- Text as lists of ASCII bytes: numbers in decimal, the digits of a mask, lines of words.
-use Prim.Native.Nat.{ℕ, zero, suc, _+_, _/_, _%_}
+use Prim.Native.Nat.{ℕ, zero, suc, _+_, _-_, _/_, _%_}
 use mathlib.Core.Bool.{cond}
 use mathlib.Core.List.{List, [], _∷_, _++_}
 use lib.Dec.{ltb}
+use lib.ListN.{length, replicate}
 use Rattle.lists.specs.Tabulated.{tabulated}
 use Rattle.masks.specs.Mask.{bit}
 
@@ -41,3 +42,11 @@ abbrev pub line-of : List (List ℕ) → List ℕ
 line-of [] = line-feed ∷ []
 line-of (w ∷ []) = w ++ (line-feed ∷ [])
 line-of (w ∷ v ∷ ws) = w ++ (blank ∷ line-of (v ∷ ws))
+
+-- so many blanks
+unfoldable pub blanks : ℕ → List ℕ
+blanks k = replicate k blank
+
+-- S19.1: a word, w wide, right-aligned: blanks before it
+abbrev pub right : ℕ → List ℕ → List ℕ
+right w xs = blanks (w - length xs) ++ xs

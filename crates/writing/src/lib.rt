@@ -7,7 +7,7 @@ ghost use mathlib.Core.List.{[], _∷_};
 ghost use Prim.Native.Nat.{_+_, _<_, _≤_};
 ghost use lib.ListN.{length};
 ghost use Rattle.writing.specs.Placed.{Room, Wrote};
-ghost use Rattle.writing.specs.Text.{decimal, digit, digits, line-of};
+ghost use Rattle.writing.specs.Text.{decimal, digit, digits, line-of, blanks, right};
 
 // One byte.
 pub fn put_byte(x: u8, buffer: &mut [u8], at: usize) -> usize
@@ -76,4 +76,39 @@ pub fn put_numbers(x: u64, y: u64, buffer: &mut [u8], at: usize) -> usize
     let second = put_byte(b' ', buffer, blank);
     let feed = put_decimal(y, buffer, second);
     put_byte(b'\n', buffer, feed)
+}
+
+// So many blanks.
+pub fn put_blanks(count: usize, buffer: &mut [u8], at: usize) -> usize
+    requires { ⌜ at + count ≤ length (now buffer) ⌝ }
+    ensures { λ r. ⌜ Wrote (blanks count) at (now (buffer .entry)) (now (buffer .exit)) r ⌝ }
+{
+    let mut i: usize = 0;
+    while i < count {
+        buffer[at + i] = b' ';
+        i += 1;
+    }
+    at + i
+}
+
+// How many digits a number has.
+fn width_of(x: u64) -> usize
+    ensures { λ r. ⌜ r ≡ length (decimal x) ⌝ }
+{
+    let mut width: usize = 1;
+    let mut left = x;
+    while 9 < left {
+        left = left / 10;
+        width += 1;
+    }
+    width
+}
+
+// A number in decimal, so wide and right-aligned.
+pub fn put_right(x: u64, wide: usize, buffer: &mut [u8], at: usize) -> usize
+    requires { ⌜ (length (decimal x) ≤ wide) × (at + wide ≤ length (now buffer)) ⌝ }
+    ensures { λ r. ⌜ Wrote (right wide (decimal x)) at (now (buffer .entry)) (now (buffer .exit)) r ⌝ }
+{
+    let first = put_blanks(wide - width_of(x), buffer, at);
+    put_decimal(x, buffer, first)
 }
