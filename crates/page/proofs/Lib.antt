@@ -1,0 +1,11 @@
+pub mod LineLaws
+pub mod JoinedLaws
+pub mod LineAtLaws
+pub mod NextLaws
+pub mod NextModelLaws
+pub mod PageCallLaws
+pub mod ConsecutiveLaws
+pub mod RunLaws
+pub mod GoingLaws
+pub mod EnteredLaws
+pub mod Demands

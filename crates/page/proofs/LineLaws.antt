@@ -1,0 +1,47 @@
+-- S19.1: every line of a page has 60 bytes.
+use Prim.Native.Nat.{ℕ, _+_, _-_, _≤_, _<_}
+use mathlib.Core.List.{List, [], _∷_, _++_, append-assoc}
+use mathlib.Core.Path.{_≡_, _∙_}
+use native.Mathlib.Omega.{arith}
+use lib.ListN.{length, length-append}
+use Rattle.limits.specs.Limits.{max-variables}
+use Rattle.lists.proofs.TabulatedLaws.{length-tabulated}
+use Rattle.writing.specs.Text.{line-feed, blank, decimal, digit, digits, line-of, blanks, right}
+use Rattle.writing.proofs.BlankLaws.{blanks-length, right-length}
+use Rattle.writing.proofs.DecimalLaws.{decimal-length}
+use Rattle.page.specs.PageLines.{line-size, serial-width, steps-width, columns, page-line, blank-line}
+
+-- the words of a line are as wide as their columns
+pub serial-length : (serial : ℕ) → serial < 1000000 → length (right serial-width (decimal serial)) ≡ serial-width
+serial-length serial h = right-length serial-width (decimal serial) (decimal-length 5 serial h)
+
+columns-length : (n a : ℕ) → n ≤ max-variables → length (columns n a) ≡ max-variables
+columns-length n a h =
+    let d = length-tabulated (digit a) n in
+    let b = blanks-length (max-variables - n) in
+    length-append (digits n a) (blanks (max-variables - n)) ∙ omega arith
+
+pub steps-length : (steps : ℕ) → steps < 1000 → length (right steps-width (decimal steps)) ≡ steps-width
+steps-length steps h = right-length steps-width (decimal steps) (decimal-length 2 steps h)
+
+-- three words, and a blank or a line feed behind each
+words-length : (u v w : List ℕ) → length (line-of (u ∷ v ∷ w ∷ [])) ≡ length u + length v + length w + 3
+words-length u v w = simp length-append (omega arith)
+
+-- their parts, one behind the other
+pub words-parts : (u d b w : List ℕ) → (((((u ++ (blank ∷ [])) ++ d) ++ b) ++ (blank ∷ [])) ++ w) ++ (line-feed ∷ []) ≡ line-of (u ∷ (d ++ b) ∷ w ∷ [])
+words-parts u d b w = simp append-assoc
+
+-- the line of a model
+pub page-line-length : (serial n a steps : ℕ) → serial < 1000000 → n ≤ max-variables → steps < 1000 → length (page-line serial n a steps) ≡ line-size
+unfolding page-line
+page-line-length serial n a steps hs hn ht =
+    let u = serial-length serial hs in
+    let v = columns-length n a hn in
+    let w = steps-length steps ht in
+    words-length (right serial-width (decimal serial)) (columns n a) (right steps-width (decimal steps)) ∙ omega arith
+
+-- a line without one
+pub blank-length : length blank-line ≡ line-size
+unfolding blank-line
+blank-length = length-append (blanks (line-size - 1)) (line-feed ∷ []) ∙ (let b = blanks-length (line-size - 1) in omega arith)

@@ -1,0 +1,59 @@
+-- `page::lines::put_line_at` meets its contract: the part that is lent comes back as the line.
+use borrow.Author.Needs.{needs}
+use native.Mathlib.Omega.{arith}
+use Prim.Native.Nat.{ℕ, _+_, _*_, _-_}
+use mathlib.Core.List.{List}
+use mathlib.Core.Path.{_≡_, ap, _∙_}
+use lib.ListN.{length}
+use Rattle.writing.specs.Placed.{placed}
+use Rattle.writing.proofs.PlacedLaws.{placed-part}
+use Rattle.page.specs.PageLines.{line-size}
+use Rattle.page.proofs.LineLaws.{page-line-length}
+use Rattle.page.proofs.lines.put_line_at.Statement.{statement}
+use Rattle.page.proofs.lines.put_line_at.Tie as tie
+
+mul-from : tie.Need-mul-from
+mul-from c = search needs
+
+add-to : tie.Need-add-to
+add-to c = search needs
+
+sub-put-line : tie.Need-sub-put-line
+sub-put-line c = search needs
+
+part-put-line-start : tie.Need-part-put-line-start
+part-put-line-start c = search needs
+
+part-put-line-end : tie.Need-part-put-line-end
+part-put-line-end c = search needs
+
+put-line-requires : tie.Need-put-line-requires
+put-line-requires c κs = search needs
+
+same-length : tie.Need-same-length
+same-length c = search needs
+
+returns : tie.Need-returns
+returns c =
+    let line = c .before .before in
+    let s = line .before .before .before in
+    let from = line-size * s .args .i in
+    let e = line .put-line .ensures in
+    let l = page-line-length (s .args .serial) (s .args .n) (s .args .a) (s .args .steps) (s .pre .2) (s .pre .3) (s .pre .4) in
+    let t = line .put-line .last .1 .1 .1 .1 .0 in
+    let k : length t ≡ from + line-size - from = ap length e ∙ l ∙ omega arith in
+    placed-part from (from + line-size - from) t (s .args .page .now) k
+    ∙ ap (λ (l : List ℕ). placed from l (s .args .page .now)) e
+
+pub put-line-at-spec : {M : Type 1} → statement M
+put-line-at-spec =
+    tie.close
+    (tie.spec
+    mul-from
+    add-to
+    sub-put-line
+    part-put-line-start
+    part-put-line-end
+    put-line-requires
+    same-length
+    returns)

@@ -1,0 +1,3 @@
+pub mod PageLines
+pub mod Pages
+pub mod InnerPages

@@ -1,0 +1,34 @@
+-- S19.1: the lines of a page (request: notice-board page), byte for byte.
+use Prim.Native.Nat.{ℕ, _*_, _-_}
+use mathlib.Core.List.{List, [], _∷_, _++_}
+use Rattle.limits.specs.Limits.{max-variables}
+use Rattle.writing.specs.Text.{decimal, digits, line-of, blanks, right}
+
+-- a page has 50 lines of 60 bytes: 3,000
+abbrev pub page-lines : ℕ
+page-lines = 50
+
+abbrev pub line-size : ℕ
+line-size = 60
+
+abbrev pub page-size : ℕ
+page-size = page-lines * line-size
+
+-- a serial and the steps (request: moves) are so wide, right-aligned
+abbrev pub serial-width : ℕ
+serial-width = 6
+
+abbrev pub steps-width : ℕ
+steps-width = 3
+
+-- 48 columns: a digit for each of the n variables, and blanks past n
+abbrev pub columns : ℕ → ℕ → List ℕ
+columns n a = digits n a ++ blanks (max-variables - n)
+
+-- the line of a model of n variables: its serial, its columns, and the steps that led to it; a blank between two, and a line feed
+unfoldable pub page-line : ℕ → ℕ → ℕ → ℕ → List ℕ
+page-line serial n a steps = line-of (right serial-width (decimal serial) ∷ columns n a ∷ right steps-width (decimal steps) ∷ [])
+
+-- a line without a model: 59 blanks and a line feed
+unfoldable pub blank-line : List ℕ
+blank-line = line-of (blanks (line-size - 1) ∷ [])
