@@ -1,5 +1,6 @@
 /*
- * Norwythai: the models of a CNF formula, one after the other, if it is accepted; and DIMACS CNF text read and written.
+ * Norwythai: the models of a CNF formula, if it is accepted, one after the other or as pages of text; and DIMACS CNF text read and
+ * written.
  *
  * The functions of libcapi.a. For each it is proved what it returns and how it leaves every buffer, on all inputs:
  * crates/capi/specs/Interface.antt has the definitions, and the comments here say them in words. None keeps any state, allocates or
@@ -31,13 +32,13 @@
  * assignment is a 64-bit number: variable v, counted from 1, is true if bit v - 1 is set. A model is an assignment in which every clause
  * has a literal that is true, and no variable above n is.
  *
- * ACCEPTED formulas are those that judge accepts and that walk and list go through. Clauses are matched if each can have a variable that
- * it names, no variable used twice. Stripping (pure literal elimination) takes the lowest variable that the clauses name one way only, as
- * positive or as negative literals, notes it and drops all clauses that name it, and goes on with the clauses that are left until there is
- * no such variable. A formula is accepted if it is matched, or if what stripping leaves of it is. So it may have more clauses than
- * variables. All three functions accept the same formulas, under the same assumptions.
+ * ACCEPTED formulas are those that judge accepts and that walk, list and page go through. Clauses are matched if each can have a variable
+ * that it names, no variable used twice. Stripping (pure literal elimination) takes the lowest variable that the clauses name one way
+ * only, as positive or as negative literals, notes it and drops all clauses that name it, and goes on with the clauses that are left
+ * until there is no such variable. A formula is accepted if it is matched, or if what stripping leaves of it is. So it may have more
+ * clauses than variables. All four functions accept the same formulas, under the same assumptions.
  *
- * ASSUMPTIONS are values that judge, walk and list are to take for some variables. The list has two bytes for each: the variable,
+ * ASSUMPTIONS are values that judge, walk, list and page are to take for some variables. The list has two bytes for each: the variable,
  * counted from 1, and its value, 0 for false and any other byte for true. `assumptions_length` counts bytes; with 0 nothing is assumed.
  * They are applied first: a clause that one of them satisfies is gone, and the others lose the assumed variables. Matching, stripping
  * and walking are of what remains, and the models of a walk are those that have the assumed values, which stand among their bits. A
@@ -51,13 +52,13 @@
  *
  * THE RESULTS are NORWYTHAI_RESULTS numbers:
  *
- *              check        judge          walk             list                          from_dimacs, to_dimacs
+ *              check        judge          walk             list                          page          from_dimacs, to_dimacs
  *   results[0] the answer, 0 to 3 as below
- *   results[1] 0            0              the model, or 0  the last call's model, or 0   0
+ *   results[1] 0            0              the model, or 0  the last call's model, or 0   0             0
  *   results[2] the refusal's number, or 0 if the answer is no refusal
  *   results[3] the refusal's place, or 0 if the answer is no refusal
- *   results[4] 0            variables n    steps made       how many models were written  how many bytes were written
- *   results[5] 0            clauses m      expansions made  0                             0
+ *   results[4] 0            variables n    steps made       how many models were written  lines filled  how many bytes were written
+ *   results[5] 0            clauses m      expansions made  0                             0             0
  *
  *   answer  check               judge               walk                                 list
  *   0       NORWYTHAI_YES       NORWYTHAI_ACCEPTED  NORWYTHAI_MODEL                      NORWYTHAI_MODEL: `models` is full
@@ -65,7 +66,8 @@
  *   2       -                   -                   NORWYTHAI_ENDED: no model is left    NORWYTHAI_ENDED: no model is left
  *   3       NORWYTHAI_REFUSED   NORWYTHAI_REFUSED   NORWYTHAI_REFUSED                    NORWYTHAI_REFUSED
  *
- * from_dimacs and to_dimacs answer 0, NORWYTHAI_WRITTEN, or 3, NORWYTHAI_REFUSED.
+ * page answers 0, NORWYTHAI_FULL, if all lines are filled; 2, NORWYTHAI_ENDED, if fewer are, since no model is left; or 3,
+ * NORWYTHAI_REFUSED. from_dimacs and to_dimacs answer 0, NORWYTHAI_WRITTEN, or 3, NORWYTHAI_REFUSED.
  *
  * REFUSALS. Places are offsets into the input or the text, counted from 0, except at 10 and 16. In a text the place at 5 to 8 is the
  * word's first byte.
@@ -94,15 +96,30 @@
  *           differs
  *   16      bad fixing       an assumption's variable is not 1 to n, or is       index of the first such
  *                            assumed before, with either value                   assumption, from 0
+ *   17      short page       the page is below 3,000 bytes                       0
+ *   18      bad serial       the first serial is 0 or above 999,950              0
  *
- * They are tested in the order 1, then record by record 2 to 8, then 9, 16, 10, 11, 12. check gives 2 to 9 and 12 only; judge 1 to 10
- * and 16; walk and list 2 to 11 and 16; to_dimacs 1 to 9. from_dimacs tests 1, 13, 5, then word by word 14, 6, 7, 8, and at the end 2
- * and 15. On a refusal results[1], results[4] and results[5] are 0.
+ * They are tested in the order 1, 17, 18, then record by record 2 to 8, then 9, 16, 10, 11, 12. check gives 2 to 9 and 12 only; judge 1
+ * to 10 and 16; walk and list 2 to 11 and 16; page these and 17 and 18; to_dimacs 1 to 9. from_dimacs tests 1, 13, 5, then word by word
+ * 14, 6, 7, 8, and at the end 2 and 15. On a refusal results[1], results[4] and results[5] are 0.
  *
  * A CHECKPOINT is NORWYTHAI_CHECKPOINT bytes that say where a walk stands: mode, length, 48 bytes of trail. norwythai_start gives the
- * first, norwythai_walk and norwythai_list each the next. It can be kept, copied and sent anywhere, and used again with the same input
- * and the same assumptions. It holds no mark of them and has no assumed variable: keep beside it what it is of. With another input or
- * other assumptions it is refused by 11 where it does not fit, and taken where it happens to.
+ * first, norwythai_walk, norwythai_list and norwythai_page each the next, which any of them takes. It can be kept, copied and sent
+ * anywhere, and used again with the same input and the same assumptions. It holds no mark of them and has no assumed variable: keep
+ * beside it what it is of. With another input or other assumptions it is refused by 11 where it does not fit, and taken where it happens
+ * to.
+ *
+ * A PAGE is NORWYTHAI_PAGE_LINES lines of NORWYTHAI_LINE_SIZE bytes, one behind the other: NORWYTHAI_PAGE_SIZE bytes of text, to be
+ * printed as they are. No zero byte ends it. A line with a model has
+ *
+ *   bytes 0 to 5    its serial in decimal digits, right-aligned: with blanks (20) before it
+ *   byte  6         a blank
+ *   bytes 7 to 54   48 columns: the digit of variable v, 1 if it is true and 0 if not, is byte 6 + v; behind that of variable n are blanks
+ *   byte  55        a blank
+ *   bytes 56 to 58  the steps from the line before to its model, right-aligned; on the first line those from the checkpoint handed in
+ *   byte  59        a line feed (0A)
+ *
+ * A line without a model is 59 blanks and a line feed.
  *
  * THE RETURNED NUMBER of every function is 0 if the results (norwythai_start: the checkpoint) were written, and 1 if `results_length`
  * is not NORWYTHAI_RESULTS, `checkpoint_length` is not NORWYTHAI_CHECKPOINT or `assumptions_length` is odd: then no byte of any buffer
@@ -120,7 +137,13 @@
 #define NORWYTHAI_FORMULA_BUFFER 9315
 #define NORWYTHAI_TEXT_BUFFER 18636
 
-/* The answers of walk and list; the last one is also the others'. */
+/* The lines of a page, the bytes of a line and of a page, and the highest serial of a first line: the last line's is then 999,999. */
+#define NORWYTHAI_PAGE_LINES 50
+#define NORWYTHAI_LINE_SIZE 60
+#define NORWYTHAI_PAGE_SIZE 3000
+#define NORWYTHAI_MAX_SERIAL 999950
+
+/* The answers of walk and list; ENDED is also page's, and REFUSED is all others'. */
 #define NORWYTHAI_MODEL 0
 #define NORWYTHAI_SPENT 1
 #define NORWYTHAI_ENDED 2
@@ -136,6 +159,9 @@
 
 /* Added to the variable in judge's byte for a clause that stripping drops. */
 #define NORWYTHAI_DROPPED 128
+
+/* The other answer of page. */
+#define NORWYTHAI_FULL 0
 
 /* The other answer of from_dimacs and to_dimacs. */
 #define NORWYTHAI_WRITTEN 0
@@ -215,6 +241,27 @@ uint32_t norwythai_walk(const uint8_t *input, size_t input_length, const uint8_t
 NORWYTHAI_NODISCARD
 uint32_t norwythai_list(const uint8_t *input, size_t input_length, const uint8_t *assumptions, size_t assumptions_length,
                         uint8_t *checkpoint, size_t checkpoint_length, uint64_t *models, size_t models_length,
+                        uint64_t *results, size_t results_length);
+
+/*
+ * The next models of an accepted formula as a page, under serials that rise by one a line: what NORWYTHAI_PAGE_LINES walk calls of budget
+ * 96 give, as text.
+ * Reads the input, the assumptions, the checkpoint and the serial of the first line; writes the page, the results, and over the
+ * checkpoint the one to go on from. results[4] is how many lines, from the top, have a model: NORWYTHAI_PAGE_LINES of them
+ * (NORWYTHAI_FULL), and the checkpoint is then that behind the last one; or fewer, all that are left (NORWYTHAI_ENDED), and the checkpoint
+ * is that of the end. The other lines are blank. Where just as many models were left as there are lines, the next page is all blank and
+ * says NORWYTHAI_ENDED; a page from the end does, too.
+ * The page needs NORWYTHAI_PAGE_SIZE bytes or more (fewer: refusal 17), and the serial is 1 to NORWYTHAI_MAX_SERIAL (else: refusal 18);
+ * both are tested before the input is read. What stands behind the first NORWYTHAI_PAGE_SIZE bytes does not change. A refusal fills no
+ * line: results[4] is 0, and every byte of the page and the checkpoint stay as they were (theorem page-refused in
+ * crates/capi/proofs/Theorems.antt).
+ * For the next page pass the same checkpoint again, and a serial that is NORWYTHAI_PAGE_LINES higher. Past NORWYTHAI_MAX_SERIAL the models
+ * go on under any other serial, since no checkpoint holds one.
+ * With `input_length`, `assumptions_length` or `page_length` 0, `input`, `assumptions` or `page` is the address of any byte and not null.
+ */
+NORWYTHAI_NODISCARD
+uint32_t norwythai_page(const uint8_t *input, size_t input_length, const uint8_t *assumptions, size_t assumptions_length,
+                        uint8_t *checkpoint, size_t checkpoint_length, uint32_t serial, uint8_t *page, size_t page_length,
                         uint64_t *results, size_t results_length);
 
 /*

@@ -1,5 +1,6 @@
 -- What each exported function gives, from what its parts ensure: nothing is written, or the results are.
 use Prim.Native.Nat.{ℕ, _%_}
+use mathlib.Core.Bool.{cond, _&&_}
 use mathlib.Core.List.{List}
 use mathlib.Core.Path.{_≡_, sym, ap, _∙_}
 use lib.ListN.{length}
@@ -17,7 +18,9 @@ use Rattle.enumeration.specs.declared.listing.Listed.{Listed}
 use Rattle.enumeration.specs.declared.calls.Walked.{Walked}
 use Rattle.enumeration.specs.Values.{checkpoint-values, walked-values, listed-values}
 use Rattle.enumeration.specs.Lists.{Delivered, next-models}
-use Rattle.capi.specs.Interface.{results-size, checkpoint-size, assumption-size, check-results, judge-results, conversion-results, walk-results, list-results, checkpoint-bytes, checkpoint-in, check-called, judge-called, conversion-called, start-called, walk-told, walk-called, list-told, list-called}
+use Rattle.page.specs.declared.Paged.{Paged}
+use Rattle.page.specs.Pages.{page-values, page-told, page-call}
+use Rattle.capi.specs.Interface.{results-size, checkpoint-size, assumption-size, check-results, judge-results, conversion-results, walk-results, list-results, page-results, checkpoint-bytes, checkpoint-in, results-sized, checkpoint-sized, assumptions-sized, check-called, judge-called, conversion-called, start-called, walk-told, walk-called, list-told, list-called, page-shown, page-called}
 use Rattle.capi.proofs.ResultsLaws.{beside}
 
 module _ (s results : List ℕ) (a : ℕ) where
@@ -82,28 +85,26 @@ module _ (checkpoint : List ℕ) where
   unfolding start-called
   start-written c after h e f = rw (eq-eqb _ _ h, f, e)
 
+-- the lengths that walk, list and page ask for: one of them is wrong, or all are right
+module _ {A : Type 0} (assumptions checkpoint results : List ℕ) (written unwritten : A) where
+  abbrev pub asked : A
+  asked = cond (assumptions-sized assumptions && (checkpoint-sized checkpoint && results-sized results)) written unwritten
+
+  pub asked-assumptions : (length assumptions % assumption-size ≡ 0 → ⊥) → asked ≡ unwritten
+  asked-assumptions g = rw (ne-eqb _ _ g)
+
+  module _ (g : length assumptions % assumption-size ≡ 0) where
+    pub asked-checkpoint : (length checkpoint ≡ checkpoint-size → ⊥) → asked ≡ unwritten
+    asked-checkpoint h = rw (eq-eqb _ _ g, ne-eqb _ _ h)
+
+    module _ (h : length checkpoint ≡ checkpoint-size) where
+      pub asked-results : (length results ≡ results-size → ⊥) → asked ≡ unwritten
+      asked-results k = rw (eq-eqb _ _ g, eq-eqb _ _ h, ne-eqb _ _ k)
+
+      pub asked-rightly : length results ≡ results-size → asked ≡ written
+      asked-rightly k = rw (eq-eqb _ _ g, eq-eqb _ _ h, eq-eqb _ _ k)
+
 module _ (s assumptions checkpoint results : List ℕ) (budget : ℕ) where
-  pub walk-unwritten :
-      (length assumptions % assumption-size ≡ 0 → ⊥) →
-      walk-called s assumptions checkpoint budget results ≡ (1, checkpoint, results)
-  unfolding walk-called
-  walk-unwritten g = rw (ne-eqb _ _ g)
-
-  pub walk-unwritten-2 :
-      length assumptions % assumption-size ≡ 0 →
-      (length checkpoint ≡ checkpoint-size → ⊥) →
-      walk-called s assumptions checkpoint budget results ≡ (1, checkpoint, results)
-  unfolding walk-called
-  walk-unwritten-2 g h = rw (eq-eqb _ _ g, ne-eqb _ _ h)
-
-  pub walk-unwritten-3 :
-      length assumptions % assumption-size ≡ 0 →
-      length checkpoint ≡ checkpoint-size →
-      (length results ≡ results-size → ⊥) →
-      walk-called s assumptions checkpoint budget results ≡ (1, checkpoint, results)
-  unfolding walk-called
-  walk-unwritten-3 g h k = rw (eq-eqb _ _ g, eq-eqb _ _ h, ne-eqb _ _ k)
-
   -- all lengths are right
   pub walk-called-is :
       length assumptions % assumption-size ≡ 0 →
@@ -111,7 +112,7 @@ module _ (s assumptions checkpoint results : List ℕ) (budget : ℕ) where
       length results ≡ results-size →
       walk-called s assumptions checkpoint budget results ≡ walk-told (walk-call s (of-bytes assumptions) (checkpoint-in checkpoint) budget)
   unfolding walk-called
-  walk-called-is g h k = rw (eq-eqb _ _ g, eq-eqb _ _ h, eq-eqb _ _ k)
+  walk-called-is g h k = asked-rightly assumptions checkpoint results _ _ g h k
 
   pub walk-written :
       (from : Checkpoint) (w : Walked) (left after : List ℕ) →
@@ -127,27 +128,6 @@ module _ (s assumptions checkpoint results : List ℕ) (budget : ℕ) where
       rw (walk-called-is g h k, ← f, ← e, l, r, beside (w .answer) (w .steps) (w .expansions) (checkpoint-values (w .checkpoint)))
 
 module _ (s assumptions checkpoint models results : List ℕ) where
-  pub list-unwritten :
-      (length assumptions % assumption-size ≡ 0 → ⊥) →
-      list-called s assumptions checkpoint models results ≡ (1, checkpoint, models, results)
-  unfolding list-called
-  list-unwritten g = rw (ne-eqb _ _ g)
-
-  pub list-unwritten-2 :
-      length assumptions % assumption-size ≡ 0 →
-      (length checkpoint ≡ checkpoint-size → ⊥) →
-      list-called s assumptions checkpoint models results ≡ (1, checkpoint, models, results)
-  unfolding list-called
-  list-unwritten-2 g h = rw (eq-eqb _ _ g, ne-eqb _ _ h)
-
-  pub list-unwritten-3 :
-      length assumptions % assumption-size ≡ 0 →
-      length checkpoint ≡ checkpoint-size →
-      (length results ≡ results-size → ⊥) →
-      list-called s assumptions checkpoint models results ≡ (1, checkpoint, models, results)
-  unfolding list-called
-  list-unwritten-3 g h k = rw (eq-eqb _ _ g, eq-eqb _ _ h, ne-eqb _ _ k)
-
   -- all lengths are right
   pub list-called-is :
       length assumptions % assumption-size ≡ 0 →
@@ -156,7 +136,7 @@ module _ (s assumptions checkpoint models results : List ℕ) where
       list-called s assumptions checkpoint models results
       ≡ list-told models (next-models s (of-bytes assumptions) (checkpoint-in checkpoint) (length models))
   unfolding list-called
-  list-called-is g h k = rw (eq-eqb _ _ g, eq-eqb _ _ h, eq-eqb _ _ k)
+  list-called-is g h k = asked-rightly assumptions checkpoint results _ _ g h k
 
   pub list-written :
       (from : Checkpoint) (r : Listed) (left brought after : List ℕ) →
@@ -176,3 +156,26 @@ module _ (s assumptions checkpoint models results : List ℕ) where
       let q : after ≡ list-results (length (x .models)) (x .last) =
       w ∙ ap (list-results (r .count)) (e .last) ∙ ap (λ (n : ℕ). list-results n (x .last)) (e .count) in
       rw (list-called-is g h k, ← f, p, q, e .written)
+
+module _ (s assumptions checkpoint page results : List ℕ) (serial : ℕ) where
+  -- all lengths are right
+  pub page-called-is :
+      length assumptions % assumption-size ≡ 0 →
+      length checkpoint ≡ checkpoint-size →
+      length results ≡ results-size →
+      page-called s assumptions checkpoint serial page results
+      ≡ page-shown (page-call s (of-bytes assumptions) (checkpoint-in checkpoint) serial page)
+  unfolding page-called
+  page-called-is g h k = asked-rightly assumptions checkpoint results _ _ g h k
+
+  pub page-written :
+      (from : Checkpoint) (r : Paged) (left filled after : List ℕ) →
+      length assumptions % assumption-size ≡ 0 →
+      length checkpoint ≡ checkpoint-size →
+      length results ≡ results-size →
+      from ≡ checkpoint-in checkpoint →
+      page-call s (of-bytes assumptions) from serial page ≡ page-told r filled →
+      left ≡ checkpoint-bytes (checkpoint-values (r .checkpoint)) →
+      after ≡ page-results (page-values (r .answer)) →
+      page-called s assumptions checkpoint serial page results ≡ (0, left, filled, after)
+  page-written from r left filled after g h k f e l w = rw (page-called-is g h k, ← f, e, l, w)

@@ -4,8 +4,8 @@ use mathlib.Core.Bool.{cond}
 use mathlib.Core.Path.{_≡_, refl}
 use lib.Dec.{eqb}
 use Rattle.formula.specs.declared.Refusal.{Refusal}
-use Rattle.formula.specs.declared.Refusal.the-variants.{ShortBuffer, Truncated, UnknownKind, Misplaced, BadVariableCount, NoSuchVariable, ComplementaryLiteral, TooManyClauses, TrailingByte, Unmatched, ForeignCheckpoint, StrayVariable, BadOpening, BadWord, ClauseCountDiffers, BadAssumption}
 use Rattle.formula.specs.Refusals.{table-row}
+use Rattle.formula.proofs.NumberLaws.{refusal-numbered}
 use Rattle.walk.specs.Checkpoints.{Checkpoint}
 use Rattle.enumeration.specs.declared.calls.Answer.{Answer}
 use Rattle.enumeration.specs.declared.calls.Answer.the-variants.{Model, Spent, Ended, Refused}
@@ -13,23 +13,8 @@ use Rattle.enumeration.specs.Values.{answer-values}
 use Rattle.capi.specs.Interface.{walk-results, list-results}
 
 -- a refusal's number is never 0
-pub refused-code : (r : Refusal) → _≡_ {A = ℕ} (cond (eqb (table-row r .number) 0) 0 3) 3
-refused-code (ShortBuffer p) = refl
-refused-code (Truncated p) = refl
-refused-code (UnknownKind p) = refl
-refused-code (Misplaced p) = refl
-refused-code (BadVariableCount p) = refl
-refused-code (NoSuchVariable p) = refl
-refused-code (ComplementaryLiteral p) = refl
-refused-code (TooManyClauses p) = refl
-refused-code (TrailingByte p) = refl
-refused-code (Unmatched p) = refl
-refused-code (ForeignCheckpoint p) = refl
-refused-code (StrayVariable p) = refl
-refused-code (BadOpening p) = refl
-refused-code (BadWord p) = refl
-refused-code (ClauseCountDiffers p) = refl
-refused-code (BadAssumption p) = refl
+pub refused-code : (r : Refusal) (n : ℕ) → cond (eqb (table-row r .number) 0) n 3 ≡ 3
+refused-code r n = rw (refusal-numbered r)
 
 -- the results of a list are those of a walk, with the number of models in place of the steps
 pub counted : (a : Answer) (n : ℕ) (c : Checkpoint) → walk-results (answer-values a n 0 c) ≡ list-results n (answer-values a 0 0 c)

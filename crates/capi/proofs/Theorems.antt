@@ -1,7 +1,7 @@
--- What holds of the interface: no byte of a checkpoint is lost, a refused call leaves it as it was and brings no model, a refused
--- conversion leaves its buffer, and calls from the start checkpoint make the walk of demand 3 (S10).
+-- What holds of the interface: no byte of a checkpoint is lost, a refused call leaves it as it was and brings no model and no line, a
+-- refused conversion leaves its buffer, and calls from the start checkpoint make the walk of demand 3 (S10).
 use Prim.Native.Nat.{ℕ, zero, suc, _%_, _≤_}
-use mathlib.Core.Bool.{cond}
+use mathlib.Core.Bool.{Bool, true, false, cond}
 use mathlib.Core.List.{List, [], _∷_, map}
 use mathlib.Core.Logic.{⊎-elim}
 use mathlib.Core.Path.{_≡_, refl, ap, _∙_}
@@ -28,8 +28,11 @@ use Rattle.walk.proofs.RefusalLaws.{call-bytes}
 use Rattle.walk.proofs.Demands.{Dealt, demand-3}
 use Rattle.enumeration.proofs.RefusedLaws.{refuses-or-goes}
 use Rattle.enumeration.proofs.ListTheorems.{next-refused}
-use Rattle.capi.specs.Interface.{results-size, checkpoint-size, assumption-size, kind-code, walk-results, checkpoint-bytes, checkpoint-in, conversion-called, from-dimacs-called, to-dimacs-called, start-called, walk-told, walk-called, walks-called, list-called}
-use Rattle.capi.proofs.CallLaws.{start-written, walk-called-is, list-called-is}
+use Rattle.page.specs.PageLines.{page-lines}
+use Rattle.page.specs.Pages.{PageCall, page-call}
+use Rattle.page.proofs.Demands.{refused-keeps}
+use Rattle.capi.specs.Interface.{results-size, checkpoint-size, assumption-size, kind-code, walk-results, checkpoint-bytes, checkpoint-in, conversion-called, from-dimacs-called, to-dimacs-called, start-called, walk-told, walk-called, walks-called, list-called, page-called}
+use Rattle.capi.proofs.CallLaws.{start-written, walk-called-is, list-called-is, page-called-is}
 
 -- ---- the bytes of a checkpoint
 
@@ -55,6 +58,15 @@ kind-refused says-spent e = absurd (omega arith)
 kind-refused says-ended e = absurd (omega arith)
 kind-refused says-refused e = refl
 
+-- a page whose results say refused has a refusal's number, whatever its lines
+page-said : (number lines : ℕ) → cond (eqb number 0) (cond (eqb lines page-lines) 0 2) 3 ≡ kind-code says-refused → number ≡ 0 → ⊥
+page-said (suc number) lines e z = omega arith
+page-said zero lines e z = at (eqb lines page-lines) e
+  where
+    at : (x : Bool) → cond x 0 2 ≡ kind-code says-refused → ⊥
+    at true e = omega arith
+    at false e = omega arith
+
 -- S3.3: a refused walk call returns the checkpoint that it was given
 refused-kept : (s : List ℕ) (us : List Assumption) (c : Checkpoint) (b : ℕ) → walk-call s us c b .kind ≡ says-refused → walk-call s us c b .checkpoint ≡ c
 refused-kept s us c b h = ⊎-elim (λ w. ap (λ (r : Result). r .checkpoint) (w .1 b)) (λ w. absurd (w .0 b h)) (refuses-or-goes s us c)
@@ -77,6 +89,20 @@ module _ (s assumptions checkpoint results : List ℕ) (g : length assumptions %
       let q = list-called-is s assumptions checkpoint models results g h k in
       let w = next-refused s (of-bytes assumptions) (checkpoint-in checkpoint) (length models) (kind-refused _ (rw q at e)) in
       rw q (ap length (w .0), ap (λ (m : List ℕ). over m models) (w .0), ap checkpoint-bytes (w .1) ∙ written-back checkpoint h)
+
+  -- A refused norwythai_page has filled no line: results[4] is 0, and the page, place 2, and the checkpoint's bytes, place 1, are as they
+  -- were.
+  pub page-refused : (serial : ℕ) (page : List ℕ) → (let after = page-called s assumptions checkpoint serial page results in
+      getD (after .3) 0 0 ≡ kind-code says-refused → (getD (after .3) 4 0 ≡ 0) × (after .2 ≡ page) × (after .1 ≡ checkpoint))
+  page-refused serial page e =
+      let q = page-called-is s assumptions checkpoint page results serial g h k in
+      let a = page-call s (of-bytes assumptions) (checkpoint-in checkpoint) serial page .answer in
+      let w = refused-keeps s (of-bytes assumptions) (checkpoint-in checkpoint) serial page (page-said (a .number) (a .lines) (rw q at e)) in
+      rw q (
+        ap (λ (p : PageCall). p .answer .lines) w,
+        ap (λ (p : PageCall). p .page) w,
+        ap (λ (p : PageCall). checkpoint-bytes (p .checkpoint)) w ∙ written-back checkpoint h,
+      )
 
 -- a refused conversion leaves the buffer and has written no byte
 abbrev Kept : List ℕ → Conversion → Type 0

@@ -16,6 +16,8 @@ use Rattle.walk.specs.Checkpoints.{Checkpoint, start}
 use Rattle.walk.specs.WalkCall.{walk-call}
 use Rattle.walk.specs.Results.{AnswerKind, says-model, says-spent, says-ended, says-refused, Result}
 use Rattle.enumeration.specs.Lists.{Delivery, next-models}
+use Rattle.page.specs.PageLines.{page-lines}
+use Rattle.page.specs.Pages.{PageValues, PageCall, page-call}
 
 -- ---- results: six numbers, of which the first says the answer, and the third and fourth are the refusal's number and place
 
@@ -51,6 +53,10 @@ walk-results r = kind-code (r .kind) ∷ r .model ∷ r .number ∷ r .place ∷
 -- the last call's answer, and how many models were brought
 abbrev pub list-results : ℕ → Result → List ℕ
 list-results count r = kind-code (r .kind) ∷ r .model ∷ r .number ∷ r .place ∷ count ∷ 0 ∷ []
+
+-- filled: 0 if all 50 lines are, 2 if fewer, so that no model is left; then how many lines
+abbrev pub page-results : PageValues → List ℕ
+page-results a = cond (eqb (a .number) 0) (cond (eqb (a .lines) page-lines) 0 2) 3 ∷ 0 ∷ a .number ∷ a .place ∷ a .lines ∷ 0 ∷ []
 
 -- ---- checkpoints: 50 bytes, the mode, the length and the trail
 
@@ -137,3 +143,14 @@ list-called s assumptions checkpoint models results =
     cond (assumptions-sized assumptions && (checkpoint-sized checkpoint && results-sized results))
     (list-told models (next-models s (of-bytes assumptions) (checkpoint-in checkpoint) (length models)))
     (1, checkpoint, models, results)
+
+-- a page in the buffers
+abbrev pub page-shown : PageCall → ℕ × List ℕ × List ℕ × List ℕ
+page-shown p = (0, checkpoint-bytes (p .checkpoint), p .page, page-results (p .answer))
+
+-- norwythai_page: the input, the assumptions, the checkpoint as it was, the first serial, and the page and the results as they were
+unfoldable pub page-called : List ℕ → List ℕ → List ℕ → ℕ → List ℕ → List ℕ → ℕ × List ℕ × List ℕ × List ℕ
+page-called s assumptions checkpoint serial page results =
+    cond (assumptions-sized assumptions && (checkpoint-sized checkpoint && results-sized results))
+    (page-shown (page-call s (of-bytes assumptions) (checkpoint-in checkpoint) serial page))
+    (1, checkpoint, page, results)

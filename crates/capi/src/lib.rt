@@ -11,8 +11,9 @@ ghost use Rattle.dimacs.specs.Convert.{converted-values};
 ghost use Rattle.matched.specs.Judge as judging;
 ghost use Rattle.walk.specs.Checkpoints as walk;
 ghost use Rattle.enumeration.specs.Values.{checkpoint-values, answer-values, walked-values, listed-values};
+ghost use Rattle.page.specs.Pages.{page-values};
 ghost use Rattle.capi.specs.InnerResults.{numbers};
-ghost use Rattle.capi.specs.Interface.{results-size, check-results, judge-results, conversion-results, walk-results, list-results, checkpoint-size, checkpoint-bytes, checkpoint-in, check-called, judge-called, from-dimacs-called, to-dimacs-called, start-called, walk-called, list-called};
+ghost use Rattle.capi.specs.Interface.{results-size, check-results, judge-results, conversion-results, walk-results, list-results, page-results, checkpoint-size, checkpoint-bytes, checkpoint-in, check-called, judge-called, from-dimacs-called, to-dimacs-called, start-called, walk-called, list-called, page-called};
 use assumptions::Assumptions;
 use dimacs::Converted;
 use enumeration::Checkpoint;
@@ -21,6 +22,7 @@ use enumeration::Walked;
 use formula::Refusal;
 use formula::Verdict;
 use matched::Judgement;
+use page::PageAnswer;
 
 // The results are so many numbers.
 const RESULTS_SIZE: usize = 6;
@@ -32,7 +34,7 @@ const CHECKPOINT_SIZE: usize = 2 + limits::MAX_VARIABLES;
 const ASSUMPTION_SIZE: usize = 2;
 
 // The results of a call, in the order in which they are written. judge has the numbers of variables and clauses in place of the
-// steps and expansions, a conversion the number of bytes and list that of models in place of the steps.
+// steps and expansions; a conversion has the number of bytes, list that of models and a page that of lines in place of the steps.
 struct Results {
     answer: u64,
     model: u64,
@@ -120,6 +122,21 @@ fn list_results(l: Listed) -> Results
 {
     let answer = l.answer;
     answer_results(answer, l.count as u64, 0)
+}
+
+fn page_results(answer: PageAnswer) -> Results
+    ensures { λ r. ⌜ numbers r ≡ page-results (page-values answer) ⌝ }
+{
+    match answer {
+        PageAnswer::Filled(count) => {
+            if count == page::PAGE_LINES {
+                plain_results(0, 0, count as u64, 0)
+            } else {
+                plain_results(2, 0, count as u64, 0)
+            }
+        }
+        PageAnswer::Refused(refusal) => refusal_results(refusal, 0, 0),
+    }
 }
 
 // Writes the results.
@@ -299,5 +316,35 @@ pub extern "C" fn norwythai_list(
     let after = l.checkpoint;
     put_checkpoint(after, checkpoint);
     put_results(list_results(l), results);
+    0
+}
+
+// S19: a page of the next models.
+#[no_mangle]
+pub extern "C" fn norwythai_page(
+    input: &[u8],
+    assumptions: &[u8],
+    checkpoint: &mut [u8],
+    serial: u32,
+    page: &mut [u8],
+    results: &mut [u64],
+) -> u32
+    ensures { λ r. ⌜ page-called (now (input .entry)) (now (assumptions .entry)) (now (checkpoint .entry)) serial (now (page .entry)) (now (results .entry)) ≡ (r, now (checkpoint .exit), now (page .exit), now (results .exit)) ⌝ }
+{
+    if assumptions.len() % ASSUMPTION_SIZE != 0 {
+        return 1;
+    }
+    if checkpoint.len() != CHECKPOINT_SIZE {
+        return 1;
+    }
+    if results.len() != RESULTS_SIZE {
+        return 1;
+    }
+    let u = assumptions_in(input, assumptions);
+    let p = page::write_page_under(input, u, checkpoint_in(checkpoint), serial, page);
+    let answer = p.answer;
+    let after = p.checkpoint;
+    put_checkpoint(after, checkpoint);
+    put_results(page_results(answer), results);
     0
 }

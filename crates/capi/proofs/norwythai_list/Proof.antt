@@ -2,27 +2,28 @@
 use mathlib.Core.Path.{_∙_}
 use borrow.Author.Needs.{needs}
 use Rattle.assumptions.specs.Bytes.{of-bytes}
-use Rattle.capi.proofs.CallLaws.{list-unwritten, list-unwritten-2, list-unwritten-3, list-written}
+use Rattle.capi.specs.Interface.{list-called}
+use Rattle.capi.proofs.CallLaws.{asked-assumptions, asked-checkpoint, asked-results, list-written}
 use Rattle.capi.proofs.norwythai_list.Statement.{statement}
 use Rattle.capi.proofs.norwythai_list.Tie as tie
 
 returns : tie.Need-returns
+unfolding list-called
 returns c =
     let a = c .before .before .before .before .before .before .args in
-    list-unwritten (a .input .now) (a .assumptions .now) (a .checkpoint .now) (a .models .now) (a .results .now) (c .if1 .taken)
+    asked-assumptions (a .assumptions .now) (a .checkpoint .now) (a .results .now) _ _ (c .if1 .taken)
 
 returns-2 : tie.Need-returns-2
+unfolding list-called
 returns-2 c =
     let a = c .before .before .before .before .before .before .before .args in
-    list-unwritten-2 (a .input .now) (a .assumptions .now) (a .checkpoint .now) (a .models .now) (a .results .now) (c .before .if1 .left) (c .if2 .taken)
+    asked-checkpoint (a .assumptions .now) (a .checkpoint .now) (a .results .now) _ _ (c .before .if1 .left) (c .if2 .taken)
 
 returns-3 : tie.Need-returns-3
+unfolding list-called
 returns-3 c =
     let a = c .before .before .before .before .before .before .before .before .args in
-    list-unwritten-3 (a .input .now) (a .assumptions .now) (a .checkpoint .now) (a .models .now) (a .results .now)
-    (c .before .before .if1 .left)
-    (c .before .if2 .left)
-    (c .if3 .taken)
+    asked-results (a .assumptions .now) (a .checkpoint .now) (a .results .now) _ _ (c .before .before .if1 .left) (c .before .if2 .left) (c .if3 .taken)
 
 assumptions-in-requires : tie.Need-assumptions-in-requires
 assumptions-in-requires c κs = search needs
