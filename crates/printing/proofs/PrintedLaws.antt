@@ -89,7 +89,7 @@ cost : (s n : ℕ) → s ≤ max-variables → n ≤ max-variables → s * (s * 
 cost s n h k = let l : suc n ≤ 49 = omega arith in let c = mul-le-mul h (mul-le-mul h (mul-le-mul k l)) in omega arith
 
 -- in an empty list no assumption is bad
-none-bad : (n : ℕ) → NoneBad n []
+pub none-bad : (n : ℕ) → NoneBad n []
 none-bad n = literals-exactly n [] .0 ([], no-assumptions n)
 
 walk-short : (s : List ℕ) (n : ℕ) (cs : List (List Literal)) (row : List ℕ) (w : AcceptedInput s [] n [] cs row) (j : ℕ)
@@ -123,6 +123,22 @@ refused-short s r e h =
     let p = place-le (w .given) (ap length (w .bytes) ∙ length-append (written (w .before)) (w .rest)) in
     refused-line-length (table-row r .number) (table-row r .place) (omega (arith, numbers s r e .1)) (omega arith)
 
+-- the line of a refused input
+pub declined-short : (s : List ℕ) (r : Refusal) (row : List ℕ) → acceptance s [] ≡ declined r row → length s ≤ max-input → length (refusal-line r) ≤ 17
+declined-short s r row d h = by (comes s []) d
+  where
+    by : {a : Acceptance} → Comes s [] a → a ≡ declined r row → length (refusal-line r) ≤ 17
+    by (of-formula n t cs reads assumes (paired vs w)) q = let z : _≡_ {A = ℕ} 0 1 = cc in absurd (omega arith)
+    by (of-formula n t cs reads assumes (strips vs none w)) q = let z : _≡_ {A = ℕ} 0 1 = cc in absurd (omega arith)
+    by (of-formula n t cs reads assumes (unpaired ms v none)) q =
+        let ls = left-of n t cs in
+        let e : Unmatched (length (marked ms ls)) ≡ r = cc in
+        let f = left-sized t (accepted-fits s n cs reads) .few in
+        let k = selected-few ms (map variables ls) in
+        rw (← e) (refused-line-length 10 (length (marked ms ls)) (omega arith) (omega (arith, length-map ls variables)))
+    by (bad-assumed n cs i reads assumes) q = let z : _≡_ {A = ℕ} 0 1 = cc (no-assumptions n) in absurd (omega arith)
+    by (unreadable t reads) q = let e : t ≡ r = cc in rw (← e) (refused-short s t reads h)
+
 -- the most bytes that are printed, 60,026
 pub printed-length : (s : List ℕ) → length s ≤ max-input → length (printed s) ≤ max-print
 unfolding printed
@@ -135,28 +151,12 @@ printed-length s h = go (acceptance s []) refl
         let b = walk-short s n cs row w max-models in
         rw (length-append (header n (length cs)) (walk-lines (under n [] cs) max-models 0)) (omega arith)
 
-    refused-within : (r : Refusal) (row : List ℕ) → acceptance s [] ≡ declined r row → length (refusal-line r) ≤ max-print
-    refused-within r row = by (comes s [])
-      where
-        by : {a : Acceptance} → Comes s [] a → a ≡ declined r row → length (refusal-line r) ≤ max-print
-        by (of-formula n t cs reads assumes (paired vs w)) q = let z : _≡_ {A = ℕ} 0 1 = cc in absurd (omega arith)
-        by (of-formula n t cs reads assumes (strips vs none w)) q = let z : _≡_ {A = ℕ} 0 1 = cc in absurd (omega arith)
-        by (of-formula n t cs reads assumes (unpaired ms v none)) q =
-            let ls = left-of n t cs in
-            let e : Unmatched (length (marked ms ls)) ≡ r = cc in
-            let f = left-sized t (accepted-fits s n cs reads) .few in
-            let k = selected-few ms (map variables ls) in
-            let l = refused-line-length 10 (length (marked ms ls)) (omega arith) (omega (arith, length-map ls variables)) in
-            rw (← e) (omega arith)
-        by (bad-assumed n cs i reads assumes) q = let z : _≡_ {A = ℕ} 0 1 = cc (no-assumptions n) in absurd (omega arith)
-        by (unreadable t reads) q = let e : t ≡ r = cc in let l = refused-short s t reads h in rw (← e) (omega arith)
-
     go : (a : Acceptance) → acceptance s [] ≡ a → length (acceptance-lines a) ≤ max-print
     go (accepted n t cs row) e =
         let a = accepted-is s [] n t cs row e in
         let q : t ≡ [] = literals-are n [] t (a .assumes) in
         rw q (walked n cs row (rw q at a))
-    go (declined r row) e = refused-within r row e
+    go (declined r row) e = omega (arith, declined-short s r row e h)
 
 -- ---- no call of the print says spent
 

@@ -1,0 +1,2 @@
+pub mod PrintedPages
+pub mod InnerParts
