@@ -11,8 +11,8 @@ under assumptions a second one, NAME_assumed. Numbers are little-endian. A vecto
 
     2 bytes   its number: the line of VECTORS, from 1, or from 60,000 for a vector of this script
     2 bytes   the length of its input
-    2 bytes   the length of its assumptions, which judge, walk, chain, listing, list and formulas may have
-    2 bytes   the length of the bytes that it expects, which read_text, write_text, list and printed have
+    2 bytes   the length of its assumptions, which judge, walk, chain, listing, list, page and formulas may have
+    2 bytes   the length of the bytes that it expects, which read_text, write_text, list, page and printed have
     ..        its input
     ..        its assumptions, two bytes each: the variable, then 1 for true or 0 for false
     ..        the bytes that it expects
@@ -22,9 +22,10 @@ under assumptions a second one, NAME_assumed. Numbers are little-endian. A vecto
 An answer:
 
     1 byte    what it says: 0 no, 1 yes (check), 2 refused, 3 accepted (judge), 4 model, 5 spent, 6 ended (walk),
-              7 not compared, 8 models (formulas), 10 written (read_text, write_text)
+              7 not compared, 8 models (formulas), 10 written (read_text, write_text), 11 filled (page)
     1 byte    the refusal's number, else 0
-    2 bytes   the refusal's place, the number of models (formulas) or that of the bytes written (read_text, write_text), else 0
+    2 bytes   the refusal's place, the number of models (formulas), that of the bytes written (read_text, write_text) or that of the
+              filled lines (page), else 0
     1 byte    n, the number of variables, if accepted, else 0
     1 byte    m, the number of clauses, if accepted, else 0
 
@@ -82,6 +83,15 @@ an array of 256:
     1 byte    the room of the slice
     1 byte    the fill: what every place of the array is before the call; each place behind the models must be the fill after it
 
+Own fields of page, 108 bytes. It expects the filled lines, each with its line feed:
+
+    50 bytes  the checkpoint that must come back
+    51 bytes  which checkpoint the call gets, and that checkpoint, as of walk
+    4 bytes   the first serial
+    2 bytes   the length of the lent page
+    1 byte    the fill: what every byte of the page is before the call. After one that is not refused, lines of 59 blanks and a line feed
+              stand behind the filled ones, up to byte 3,000; each other byte must be the fill
+
 A further act is a coder in ACTS, and in the program a case of `Act`, its file names and a reader of its own fields.
 """
 import itertools
@@ -90,16 +100,19 @@ import pathlib
 import string
 import sys
 
+import walk_picture
+
 LIMIT = 65536  # bytes of a file: what the program reads at once
 LINES = 59999  # of VECTORS: the greater numbers are for the edge cases
 LETTERS = string.ascii_lowercase  # the ends of the names of an act's files
 CASES = pathlib.Path(__file__).resolve().parent.parent / 'crates' / 'cases'
 
 NO, YES, REFUSED, ACCEPTED, MODEL, SPENT, ENDED, NOT_COMPARED, LISTED = range(9)
-CONVERTED = 10
+CONVERTED, FILLED = 10, 11
 SAYS = {'no': NO, 'yes': YES, 'refused': REFUSED, 'set-up': MODEL, 'spent': SPENT, 'ended': ENDED}
 READ = 16384  # bytes of standard input that the printing program reads
 WRITTEN = 96  # bytes of the array that judge may write
+PAGE_LINES, LINE_SIZE = 50, 60  # of a page
 START, LAST = 1, 2  # the checkpoint that a walk call gets, if it is not given
 
 
@@ -133,16 +146,29 @@ def judge_fields(length, fill, written):
     return little(length, 1) + little(fill, 1) + written + bytes([fill]) * (WRITTEN - len(written))
 
 
-def walk_fields(model, steps, expansions, returned, origin, budget):
-    """The fields of walk; `origin` is START, LAST or the bytes of a checkpoint."""
+def checkpoint_fields(returned, origin):
+    """The checkpoint that must come back, and the one that the call gets: `origin` is START, LAST or the bytes of a checkpoint."""
     flag, given = (0, origin) if isinstance(origin, bytes) else (origin, bytes(50))
     assert len(returned) == len(given) == 50
-    return little(model, 8) + little(steps, 4) + little(expansions, 4) + returned + little(flag, 1) + given + little(budget, 4)
+    return returned + little(flag, 1) + given
+
+
+def walk_fields(model, steps, expansions, returned, origin, budget):
+    """The fields of walk."""
+    return little(model, 8) + little(steps, 4) + little(expansions, 4) + checkpoint_fields(returned, origin) + little(budget, 4)
 
 
 def list_fields(model, returned, origin, room, fill):
     """The fields of list."""
     return walk_fields(model, 0, 0, returned, origin, 0)[:-4] + little(room, 1) + little(fill, 1)
+
+
+def paged(number, given, refusal, lines, returned, origin, serial, length, fill):
+    """The vector of a page, either refused or with these lines."""
+    assert all(len(line) == LINE_SIZE for line in lines) and not (refusal and lines)
+    answer = answer_of(REFUSED, *refusal) if refusal else answer_of(FILLED, place=len(lines))
+    fields = checkpoint_fields(returned, origin) + little(serial, 4) + little(length, 2) + little(fill, 1)
+    return coded(number, given, answer, fields, ''.join(lines).encode('ascii'))
 
 
 def assumed_input(v):
@@ -226,6 +252,12 @@ def list_vector(number, v):
     return [[coded(number, assumed_input(v), answer_of(ENDED), fields, models)]]
 
 
+def page_vector(number, v):
+    assert len(v['page']) == v['lines']
+    lines, returned, origin = [line + '\n' for line in v['page']], bytes.fromhex(v['marker_out']), bytes.fromhex(v['marker'])
+    return [[paged(number, assumed_input(v), v['refusal'], lines, returned, origin, v['serial'], v['page_len'], v['page_fill'])]]
+
+
 def printed_text(number, given, text):
     """The vector of a print, from as many of the bytes as the program reads."""
     given = given[:READ]
@@ -238,7 +270,7 @@ def printed_vector(number, v):
 
 ACTS = {'check': check_vector, 'judge': judge_vector, 'read_text': read_vector, 'write_text': write_vector,
         'start': start_vector, 'walk': walk_vector, 'chain': chain_vector, 'listing': listing_vector, 'list': list_vector,
-        'printed': printed_vector}
+        'page': page_vector, 'printed': printed_vector}
 
 
 def read(given):
@@ -328,7 +360,7 @@ def formula_vector(number, given):
     return [[coded(number, given, formula_answer(*given), b'')]]
 
 
-# Edge cases. The expected answers are written here by hand, from docs/SPECIFICATION.md.
+# Edge cases. The expected answers are written here by hand, from docs/SPECIFICATION.md; whole pages are those of walk_picture.py.
 EXAMPLE = '01 02 02 01 02 02 04 03 01 03 02 04 05'
 EMPTY = ' 04'          # an empty clause
 TRUE = ' 02 01 04'     # the clause of variable 1 as true
@@ -949,6 +981,91 @@ LIST_EDGES = [
     ((ALL_FREE, ALL_TRUE), START, 255, ENDED, 0, 0, OVER, [(1 << 48) - 1]),
 ]
 
+
+
+def page_line(serial, n, model, steps):
+    return '%6d %-48s %3d\n' % (serial, ''.join('01'[model >> v & 1] for v in range(n)), steps)
+
+
+def page_lines(serial, n, *models_steps):
+    """The lines of a page, from its first serial."""
+    return [page_line(serial + i, n, model, steps) for i, (model, steps) in enumerate(models_steps)]
+
+
+def pages_from_start(given, *serials):
+    """Pages one after the other, each from what the last one returned, with these first serials: the lines, and the checkpoint. The walk is
+    that of walk_picture.py, which follows the specification."""
+    n, clauses = read(bytes.fromhex(given))
+    calls = walk_picture.calls(n, [[v if x else -v for v, x in c] for c in clauses], itertools.repeat(walk_picture.AMPLE))
+    for serial in serials:
+        behind, found = None, []
+        for _, (answer, steps, _, behind) in zip(range(PAGE_LINES), calls):
+            if answer[0] == 'model':
+                found.append((sum(1 << v - 1 for v in answer[1] if 0 < v), steps))
+        yield serial, page_lines(serial, n, *found), walk_picture.checkpoint_bytes(behind)
+
+
+def pages_listed(given, *serials):
+    """The cases of such pages."""
+    for i, (serial, lines, returned) in enumerate(pages_from_start(given, *serials)):
+        yield given, LAST if i else START, serial, 3005, lines, returned
+
+
+def page_refused(given, origin, serial, length, *refusal):
+    return given, origin, serial, length, refusal, origin
+
+
+SIX_FREE = '01 06 05'  # 64 models
+FIFTY = '01 06 03 01 02 02 02 06 04 03 01 03 04 03 05 04 05'  # clauses (not 1, 2, 6) and (not 1, not 4, not 5): 50 models
+# page: input, the checkpoint that the call gets, the first serial, the length of the page, the refusal's number and place or the filled
+# lines, and the checkpoint that comes back
+PAGE_EDGES = [
+    # page after page, the last one behind the end: more models than a page has lines, just as many, and fewer
+    *pages_listed(SIX_FREE, 1, 51, 101),
+    *pages_listed(FIFTY, 999950, 1),
+    *pages_listed(EXAMPLE, 1, 999950),
+    # one variable, and 48
+    *pages_listed('01 01 05', 7, 57),
+    *pages_listed(ALL_FREE, 999, 1049),
+    # from the checkpoints of spent calls: their steps do not count
+    (EXAMPLE, checkpoint(1, 1, '01'), 1, 3005, page_lines(1, 2, (0b10, 1), (0b01, 4)), OVER),
+    (EXAMPLE, checkpoint(3, 1, '01'), 1, 3005, page_lines(1, 2, (0b01, 3)), OVER),
+    (EXAMPLE, checkpoint(2, 0), 1, 3005, page_lines(1, 2, (0b01, 2)), OVER),
+    (EXAMPLE, checkpoint(2, 1, '81'), 1, 3005, [], OVER),
+    # from a model's, and from the end
+    (EXAMPLE, checkpoint(1, 2, '01 82'), 1, 3005, page_lines(1, 2, (0b01, 4)), OVER),
+    (EXAMPLE, checkpoint(1, 2, '81 02'), 1, 3005, [], OVER),
+    (EXAMPLE, OVER, 1, 3005, [], OVER),
+    # under assumptions, in either order: an assumed variable shows its value
+    ((EXAMPLE, '01 01'), START, 1, 3005, page_lines(1, 2, (0b01, 1)), OVER),
+    ((THREE_FREE, '01 01 03 00'), START, 1, 3005, page_lines(1, 3, (0b001, 1), (0b011, 2)), OVER),
+    ((THREE_FREE, '03 00 01 01'), START, 1, 3005, page_lines(1, 3, (0b001, 1), (0b011, 2)), OVER),
+    ((THREE_FREE, '02 01'), START, 1, 3005, page_lines(1, 3, (0b010, 2), (0b110, 2), (0b011, 4), (0b111, 2)), OVER),
+    ((PARTLY, '02 01'), START, 1, 3005, page_lines(1, 3, (0b011, 2)), OVER),
+    # nothing is left to assign: one line, of no step
+    (('01 01 05', '01 01'), START, 7, 3005, page_lines(7, 1, (0b1, 0)), OVER),
+    ((EXAMPLE, '02 01 01 00'), START, 999950, 3005, page_lines(999950, 2, (0b10, 0)), OVER),
+    ((EXAMPLE, '02 01 01 00'), checkpoint(1, 0), 1, 3005, [], OVER),
+    ((ALL_FREE, ALL_TRUE), START, 1, 3005, page_lines(1, 48, ((1 << 48) - 1, 0)), OVER),
+    # the lengths of the page: a short one is refused before anything else
+    *(page_refused(EXAMPLE, FIRST, 1, length, 17, 0) for length in (0, 1, 60, 2940, 2999)),
+    *((EXAMPLE, FIRST, 1, length, page_lines(1, 2, (0b10, 2), (0b01, 4)), OVER) for length in (3000, 3001, 65535)),
+    *(page_refused((given, '00 01'), STRANGE, 0, 2999, 17, 0) for given in (UNREADABLE, UNMATCHED, EXAMPLE)),
+    # the first serial, refused before anything is read
+    *(page_refused(EXAMPLE, FIRST, serial, 3005, 18, 0) for serial in (0, 999951, 999999, 1000000, MOST)),
+    *((EXAMPLE, FIRST, serial, 3005, page_lines(serial, 2, (0b10, 2), (0b01, 4)), OVER) for serial in (9, 99, 99999, 999949, 999950)),
+    *(page_refused((given, '00 01'), STRANGE, serial, 3005, 18, 0) for given in (UNREADABLE, UNMATCHED, EXAMPLE) for serial in (0, 999951)),
+    # then what walk refuses, in its order
+    *(page_refused((given, '00 01'), STRANGE, 1, 3005, number, place) for given, number, place in UNREAD),
+    *(page_refused(given, STRANGE, 1, 3005, 16, place) for given, place in BAD),
+    page_refused((UNMATCHED, '02 01'), STRANGE, 1, 3005, 16, 0),
+    page_refused(UNMATCHED, STRANGE, 1, 3005, 10, 2),
+    page_refused((EXAMPLE, '01 01 02 01'), OVER, 1, 3005, 10, 1),
+    page_refused(EXAMPLE, STRANGE, 1, 3005, 11, 0),
+    page_refused((EXAMPLE, '01 01'), checkpoint(1, 1, '81'), 1, 3005, 11, 0),
+    page_refused((TWO_FREE, '01 01 02 00'), checkpoint(2, 0), 1, 3005, 11, 0),
+]
+
 # formulas: some of few variables, each under every list of assumptions, in order, none bad
 FORMULA_EDGES = [(given, ' '.join('%02x %02x' % (v, x) for v, x in enumerate(values, 1) if x < 2))
                  for given in [EXAMPLE, PURE_LAST, UNMATCHED, REMATCHED, THREE_FREE, TWICE, MOST_TRUE, PARTLY, MARKED, LOWER, HIGHER,
@@ -1181,6 +1298,11 @@ def list_edge(number, given, origin, room, says, refusal, place, returned, model
     return coded(number, given, answer, fields, b''.join(little(m, 8) for m in models))
 
 
+def page_edge(number, given, origin, serial, length, expected, returned):
+    refusal, lines = (expected, []) if isinstance(expected, tuple) else (None, expected)
+    return paged(number, given, refusal, lines, returned, origin, serial, length, 0xa5)
+
+
 def formula_edge(number, given, assumed):
     return formula_vector(number, (given, bytes.fromhex(assumed)))[0][0]
 
@@ -1203,6 +1325,7 @@ EDGES = {'check': [('check_edges', 60000, CHECK_EDGES, check_edge)],
          'judge': [('judge_edges', 61000, JUDGE_EDGES, judge_edge), ('judge_assumed', 61500, JUDGE_ASSUMED, judge_edge)],
          'walk': [('walk_edges', 62000, WALK_EDGES, walk_edge), ('walk_assumed', 62500, WALK_ASSUMED, walk_edge)],
          'list': [('list_edges', 63100, LIST_EDGES, list_edge)],
+         'page': [('page_edges', 63600, PAGE_EDGES, page_edge)],
          'printed': [('printed_edges', 63000, PRINTED_EDGES, printed_text)],
          'formulas': [('formulas_edges', 63200, FORMULA_EDGES, formula_edge)],
          'read_text': [('read_text_edges', 64000, READ_TEXT_EDGES, read_edge)],

@@ -1,12 +1,15 @@
 -- Laws of `judge-filled` and `judge-agrees`.
-use Prim.Native.Nat.{ℕ, _+_}
+use Prim.Native.Nat.{ℕ, zero, suc, _+_}
+use mathlib.Core.Bool.{false}
 use mathlib.Core.List.{List, _++_}
 use mathlib.Core.Path.{_≡_, refl}
+use lib.Dec.{eqb}
 use lib.ListN.{getD, take, drop}
+use borrow.Author.Tests.{eqb-false}
 use Rattle.limits.specs.Limits.{max-clauses}
 use Rattle.formula.specs.declared.Refusal.{Refusal}
-use Rattle.formula.specs.declared.Refusal.the-variants.{ShortBuffer, Truncated, UnknownKind, Misplaced, BadVariableCount, NoSuchVariable, ComplementaryLiteral, TooManyClauses, TrailingByte, Unmatched, ForeignCheckpoint, StrayVariable, BadOpening, BadWord, ClauseCountDiffers, BadAssumption}
 use Rattle.formula.specs.Refusals.{table-row}
+use Rattle.formula.proofs.NumberLaws.{refusal-numbered}
 use Rattle.assumptions.specs.declared.Assumption.{Assumption}
 use Rattle.matched.specs.Judge.{JudgementValues, judge}
 use Rattle.vectors.specs.declared.answers.Answer.{Answer}
@@ -20,22 +23,11 @@ use Rattle.cases.specs.Judging.{number-code, judge-written, filled, judg
 
 -- every refusal has a number
 pub refusal-code : (says : ℕ) (r : Refusal) → number-code says (table-row r .number) ≡ 2
-refusal-code says (ShortBuffer p) = refl
-refusal-code says (Truncated p) = refl
-refusal-code says (UnknownKind p) = refl
-refusal-code says (Misplaced p) = refl
-refusal-code says (BadVariableCount p) = refl
-refusal-code says (NoSuchVariable p) = refl
-refusal-code says (ComplementaryLiteral p) = refl
-refusal-code says (TooManyClauses p) = refl
-refusal-code says (TrailingByte p) = refl
-refusal-code says (Unmatched p) = refl
-refusal-code says (ForeignCheckpoint p) = refl
-refusal-code says (StrayVariable p) = refl
-refusal-code says (BadOpening p) = refl
-refusal-code says (BadWord p) = refl
-refusal-code says (ClauseCountDiffers p) = refl
-refusal-code says (BadAssumption p) = refl
+refusal-code says r = by (table-row r .number) (refusal-numbered r)
+  where
+    by : (k : ℕ) → eqb k 0 ≡ false → number-code says k ≡ 2
+    by zero e = absurd (eqb-false 0 0 e refl)
+    by (suc k) e = refl
 
 -- what the call gives, from what its parts give
 pub judge-filled-of :

@@ -9,7 +9,7 @@ use Rattle.walk.specs.Checkpoints.{Checkpoint, start}
 use Rattle.vectors.specs.declared.corpus.Vector.{Vector}
 use Rattle.vectors.specs.declared.corpus.Framed.the-variants.{Whole, Broken}
 use Rattle.cases.specs.declared.runs.Act.{Act}
-use Rattle.cases.specs.declared.runs.Act.the-variants.{Check, Judge, ReadText, WriteText, Start, Walk, Listing, Models, Compare, Print}
+use Rattle.cases.specs.declared.runs.Act.the-variants.{Check, Judge, ReadText, WriteText, Start, Walk, Listing, Models, Page, Compare, Print}
 use Rattle.cases.specs.declared.runs.Run.{Run}
 use Rattle.vectors.specs.declared.totals.Totals.{Totals}
 use Rattle.vectors.specs.Checking.{check-agrees}
@@ -17,6 +17,7 @@ use Rattle.vectors.specs.Corpus.{framed}
 use Rattle.cases.specs.Converting.{convert-agrees}
 use Rattle.cases.specs.Judging.{judge-agrees}
 use Rattle.cases.specs.Listing.{listing-agrees, listing-leaves, list-agrees, list-leaves}
+use Rattle.cases.specs.Paging.{page-agrees, page-leaves}
 use Rattle.cases.specs.Prints.{print-agrees}
 use Rattle.vectors.specs.Totals.{counted, Grown}
 use Rattle.cases.specs.Trying.{compare-agrees}
@@ -32,6 +33,7 @@ size-of Start = stored-checkpoint-size
 size-of Walk = 127
 size-of Listing = 23
 size-of Models = 125
+size-of Page = 114
 size-of Compare = 6
 size-of Print = 0
 
@@ -50,6 +52,7 @@ act-agrees Start s v last = start-agrees s v
 act-agrees Walk s v last = walk-agrees s v last
 act-agrees Listing s v last = listing-agrees s v last
 act-agrees Models s v last = list-agrees s v last
+act-agrees Page s v last = page-agrees s v last
 act-agrees Compare s v last = compare-agrees s v
 act-agrees Print s v last = print-agrees s v
 
@@ -63,6 +66,7 @@ leaves Start s v last = last
 leaves Walk s v last = walk-leaves s v last
 leaves Listing s v last = listing-leaves s v last
 leaves Models s v last = list-leaves s v last
+leaves Page s v last = page-leaves s v last
 leaves Compare s v last = last
 leaves Print s v last = last
 

@@ -69,7 +69,7 @@ fn compare_converted(bytes: &[u8], v: Vector, reads: bool, fill: u8, buffer: &mu
     false
 }
 
-fn filled(fill: u8) -> [u8; 65536]
+pub fn filled(fill: u8) -> [u8; 65536]
     ensures { λ r. ⌜ r ≡ replicate 65536 fill ⌝ }
 {
     [fill; 65536]

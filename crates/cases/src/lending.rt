@@ -6,11 +6,13 @@ ghost use Rattle.matched.specs.Judge.{judgement-values, judge};
 ghost use Rattle.walk.specs.WalkCall.{walk-call};
 ghost use Rattle.enumeration.specs.Lists.{next-models, Delivered};
 ghost use Rattle.enumeration.specs.Values.{checkpoint-values, walked-values};
+ghost use Rattle.page.specs.Pages.{page-call, page-told};
 use assumptions::Assumption;
 use enumeration::Checkpoint;
 use enumeration::Listed;
 use enumeration::Walked;
 use matched::Judgement;
+use page::Paged;
 
 pub fn judge_two(input: &[u8], a: Assumption, b: Assumption, buffer: &mut [u8]) -> Judgement
     ensures { λ r. ⌜ (judgement-values r ≡ judge (now (input .entry)) (a ∷ (b ∷ [])) (now (buffer .entry)) .answer)
@@ -38,4 +40,18 @@ pub fn list_two(
 {
     let list = [a, b];
     enumeration::list(input, &list, from, models)
+}
+
+pub fn page_two(
+    input: &[u8],
+    a: Assumption,
+    b: Assumption,
+    from: Checkpoint,
+    serial: u32,
+    page: &mut [u8],
+) -> Paged
+    ensures { λ r. ⌜ page-call (now (input .entry)) (a ∷ (b ∷ [])) (checkpoint-values from) serial (now (page .entry)) ≡ page-told r (now (page .exit)) ⌝ }
+{
+    let list = [a, b];
+    page::write_page(input, &list, from, serial, page)
 }

@@ -7,8 +7,8 @@
 // of its input, of its assumptions and of the bytes that it expects (2 bytes each), these three, the expected answer and the act's own
 // fields. An assumption is two bytes: the variable, and 1 for true or 0 for false. Where there are just two, the act is called on a lent list
 // of them, else on the masks that are read from the bytes. An answer is what it says (1 byte: 0 no, 1 yes, 2 refused, 3 accepted, 4 model,
-// 5 spent, 6 ended, 10 written), the refusal's number (1 byte) and its place (2 bytes), and the numbers of variables and of clauses of an
-// accepted formula (1 byte each). The own fields:
+// 5 spent, 6 ended, 10 written, 11 filled), the refusal's number (1 byte) and its place (2 bytes), and the numbers of variables and of
+// clauses of an accepted formula (1 byte each). The own fields:
 // - check: the assignment (8 bytes).
 // - judge: the length of the lent buffer (1 byte), the fill (1 byte) and the first 96 bytes after the call. The buffer is the first
 //   bytes of an array of 256, which has the fill everywhere before the call and from byte 96 on after it.
@@ -23,6 +23,10 @@
 // - list: as walk, and in place of the budget the room of the lent slice and the fill (1 byte each). The expected bytes are the models, 8
 //   bytes each. The slice is the first places of an array of 256, which has the fill everywhere before the call and behind the models after
 //   it. The answer and the checkpoint are the last call's, with steps and expansions of 0.
+// - page: the expected checkpoint; which checkpoint the call gets and a checkpoint, as of walk; the first serial (4 bytes), the length of the
+//   lent page (2 bytes) and the fill (1 byte). The expected bytes are the filled lines. The page has the fill everywhere before the call.
+//   After it, if the answer says filled, blank lines stand behind the filled ones up to byte 3,000; all other bytes have the fill. That
+//   answer has the number of filled lines as the place.
 // - printed: none, and no expected answer. The expected bytes are the text.
 // - formulas: none. The answer says that the walk was not compared with a trial of all assignments (7), or that both have the same
 //   models (8), with their number as the place.
@@ -32,6 +36,7 @@ mod converting;
 mod judging;
 mod lending;
 mod listing;
+mod paging;
 mod prints;
 mod runs;
 mod trying;
@@ -105,6 +110,8 @@ fn main() {
     run_files(b"listing", Act::Listing, b"calls");
     run_files(b"list", Act::Models, b"vectors");
     run_alone(b"list_edges", Act::Models);
+    run_files(b"page", Act::Page, b"vectors");
+    run_alone(b"page_edges", Act::Page);
     run_files(b"printed", Act::Print, b"vectors");
     run_alone(b"printed_edges", Act::Print);
     run_files(b"formulas", Act::Compare, b"vectors");

@@ -9,6 +9,7 @@ use crate::converting::convert_vector;
 use crate::judging::judge_vector;
 use crate::listing::list_vector;
 use crate::listing::listing_vector;
+use crate::paging::page_vector;
 use crate::prints::print_vector;
 use crate::trying::compare_vector;
 use crate::walking::CHECKPOINT_SIZE;
@@ -32,6 +33,7 @@ pub enum Act {
     Walk,
     Listing,
     Models,
+    Page,
     Compare,
     Print,
 }
@@ -55,6 +57,7 @@ fn fields_of(act: Act) -> usize
         Act::Walk => 127,
         Act::Listing => 23,
         Act::Models => 125,
+        Act::Page => 114,
         Act::Compare => 6,
         Act::Print => 0,
     }
@@ -89,6 +92,7 @@ fn run_vector(bytes: &[u8], v: Vector, act: Act, last: Checkpoint) -> Compared
         Act::Walk => walk_vector(bytes, v, last),
         Act::Listing => listing_vector(bytes, v, last),
         Act::Models => list_vector(bytes, v, last),
+        Act::Page => page_vector(bytes, v, last),
         Act::Compare => Compared {
             agrees: compare_vector(bytes, v),
             last,

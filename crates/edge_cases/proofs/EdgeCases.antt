@@ -1,15 +1,18 @@
--- The cases of the tables specs/MarkedCases.antt, specs/AssumedCases.antt and specs/StrippedCases.antt, and some more, computed from the
--- definitions.
+-- The cases of the tables specs/MarkedCases.antt, specs/AssumedCases.antt, specs/StrippedCases.antt and specs/PageCases.antt, and some
+-- more, computed from the definitions.
 use mathlib.Core.Bool.{xor}
-use Prim.Native.Nat.{ℕ}
+use Prim.Native.Nat.{ℕ, zero, suc, _≤_, _<_}
 use mathlib.Core.List.{List, [], _∷_, _++_, map}
-use mathlib.Core.Path.{_≡_, refl, ap}
+use mathlib.Core.Logic.{inl}
+use mathlib.Core.Path.{_≡_, refl, ap, _∙_}
+use native.Mathlib.Omega.{arith}
 use lib.ListN.{length, replicate}
 use borrow.Author.Tests.{le-ltb}
 use Rattle.limits.specs.Limits.{max-clauses}
+use Rattle.lists.specs.Over.{over}
 use Rattle.lists.specs.Tabulated.{tabulated}
 use Rattle.masks.specs.Mask.{bit, members}
-use Rattle.writing.specs.Text.{line-feed, blank, decimal-within, decimal}
+use Rattle.writing.specs.Text.{line-feed, blank, decimal-within, decimal, blanks}
 use Rattle.formula.specs.InnerDecode.{decode, records, read-record}
 use Rattle.formula.specs.Format.{Literal, names, names-as, add, literal-bytes, literals-bytes, clause-bytes, clauses-bytes, formula-bytes}
 use Rattle.formula.specs.Masked.{variables}
@@ -22,21 +25,27 @@ use Rattle.splitting.specs.Nodes.{less, assign, remaining, satisfied-by, occurs
 use Rattle.splitting.specs.Stripping.{pure, not-naming, strip}
 use Rattle.splitting.specs.Choosing.{matching-of, trial, first-passing, candidates, among, listed, last, emptied, last-listed, choice}
 use Rattle.walk.specs.Task.{Task, under, Posed}
-use Rattle.walk.specs.Checkpoints.{Checkpoint}
-use Rattle.walk.specs.WalkCall.{walk-call}
+use Rattle.walk.specs.Checkpoints.{Checkpoint, without-last, last-value, start, past-all, behind, checkpoint-after}
+use Rattle.walk.specs.WalkCall.{walk-call, walk-calls}
 use Rattle.walk.specs.InnerLocate.{task-call}
 use Rattle.walk.specs.Plain.{assignment, node-walk, plain-walk}
 use Rattle.walk.specs.Gaps.{ample-budget}
-use Rattle.walk.specs.PlainMachine.{go-on, plain-call, plain-calls}
-use Rattle.walk.specs.Results.{plain-result}
+use Rattle.walk.specs.PlainMachine.{go-on, plain-call, plain-calls, state-after}
+use Rattle.walk.specs.Results.{Result, plain-result}
 use Rattle.walk.proofs.Demands.{start-zero}
-use Rattle.walk.proofs.TaskLaws.{calls-plain}
+use Rattle.walk.proofs.TaskLaws.{calls-plain, calls-unrefused, last-plain}
 use Rattle.walk.proofs.RefusalLaws.{accepted-posed, call-accepted, call-declined}
 use Rattle.walk.proofs.NothingLeftLaws.{call-first, call-second}
+use Rattle.page.specs.PageLines.{page-lines, page-size, page-line, blank-line}
+use Rattle.page.specs.Pages.{ample-budgets, with-models, line-at, joined, filled-values, max-serial, page-call}
+use Rattle.page.proofs.JoinedLaws.{joined-same}
+use Rattle.page.proofs.Demands.{short-page, bad-serial, page-refused, page-written}
 use Rattle.printing.specs.Printed.{refused-word, walk-lines, printed}
 use Rattle.edge_cases.specs.MarkedCases.{on, off, line, model-at, end-at, walked-under, walked, example, MarkedCases}
 use Rattle.edge_cases.specs.AssumedCases.{assume-on, assume-off, AssumedCases}
 use Rattle.edge_cases.specs.StrippedCases.{StrippedCases}
+use Rattle.edge_cases.specs.PageCases.{line-of-these, PageCases}
+use Rattle.edge_cases.specs.TextCases.{ascii}
 
 -- ---- what computes: to unfold one of these is to unfold all that its line names
 
@@ -75,6 +84,10 @@ walking = tt
 printing : Unit {0}
 unfolding walking printed walk-lines decimal decimal-within tabulated
 printing = tt
+
+paging : Unit {0}
+unfolding walking with-models ample-budgets page-line decimal decimal-within tabulated blanks state-after checkpoint-after behind past-all without-last last-value
+paging = tt
 
 -- ---- walks
 
@@ -156,6 +169,62 @@ stripped-cases = record {
   partly-assumed-walked = walked-plain _ _ _ _ _ _ refl 2;
   left-marked = λ b l. rw (le-ltb (length b) max-clauses l);
   whole-first = λ b l. rw (le-ltb (length b) max-clauses l);
+}
+
+-- ---- pages
+
+-- the lines of results, from a serial on, and that they are those of their page
+abbrev lines-of : ℕ → ℕ → List Result → List (List ℕ)
+lines-of n serial [] = []
+lines-of n serial (r ∷ rs) = page-line serial n (r .model) (r .steps) ∷ lines-of n (suc serial) rs
+
+line-these : (n serial : ℕ) (rs : List Result) (i : ℕ) → line-at n serial rs i ≡ line-of-these (lines-of n serial rs) i
+line-these n serial [] i = refl
+line-these n serial (r ∷ rs) zero = refl
+line-these n serial (r ∷ rs) (suc i) = line-these n (suc serial) rs i
+
+joined-these : (n serial : ℕ) (rs : List Result) (k : ℕ) → joined (line-at n serial rs) k ≡ joined (line-of-these (lines-of n serial rs)) k
+joined-these n serial rs k = joined-same (line-at n serial rs) (line-of-these (lines-of n serial rs)) k (λ i l. line-these n serial rs i)
+
+-- a page from the start has the lines of what the plain machine brings
+page-plain : (s : List ℕ) (us : List Assumption) (n : ℕ) (t : List Literal) (cs : List (List Literal)) (row : List ℕ) → acceptance s us ≡ accepted n t cs row
+    → (serial : ℕ) (b : List ℕ) → page-size ≤ length b → 0 < serial → serial ≤ max-serial
+    → (let bs = ample-budgets page-lines in
+    let rs = with-models (map (plain-result (under n t cs)) (plain-calls (under n t cs) 0 bs)) in
+    page-call s us start serial b
+    ≡ record {
+      answer = filled-values (length rs);
+      checkpoint = checkpoint-after (under n t cs) (state-after (under n t cs) 0 bs);
+      page = over (joined (line-of-these (lines-of n serial rs)) page-lines) b;
+    })
+unfolding walk-calls
+page-plain s us n t cs row e serial b l some most =
+    let P = accepted-posed s us n t cs row e in
+    let w = call-accepted s us n t cs row e in
+    page-written s us start serial b l some most (calls-unrefused s us (under n t cs) P w (ample-budget ∷ []) .0)
+    ∙ rw (
+      calls-plain s us (under n t cs) P w (ample-budgets page-lines),
+      last-plain s us (under n t cs) P w (ample-budgets page-lines),
+      e,
+      ← joined-these n serial (with-models (map (plain-result (under n t cs)) (plain-calls (under n t cs) 0 (ample-budgets page-lines)))) page-lines,
+    )
+
+-- a blank line, byte for byte
+fifty-nine : blank-line ≡ ascii "                                                           \n"
+unfolding blank-line blanks
+fifty-nine = refl
+
+pub page-cases : PageCases
+unfolding paging
+page-cases = record {
+  example-page = λ b l. page-plain _ _ _ _ _ _ refl 1 b l (omega arith) (omega arith);
+  assumed-page = λ b l. page-plain _ _ _ _ _ _ refl 7 b l (omega arith) (omega arith);
+  no-model = fifty-nine;
+  short-first = λ c b l. short-page (1 ∷ 2 ∷ []) [] c 0 b l;
+  serial-second = λ c b l. bad-serial (1 ∷ 2 ∷ []) [] c 0 b l (inl refl);
+  reading-third = λ c b l.
+      let e = call-declined (1 ∷ 2 ∷ []) [] _ _ c ample-budget refl in
+      page-refused (1 ∷ 2 ∷ []) [] c 1 b l (omega arith) (omega arith) (ap (λ (r : Result). r .kind) e) ∙ rw e;
 }
 
 -- ---- more cases

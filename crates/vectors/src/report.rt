@@ -25,6 +25,7 @@ fn says(n: u64) {
         8 => text(b"models"),
         9 => text(b"other models"),
         10 => text(b"written"),
+        11 => text(b"filled"),
         _ => text(b"unknown"),
     }
 }

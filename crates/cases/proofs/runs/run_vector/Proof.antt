@@ -55,14 +55,20 @@ list-vector-requires c κs = rw (c .enum-told8 .given .1) at (c .before .before 
 enum-told-9 : tie.Need-enum-told-9
 enum-told-9 c = search needs
 
-compare-vector-requires : tie.Need-compare-vector-requires
-compare-vector-requires c κs = rw (c .enum-told9 .given .1) at (c .before .before .before .pre)
+page-vector-requires : tie.Need-page-vector-requires
+page-vector-requires c κs = rw (c .enum-told9 .given .1) at (c .before .before .before .pre)
 
 enum-told-10 : tie.Need-enum-told-10
 enum-told-10 c = search needs
 
+compare-vector-requires : tie.Need-compare-vector-requires
+compare-vector-requires c κs = rw (c .enum-told10 .given .1) at (c .before .before .before .pre)
+
+enum-told-11 : tie.Need-enum-told-11
+enum-told-11 c = search needs
+
 print-vector-requires : tie.Need-print-vector-requires
-print-vector-requires c κs = rw (c .enum-told10 .given .1) at (c .before .before .before .pre)
+print-vector-requires c κs = rw (c .enum-told11 .given .1) at (c .before .before .before .pre)
 
 returns : tie.Need-returns
 returns c = rw (c .before .enum-told .given .1) (record { agrees = c .check-vector .ensures; leaves = refl })
@@ -89,10 +95,13 @@ returns-8 : tie.Need-returns-8
 returns-8 c = rw (c .before .enum-told8 .given .1) (c .list-vector .ensures)
 
 returns-9 : tie.Need-returns-9
-returns-9 c = rw (c .before .enum-told9 .given .1) (record { agrees = c .compare-vector .ensures; leaves = refl })
+returns-9 c = rw (c .before .enum-told9 .given .1) (c .page-vector .ensures)
 
 returns-10 : tie.Need-returns-10
-returns-10 c = rw (c .before .enum-told10 .given .1) (record { agrees = c .print-vector .ensures; leaves = refl })
+returns-10 c = rw (c .before .enum-told10 .given .1) (record { agrees = c .compare-vector .ensures; leaves = refl })
+
+returns-11 : tie.Need-returns-11
+returns-11 c = rw (c .before .enum-told11 .given .1) (record { agrees = c .print-vector .ensures; leaves = refl })
 
 pub run-vector-spec : {M : Type 1} → statement M
 run-vector-spec =
@@ -115,8 +124,10 @@ run-vector-spec =
     enum-told-8
     list-vector-requires
     enum-told-9
-    compare-vector-requires
+    page-vector-requires
     enum-told-10
+    compare-vector-requires
+    enum-told-11
     print-vector-requires
     returns
     returns-2
@@ -127,4 +138,5 @@ run-vector-spec =
     returns-7
     returns-8
     returns-9
-    returns-10)
+    returns-10
+    returns-11)
