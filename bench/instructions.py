@@ -11,7 +11,7 @@ import subprocess
 HERE = os.path.dirname(os.path.abspath(__file__))
 PROGRAM = os.path.join(HERE, "target", "release", "norwythai-bench")
 FORMULAS = ["a1", "b1", "c1", "d1", "e1", "f_stairs6", "f_hunt_first", "g1", "h1"]
-ACTS = ["list", "walk", "judge"]
+ACTS = ["list", "page", "walk", "judge"]
 IMPLEMENTATIONS = ["proved", "plain", "tuned"]
 
 

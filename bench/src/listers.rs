@@ -64,6 +64,16 @@ pub trait Lister {
         models: &mut [u64],
     ) -> Result<usize, Refused>;
 
+    /// Writes the next models as a page whose first line has this serial, and gives how many lines have a model.
+    fn page(
+        &self,
+        input: &[u8],
+        assumptions: &Assumptions,
+        checkpoint: &mut Bytes,
+        serial: u32,
+        page: &mut [u8],
+    ) -> Result<usize, Refused>;
+
     /// Reads a DIMACS text into the buffer, and gives the formula's length.
     fn read_text(&self, text: &[u8], buffer: &mut [u8]) -> Result<usize, Refused>;
 
@@ -136,6 +146,21 @@ impl Lister for Proved {
         Ok(listed.written)
     }
 
+    fn page(
+        &self,
+        input: &[u8],
+        assumptions: &Assumptions,
+        bytes: &mut Bytes,
+        serial: u32,
+        page: &mut [u8],
+    ) -> Result<usize, Refused> {
+        let mut checkpoint = Checkpoint::from_bytes(*bytes);
+        let paged = norwythai::page(input, &assumptions.proved, &mut checkpoint, serial, page)
+            .map_err(refused)?;
+        *bytes = *checkpoint.as_bytes();
+        Ok(paged.lines)
+    }
+
     fn read_text(&self, text: &[u8], buffer: &mut [u8]) -> Result<usize, Refused> {
         norwythai::from_dimacs_into(text, buffer).map_err(refused)
     }
@@ -196,6 +221,20 @@ macro_rules! rust_lister {
                     .map_err(|r| (r.number, r.place))?;
                 *checkpoint = listed.checkpoint;
                 Ok(listed.written)
+            }
+
+            fn page(
+                &self,
+                input: &[u8],
+                assumptions: &Assumptions,
+                checkpoint: &mut Bytes,
+                serial: u32,
+                page: &mut [u8],
+            ) -> Result<usize, Refused> {
+                let paged = $module::page(input, &assumptions.rust, checkpoint, serial, page)
+                    .map_err(|r| (r.number, r.place))?;
+                *checkpoint = paged.checkpoint;
+                Ok(paged.lines)
             }
 
             fn read_text(&self, text: &[u8], buffer: &mut [u8]) -> Result<usize, Refused> {

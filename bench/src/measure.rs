@@ -3,7 +3,7 @@
 use crate::families::{fullest_input, longest_text_input, Case, Family, FAMILIES};
 use crate::listers::{Bytes, Lister, Plain, Proved, Refused, Tuned};
 use crate::table::{count_text, print_table, row, time_text};
-use norwythai::{FORMULA_BUFFER, TEXT_BUFFER};
+use norwythai::{FORMULA_BUFFER, PAGE_SIZE, TEXT_BUFFER};
 use std::fmt::Debug;
 use std::hint::black_box;
 use std::time::Instant;
@@ -112,6 +112,15 @@ pub fn list(lister: &dyn Lister, case: &Case, models: &mut [u64]) {
     black_box((&checkpoint, &*models));
 }
 
+/// A page from a checkpoint. The page is not cleared before.
+pub fn page(lister: &dyn Lister, case: &Case, from: &Bytes, page: &mut [u8]) {
+    let mut checkpoint = *black_box(from);
+    let (input, assumptions) = black_box((&case.input, &case.assumptions));
+    let lines = lister.page(input, assumptions, &mut checkpoint, 1, page);
+    assert!(black_box(lines).is_ok());
+    black_box((&checkpoint, &*page));
+}
+
 /// One walk call from a checkpoint.
 pub fn walk(lister: &dyn Lister, case: &Case, from: &Bytes) {
     let mut checkpoint = *black_box(from);
@@ -131,6 +140,11 @@ pub fn judge(lister: &dyn Lister, case: &Case, buffer: &mut [u8; 96]) {
 
 pub fn list_times(case: &Case, models: &mut [u64]) -> Times {
     times(|lister| list(lister, case, models))
+}
+
+fn page_times(case: &Case, from: &Bytes) -> Times {
+    let mut lent = [0; PAGE_SIZE];
+    times(|lister| page(lister, case, from, &mut lent))
 }
 
 pub fn walk_times(case: &Case, from: &Bytes) -> Times {
@@ -227,6 +241,23 @@ pub fn deep_checkpoint(case: &Case) -> Bytes {
     checkpoint
 }
 
+fn require_same_page(case: &Case, from: &Bytes) {
+    same("page", &case.name, |lister| {
+        let mut page = vec![0; PAGE_SIZE];
+        let mut checkpoint = *from;
+        let lines = lister.page(
+            &case.input,
+            &case.assumptions,
+            &mut checkpoint,
+            1,
+            &mut page,
+        );
+        (lines, checkpoint, page)
+    })
+    .0
+    .expect("a checkpoint of the walk");
+}
+
 fn require_same_judge(case: &Case) {
     same("judge", &case.name, |lister| {
         let mut buffer = [0; 96];
@@ -313,6 +344,23 @@ fn list_row(family: &str, cases: &[Case], wanted: usize) -> Row {
     }
 }
 
+/// The rows of a page from the start, and of one from deep in the walk.
+fn page_rows(family: &str, cases: &[Case]) -> [Row; 2] {
+    let row = |act: &str, from: fn(&Case) -> Bytes| {
+        let times = |case: &Case| {
+            let from = from(case);
+            require_same_page(case, &from);
+            page_times(case, &from)
+        };
+        Row {
+            family: family.to_string(),
+            act: act.to_string(),
+            times: cases.iter().map(times).collect(),
+        }
+    };
+    [row("page", |_| START), row("page, deep", deep_checkpoint)]
+}
+
 fn walk_row(family: &str, cases: &[Case]) -> Row {
     Row {
         family: family.to_string(),
@@ -353,12 +401,14 @@ const TEXT_FAMILY: &Family = &FAMILIES[1];
 
 fn family_rows(family: &Family) -> Vec<Row> {
     let cases = family.cases();
-    vec![
+    let mut rows = vec![
         list_row(family.title, &cases, SHORT),
         list_row(family.title, &cases, LONG),
-        walk_row(family.title, &cases),
-        judge_row(family.title, &cases),
-    ]
+    ];
+    rows.extend(page_rows(family.title, &cases));
+    rows.push(walk_row(family.title, &cases));
+    rows.push(judge_row(family.title, &cases));
+    rows
 }
 
 /// The rows of the same formulas with half of their variables assumed.
@@ -423,14 +473,17 @@ pub fn print_each() {
     for family in FAMILIES {
         for case in family.cases().into_iter().chain(family.half_assumed().1) {
             let mut models = vec![0; SHORT];
+            let deep = deep_checkpoint(&case);
             let acts = [
                 list_times(&case, &mut models),
-                walk_times(&case, &deep_checkpoint(&case)),
+                page_times(&case, &deep),
+                walk_times(&case, &deep),
                 judge_times(&case),
             ];
             print!("{:<28}", case.name);
-            for (act, [proved, plain, tuned]) in
-                ["list 1,000", "walk, deep", "judge"].iter().zip(acts)
+            for (act, [proved, plain, tuned]) in ["list 1,000", "page, deep", "walk, deep", "judge"]
+                .iter()
+                .zip(acts)
             {
                 print!(
                     " | {act}: {} {:.2} {:.2}",
@@ -460,7 +513,7 @@ pub fn print_comparison() {
     table.extend(rows.iter().map(Row::cells));
     print_table(&table);
     println!();
-    println!("- all three have listed the same models and given the same walk calls, matchings and texts");
+    println!("- all three have listed the same models and given the same pages, walk calls, matchings and texts");
     println!("- best of {ROUNDS} rounds after a warm-up, {FEWEST_ROUNDS} for the longest acts; a time is the geometric mean over a family's formulas");
     println!("- buffers were not cleared between calls; waits for a core are taken off");
     print_verdict(&rows);

@@ -2,7 +2,8 @@
 
 use crate::families::{Case, FAMILIES};
 use crate::listers::Lister;
-use crate::measure::{deep_checkpoint, judge, list, walk, LISTERS, SHORT};
+use crate::measure::{deep_checkpoint, judge, list, page, walk, LISTERS, SHORT};
+use norwythai::PAGE_SIZE;
 
 /// The names of the implementations, in the order of [`LISTERS`].
 const NAMES: [&str; 3] = ["proved", "plain", "tuned"];
@@ -31,6 +32,11 @@ pub fn run_once(implementation: &str, formula: &str, act: &str) -> Option<()> {
         "list" => {
             let mut models = vec![0; SHORT];
             counted(&mut || list(lister, &case, &mut models));
+        }
+        "page" => {
+            let from = deep_checkpoint(&case);
+            let mut lent = vec![0; PAGE_SIZE];
+            counted(&mut || page(lister, &case, &from, &mut lent));
         }
         "walk" => {
             let from = deep_checkpoint(&case);

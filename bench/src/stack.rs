@@ -9,10 +9,10 @@ use crate::listers::{Assumptions, Bytes, Lister, Proved};
 use crate::measure::{deep_checkpoint, BUDGET, START};
 use crate::table::{count_text, print_table, row};
 use norwythai::raw::{
-    norwythai_check, norwythai_from_dimacs, norwythai_judge, norwythai_list, norwythai_start,
-    norwythai_to_dimacs, norwythai_walk,
+    norwythai_check, norwythai_from_dimacs, norwythai_judge, norwythai_list, norwythai_page,
+    norwythai_start, norwythai_to_dimacs, norwythai_walk,
 };
-use norwythai::{to_dimacs, FORMULA_BUFFER, TEXT_BUFFER};
+use norwythai::{to_dimacs, FORMULA_BUFFER, PAGE_SIZE, TEXT_BUFFER};
 use norwythai_samples::{encode, longest_path};
 use std::hint::black_box;
 use std::mem::MaybeUninit;
@@ -243,6 +243,36 @@ fn list_stack(measured: &Measured, from: &Bytes) -> usize {
     })
 }
 
+fn page_stack(measured: &Measured, from: &Bytes) -> usize {
+    let Measured {
+        input, assumptions, ..
+    } = measured;
+    let mut results = [0; 6];
+    let mut checkpoint = *from;
+    let mut page = vec![0; PAGE_SIZE];
+    stack_of(&mut || {
+        let top = stack_pointer();
+        // SAFETY: the pointers are good for the lengths, and the arrays do not overlap.
+        let returned = unsafe {
+            norwythai_page(
+                input.as_ptr(),
+                input.len(),
+                assumptions.as_ptr(),
+                assumptions.len(),
+                checkpoint.as_mut_ptr(),
+                50,
+                1,
+                page.as_mut_ptr(),
+                page.len(),
+                results.as_mut_ptr(),
+                6,
+            )
+        };
+        assert_eq!(returned, 0);
+        top
+    })
+}
+
 /// A function that writes so many bytes of its stack.
 #[inline(never)]
 extern "C" fn write_stack<const BYTES: usize>() {
@@ -345,6 +375,7 @@ fn print_functions() {
         ("norwythai_start", start_stack()),
         ("norwythai_walk", largest(&walk_stack)),
         ("norwythai_list", largest(&list_stack)),
+        ("norwythai_page", largest(&page_stack)),
         ("norwythai_from_dimacs", with_fullest(from_dimacs_stack)),
         ("norwythai_to_dimacs", with_fullest(to_dimacs_stack)),
     ];

@@ -1,12 +1,14 @@
-//! The tuned baseline and the plain reference agree: on lists, on walks with their counts, and on judge.
+//! The tuned baseline and the plain reference agree: on lists, on pages, on walks with their counts, and on judge.
 
 use norwythai_bench::families::{fullest_input, Case, FAMILIES};
 use norwythai_bench::listers::{Assumptions, Bytes, Lister, Plain, Refused, Tuned};
 use norwythai_bench::measure::{BUDGET, START};
+use norwythai_reference::{PAGE_LINES, PAGE_SIZE};
 use norwythai_samples::{encode, stripped, Random, Stripping};
 
-/// Models of a list, and walk calls from the start and from the list's end.
+/// Models of a list, pages in a row, and walk calls from the start and from the list's end.
 const MODELS: usize = 3_000;
+const PAGES: usize = 3;
 const CALLS: usize = 40;
 
 /// The checkpoint after a list that both give.
@@ -42,6 +44,27 @@ fn same_walks(case: &Case, from: Bytes) {
     }
 }
 
+/// Pages one after the other that both write in the same way.
+fn same_pages(case: &Case, from: Bytes) {
+    let (mut plain, mut tuned) = (from, from);
+    for serial in (1..).step_by(PAGE_LINES).take(PAGES) {
+        let page = |lister: &dyn Lister, checkpoint| {
+            let mut page = vec![7; PAGE_SIZE + 5];
+            let lines = lister.page(
+                &case.input,
+                &case.assumptions,
+                checkpoint,
+                serial,
+                &mut page,
+            );
+            (lines, page)
+        };
+        let expected = page(&Plain, &mut plain);
+        assert!(page(&Tuned, &mut tuned) == expected, "{}", case.name);
+        assert_eq!(tuned, plain, "{}", case.name);
+    }
+}
+
 /// Judge's answer and its buffer, which both give.
 fn same_judge(
     input: &[u8],
@@ -61,12 +84,15 @@ fn same_acts(case: &Case) {
     let after = same_list(case, MODELS);
     same_walks(case, START);
     same_walks(case, after);
+    same_pages(case, START);
+    same_pages(case, after);
     let (judged, _) = same_judge(&case.input, &case.assumptions);
     assert_eq!(judged, Ok((case.variables, case.clauses)), "{}", case.name);
     // A checkpoint that the walk never has is refused by both.
     let mut foreign = after;
     foreign[2] ^= 64;
     same_walks(case, foreign);
+    same_pages(case, foreign);
 }
 
 #[test]

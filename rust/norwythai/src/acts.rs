@@ -4,7 +4,7 @@ use crate::assignment::Assignment;
 use crate::assumption::Assumption;
 use crate::checkpoint::Checkpoint;
 use crate::ffi::{self, Results};
-use crate::limits::{FORMULA_BUFFER, MAX_CLAUSES, TEXT_BUFFER};
+use crate::limits::{FORMULA_BUFFER, MAX_CLAUSES, PAGE_LINES, TEXT_BUFFER};
 use crate::refusal::Refusal;
 use std::error::Error;
 use std::fmt;
@@ -296,6 +296,72 @@ pub fn list(
             answer,
         }),
         None => broken(results),
+    }
+}
+
+/// What a page call gives.
+#[must_use = "it says how many lines have a model"]
+#[derive(Clone, Copy, Debug, PartialEq, Eq)]
+pub struct Paged {
+    /// How many lines have a model, from the top: [`PAGE_LINES`], or all that were left if these are fewer.
+    pub lines: usize,
+}
+
+impl Paged {
+    /// Whether a line has no model, so that none is left. A page whose lines all have one may be the last, too: then the next one is
+    /// blank.
+    pub fn is_last(&self) -> bool {
+        self.lines < PAGE_LINES
+    }
+}
+
+/// Writes the next models of an accepted formula as a page for the notice board: [`PAGE_LINES`] lines of text in the first
+/// [`PAGE_SIZE`](crate::PAGE_SIZE) bytes of the slice, of which it must have that many. A line has the model's serial, a digit for each
+/// variable in 48 columns, and the steps from the line before to it, on the first line from the checkpoint; a blank stands between two
+/// of these, and a line feed at the end. Serials rise by one a line from the given one, which is 1 to [`MAX_SERIAL`](crate::MAX_SERIAL).
+/// Lines without a model are blank.
+///
+/// The checkpoint becomes the one to go on from, under the same assumptions, as after [`walk`] calls with a budget of 96. The bytes
+/// behind the page stay as they are; at a refusal all do, and the checkpoint, too.
+///
+/// ```
+/// use norwythai::{page, Checkpoint, Refusal, PAGE_SIZE};
+///
+/// let input = [1, 2, 2, 1, 2, 2, 4, 3, 1, 3, 2, 4, 5];
+/// let mut text = [0; PAGE_SIZE];
+/// let paged = page(&input, &[], &mut Checkpoint::start(), 9, &mut text)?;
+/// assert_eq!((paged.lines, paged.is_last()), (2, true));
+///
+/// let lines: Vec<&str> = std::str::from_utf8(&text)?.lines().collect();
+/// assert_eq!(lines[0], "     9 01                                                 2");
+/// assert_eq!(lines[1], "    10 10                                                 4");
+/// assert!(lines[2..].iter().all(|line| line.trim().is_empty()));
+///
+/// let refused = page(&input, &[], &mut Checkpoint::start(), 0, &mut text);
+/// assert_eq!(refused, Err(Refusal::BadSerial));
+/// # Ok::<(), Box<dyn std::error::Error>>(())
+/// ```
+pub fn page(
+    input: &[u8],
+    assumptions: &[Assumption],
+    checkpoint: &mut Checkpoint,
+    serial: u32,
+    page: &mut [u8],
+) -> Result<Paged, Refusal> {
+    let results = accept(ffi::page(
+        input,
+        assumptions,
+        checkpoint.bytes_mut(),
+        serial,
+        page,
+    ))?;
+    let paged = Paged {
+        lines: index(results, FIRST_COUNT),
+    };
+    match results[ANSWER] {
+        0 if paged.lines == PAGE_LINES => Ok(paged),
+        2 if paged.is_last() => Ok(paged),
+        _ => broken(results),
     }
 }
 

@@ -6,8 +6,8 @@
 use crate::assumption::Assumption;
 use crate::limits::CHECKPOINT_LENGTH;
 use crate::raw::{
-    norwythai_check, norwythai_from_dimacs, norwythai_judge, norwythai_list, norwythai_start,
-    norwythai_to_dimacs, norwythai_walk,
+    norwythai_check, norwythai_from_dimacs, norwythai_judge, norwythai_list, norwythai_page,
+    norwythai_start, norwythai_to_dimacs, norwythai_walk,
 };
 
 /// What every act but start writes, by its index: the answer, a model, a refusal's number and place, and two counts.
@@ -152,6 +152,36 @@ pub(crate) fn list(
             checkpoint.len(),
             models.as_mut_ptr(),
             models.len(),
+            results.as_mut_ptr(),
+            results.len(),
+        )
+    };
+    require(returned);
+    results
+}
+
+pub(crate) fn page(
+    input: &[u8],
+    assumptions: &[Assumption],
+    checkpoint: &mut [u8; CHECKPOINT_LENGTH],
+    serial: u32,
+    page: &mut [u8],
+) -> Results {
+    let mut results = [0; RESULTS_LENGTH];
+    let (assumptions, assumptions_length) = bytes_of(assumptions);
+    // SAFETY: `input` and `assumptions` may be read, `checkpoint`, `page` and `results` read and written for the lengths given, and
+    // no two of them overlap.
+    let returned = unsafe {
+        norwythai_page(
+            input.as_ptr(),
+            input.len(),
+            assumptions,
+            assumptions_length,
+            checkpoint.as_mut_ptr(),
+            checkpoint.len(),
+            serial,
+            page.as_mut_ptr(),
+            page.len(),
             results.as_mut_ptr(),
             results.len(),
         )

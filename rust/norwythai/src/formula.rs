@@ -1,7 +1,8 @@
 //! Encoded formulas.
 
 use crate::acts::{
-    check, from_dimacs, judge, list, to_dimacs, walk, JudgeError, Listed, Matching, Walked,
+    check, from_dimacs, judge, list, page, to_dimacs, walk, JudgeError, Listed, Matching, Paged,
+    Walked,
 };
 use crate::assignment::Assignment;
 use crate::assumption::Assumption;
@@ -79,6 +80,17 @@ impl Formula<'_> {
         models: &mut [u64],
     ) -> Result<Listed, Refusal> {
         list(&self.0, assumptions, checkpoint, models)
+    }
+
+    /// See [`page`].
+    pub fn page(
+        &self,
+        assumptions: &[Assumption],
+        checkpoint: &mut Checkpoint,
+        serial: u32,
+        lent: &mut [u8],
+    ) -> Result<Paged, Refusal> {
+        page(&self.0, assumptions, checkpoint, serial, lent)
     }
 
     /// See [`to_dimacs`].

@@ -6,11 +6,11 @@
 //! matched, or if what stripping leaves of it is: so it may have more clauses than variables.
 //!
 //! The library reads an encoded formula, says whether an assignment is a model ([`check`]) and whether the formula is accepted
-//! ([`judge`]), and lists all models of an accepted formula ([`walk`], [`list`], [`Models`]), each exactly once. The listing can be
-//! stopped after any number of steps and goes on from a [`Checkpoint`], which is a line of text if need be. Where the values of some
-//! variables are known, matching, stripping and listing are of what remains under these [`Assumption`]s. DIMACS CNF text is read into an
-//! encoded formula and written from one ([`from_dimacs`], [`to_dimacs`]). Whatever the bytes are, an act answers: with a [`Refusal`], if
-//! it has to.
+//! ([`judge`]), and lists all models of an accepted formula ([`walk`], [`list`], [`Models`]), each exactly once; or it writes them as
+//! pages of text, to be pinned up ([`page`]). The listing can be stopped after any number of steps and goes on from a [`Checkpoint`],
+//! which is a line of text if need be. Where the values of some variables are known, matching, stripping and listing are of what remains
+//! under these [`Assumption`]s. DIMACS CNF text is read into an encoded formula and written from one ([`from_dimacs`], [`to_dimacs`]).
+//! Whatever the bytes are, an act answers: with a [`Refusal`], if it has to.
 //!
 //! Clubs call these things sheets (formulas), rules (clauses), switches (variables), set-ups (assignments), fixed settings
 //! (assumptions) and markers (checkpoints); the sentences of refusals do, too.
@@ -62,14 +62,17 @@ pub mod raw;
 mod refusal;
 
 pub use acts::{
-    check, from_dimacs, from_dimacs_into, judge, judge_into, list, to_dimacs, to_dimacs_into, walk,
-    Answer, JudgeError, Listed, Matching, Size, Walked,
+    check, from_dimacs, from_dimacs_into, judge, judge_into, list, page, to_dimacs, to_dimacs_into,
+    walk, Answer, JudgeError, Listed, Matching, Paged, Size, Walked,
 };
 pub use assignment::{Assignment, Digits};
 pub use assumption::Assumption;
 pub use builder::{BuildError, FormulaBuilder, Literal};
 pub use checkpoint::{Checkpoint, ParseCheckpointError};
 pub use formula::Formula;
-pub use limits::{DROPPED, FORMULA_BUFFER, MAX_CLAUSES, MAX_VARIABLES, TEXT_BUFFER};
+pub use limits::{
+    DROPPED, FORMULA_BUFFER, LINE_SIZE, MAX_CLAUSES, MAX_SERIAL, MAX_VARIABLES, PAGE_LINES,
+    PAGE_SIZE, TEXT_BUFFER,
+};
 pub use models::Models;
 pub use refusal::Refusal;

@@ -12,6 +12,18 @@ pub const DROPPED: u8 = 128;
 /// The bytes of a checkpoint: its mode, its length, and one for each variable.
 pub(crate) const CHECKPOINT_LENGTH: usize = 2 + MAX_VARIABLES as usize;
 
+/// The lines of a page.
+pub const PAGE_LINES: usize = 50;
+
+/// The bytes of a line of a page, its line feed among them.
+pub const LINE_SIZE: usize = 60;
+
+/// The bytes of a page, 3,000, and the fewest that may be lent for one.
+pub const PAGE_SIZE: usize = PAGE_LINES * LINE_SIZE;
+
+/// The highest serial of a page's first line: the last line's is then 999,999.
+pub const MAX_SERIAL: u32 = 999_950;
+
 /// The bytes that a buffer for an encoded formula must have, 9,315: the most that one has without repeats.
 pub const FORMULA_BUFFER: usize = 3 + MAX_CLAUSES * (2 * MAX_VARIABLES as usize + 1);
 

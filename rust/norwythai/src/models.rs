@@ -51,15 +51,15 @@ const MOST_AT_ONCE: usize = 256;
 pub struct Models<'a> {
     input: &'a [u8],
     assumptions: Vec<Assumption>,
-    /// Where the page begins.
+    /// Where the batch begins.
     before: Checkpoint,
-    /// Where the page ends: at its last model, or with the walk.
+    /// Where the batch ends: at its last model, or with the walk.
     after: Checkpoint,
     /// The models listed last.
-    page: Vec<u64>,
+    batch: Vec<u64>,
     /// How many of them were given.
     given: usize,
-    /// Whether no page comes after this one.
+    /// Whether no batch comes after this one.
     last: bool,
 }
 
@@ -90,7 +90,7 @@ impl<'a> Models<'a> {
             assumptions: assumptions.to_vec(),
             before: checkpoint,
             after: checkpoint,
-            page: Vec::new(),
+            batch: Vec::new(),
             given: 0,
             last: false,
         }
@@ -98,29 +98,29 @@ impl<'a> Models<'a> {
 
     /// Where the walk stands after what was given so far: the end counts as given once `next` has said that nothing is left.
     pub fn checkpoint(&self) -> Checkpoint {
-        if self.given == self.page.len() && !(self.last && self.given > 0) {
+        if self.given == self.batch.len() && !(self.last && self.given > 0) {
             return self.after;
         }
-        // Within the page: go there again.
+        // Within the batch: go there again.
         let mut checkpoint = self.before;
         let mut models = vec![0; self.given];
         let listed = list(self.input, &self.assumptions, &mut checkpoint, &mut models);
-        let listed = listed.expect("this page was listed before");
+        let listed = listed.expect("this batch was listed before");
         debug_assert_eq!(listed.written, self.given);
         checkpoint
     }
 
-    /// Lists the next page: first one model, so that it comes soon, and then twice as many each time.
-    fn turn(&mut self) -> Result<(), Refusal> {
-        let wanted = (2 * self.page.len()).clamp(1, MOST_AT_ONCE);
+    /// Lists the next batch: first one model, so that it comes soon, and then twice as many each time.
+    fn refill(&mut self) -> Result<(), Refusal> {
+        let wanted = (2 * self.batch.len()).clamp(1, MOST_AT_ONCE);
         self.before = self.after;
         self.given = 0;
         self.last = true;
-        self.page.clear();
-        let mut page = vec![0; wanted];
-        let listed = list(self.input, &self.assumptions, &mut self.after, &mut page)?;
-        page.truncate(listed.written);
-        self.page = page;
+        self.batch.clear();
+        let mut batch = vec![0; wanted];
+        let listed = list(self.input, &self.assumptions, &mut self.after, &mut batch)?;
+        batch.truncate(listed.written);
+        self.batch = batch;
         self.last = listed.answer == Answer::Ended;
         Ok(())
     }
@@ -130,14 +130,14 @@ impl Iterator for Models<'_> {
     type Item = Result<Assignment, Refusal>;
 
     fn next(&mut self) -> Option<Self::Item> {
-        if self.given == self.page.len() && !self.last {
-            if let Err(refusal) = self.turn() {
+        if self.given == self.batch.len() && !self.last {
+            if let Err(refusal) = self.refill() {
                 return Some(Err(refusal));
             }
         }
-        let Some(model) = self.page.get(self.given) else {
-            // The end is given: the page is done with.
-            self.page.clear();
+        let Some(model) = self.batch.get(self.given) else {
+            // The end is given: the batch is done with.
+            self.batch.clear();
             self.given = 0;
             return None;
         };

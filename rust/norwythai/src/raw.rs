@@ -2,8 +2,8 @@
 //!
 //! Each returns 0 if it has written its results (start: the checkpoint), and 1 if the results are not 6 numbers, the checkpoint is
 //! not 50 bytes or the assumptions are an odd number of bytes: then no byte of any buffer has changed. A refusal is an answer: the
-//! function returns 0. The results are the answer (0 model, yes, accepted or written; 1 spent or no; 2 ended; 3 refused), a model, the
-//! refusal's number and place, and two counts; include/norwythai.h has them all. Assumptions are two bytes each: the variable, and 0
+//! function returns 0. The results are the answer (0 model, yes, accepted, full or written; 1 spent or no; 2 ended; 3 refused), a model,
+//! the refusal's number and place, and two counts; include/norwythai.h has them all. Assumptions are two bytes each: the variable, and 0
 //! for false or any other byte for true.
 //!
 //! # Safety
@@ -70,6 +70,23 @@ extern "C" {
         checkpoint_length: usize,
         models: *mut u64,
         models_length: usize,
+        results: *mut u64,
+        results_length: usize,
+    ) -> u32;
+
+    /// [`page`](crate::page): reads the input, the assumptions, the checkpoint and the first serial; writes the checkpoint, the page and
+    /// the results.
+    #[must_use = "1 says that nothing was written"]
+    pub fn norwythai_page(
+        input: *const u8,
+        input_length: usize,
+        assumptions: *const u8,
+        assumptions_length: usize,
+        checkpoint: *mut u8,
+        checkpoint_length: usize,
+        serial: u32,
+        page: *mut u8,
+        page_length: usize,
         results: *mut u64,
         results_length: usize,
     ) -> u32;

@@ -1,13 +1,14 @@
 //! Refusals.
 
+use crate::limits::{LINE_SIZE, MAX_SERIAL, PAGE_LINES, PAGE_SIZE};
 use std::error::Error;
 use std::fmt;
 
-/// Why an act is refused. Each case has a number, 1 to 16, and a place.
+/// Why an act is refused. Each case has a number, 1 to 18, and a place.
 ///
 /// A place is an offset, counted from 0, in the encoded formula or in the DIMACS text that the act was given, where the case says
-/// nothing else. The sentences that a refusal displays speak of sheets, rules, switches, set-ups, markers and fixed
-/// settings, as clubs do.
+/// nothing else. The sentences that a refusal displays speak of sheets, rules, switches, set-ups, markers, fixed
+/// settings and pages, as clubs do.
 ///
 /// ```
 /// use norwythai::{check, Assignment, Refusal};
@@ -95,6 +96,10 @@ pub enum Refusal {
         /// The index of the first such assumption, counted from 0, which is the refusal's place.
         index: usize,
     },
+    /// 17: the lent page has fewer than [`PAGE_SIZE`] bytes. It is tested before all else.
+    ShortPage,
+    /// 18: the serial of a page's first line is 0 or above [`MAX_SERIAL`]. It is tested before the formula is read.
+    BadSerial,
 }
 
 impl Refusal {
@@ -117,11 +122,13 @@ impl Refusal {
             (14, place) => Refusal::BadWord { place },
             (15, place) => Refusal::ClauseCountDiffers { place },
             (16, index) => Refusal::BadAssumption { index },
+            (17, 0) => Refusal::ShortPage,
+            (18, 0) => Refusal::BadSerial,
             _ => return None,
         })
     }
 
-    /// Its number, 1 to 16.
+    /// Its number, 1 to 18.
     pub fn number(&self) -> u8 {
         match self {
             Refusal::ShortBuffer => 1,
@@ -140,6 +147,8 @@ impl Refusal {
             Refusal::BadWord { .. } => 14,
             Refusal::ClauseCountDiffers { .. } => 15,
             Refusal::BadAssumption { .. } => 16,
+            Refusal::ShortPage => 17,
+            Refusal::BadSerial => 18,
         }
     }
 
@@ -160,7 +169,10 @@ impl Refusal {
             | Refusal::ClauseCountDiffers { place } => place,
             Refusal::Unmatched { clauses } => clauses,
             Refusal::BadAssumption { index } => index,
-            Refusal::ShortBuffer | Refusal::ForeignCheckpoint => 0,
+            Refusal::ShortBuffer
+            | Refusal::ForeignCheckpoint
+            | Refusal::ShortPage
+            | Refusal::BadSerial => 0,
         }
     }
 }
@@ -234,6 +246,13 @@ impl fmt::Display for Refusal {
                 f,
                 "fixed setting {index} (counted from 0) is of a switch that the kit doesn't have, or that is fixed before it"
             ),
+            Refusal::ShortPage => write!(
+                f,
+                "the page is too short: {PAGE_LINES} lines of {LINE_SIZE} bytes take {PAGE_SIZE}"
+            ),
+            Refusal::BadSerial => {
+                write!(f, "the first serial of the page is not 1 to {MAX_SERIAL}")
+            }
         }
     }
 }

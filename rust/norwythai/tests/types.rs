@@ -3,7 +3,7 @@
 use norwythai::{
     check, from_dimacs, judge, to_dimacs, Answer, Assignment, Assumption, BuildError, Checkpoint,
     Formula, FormulaBuilder, JudgeError, Literal, ParseCheckpointError, Refusal, FORMULA_BUFFER,
-    TEXT_BUFFER,
+    PAGE_SIZE, TEXT_BUFFER,
 };
 
 #[test]
@@ -52,8 +52,9 @@ fn other_texts_are_no_checkpoints() {
 #[test]
 fn refusals_have_numbers_places_and_sentences() {
     let mut sentences = Vec::new();
-    for number in 1..=16 {
-        let place = if matches!(number, 1 | 11) { 0 } else { 31 };
+    for number in 1..=18 {
+        let at_zero = matches!(number, 1 | 11 | 17 | 18);
+        let place = if at_zero { 0 } else { 31 };
         let refusal = Refusal::from_parts(number, place).unwrap();
         assert_eq!(
             (u64::from(refusal.number()), refusal.place()),
@@ -67,9 +68,10 @@ fn refusals_have_numbers_places_and_sentences() {
         sentences.push(sentence);
     }
     assert_eq!(Refusal::from_parts(0, 0), None);
-    assert_eq!(Refusal::from_parts(17, 0), None);
-    assert_eq!(Refusal::from_parts(1, 1), None);
-    assert_eq!(Refusal::from_parts(11, 1), None);
+    assert_eq!(Refusal::from_parts(19, 0), None);
+    for number in [1, 11, 17, 18] {
+        assert_eq!(Refusal::from_parts(number, 1), None);
+    }
 }
 
 #[test]
@@ -122,6 +124,10 @@ fn every_act_of_a_formula_takes_assumptions() {
     let listed = formula.list(&off, &mut from, &mut models).unwrap();
     assert_eq!((listed.answer, listed.written), (Answer::Ended, 1));
     assert_eq!(models, [0b110, 0]);
+    let mut page = [0; PAGE_SIZE];
+    let mut from = Checkpoint::start();
+    let paged = formula.page(&off, &mut from, 1, &mut page).unwrap();
+    assert_eq!((paged.lines, &page[6..11]), (1, &b" 011 "[..]));
 
     assert!(formula.models_under(&off).eq([Ok(only)]));
     assert_eq!(formula.models_under_from(&off, checkpoint).count(), 0);
@@ -145,6 +151,9 @@ fn a_bad_assumption_has_its_index() {
         let mut checkpoint = Checkpoint::from_bytes([9; 50]);
         assert_eq!(formula.walk(&list, &mut checkpoint, 1), Err(refusal));
         assert_eq!(formula.list(&list, &mut checkpoint, &mut []), Err(refusal));
+        let mut page = [9; PAGE_SIZE];
+        let paged = formula.page(&list, &mut checkpoint, 1, &mut page);
+        assert_eq!((paged, page), (Err(refusal), [9; PAGE_SIZE]));
         assert_eq!(checkpoint.as_bytes(), &[9; 50]);
         assert_eq!(
             refusal.to_string(),

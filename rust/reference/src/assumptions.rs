@@ -1,4 +1,4 @@
-//! Assumptions (request: fixed settings): values that some variables have before judge, walk or list begins.
+//! Assumptions (request: fixed settings): values that some variables have before judge, walk, list or page begins.
 
 use crate::bits::bit;
 use crate::formula::{Clause, Formula, Refusal};

@@ -11,7 +11,7 @@ pub const MAX_CLAUSES: usize = 96;
 /// A refusal: its number and place in the table of S3.1.
 #[derive(Clone, Copy, Debug, PartialEq, Eq)]
 pub struct Refusal {
-    /// 1 to 16.
+    /// 1 to 18.
     pub number: u8,
     /// An offset in the input or the text, at 10 the number of the violator's clauses, or at 16 the index of the assumption.
     pub place: usize,

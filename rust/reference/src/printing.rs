@@ -31,7 +31,7 @@ fn print_models(input: &[u8]) -> Result<String, Refusal> {
             expansions,
         } = walker.advance(LIST_BUDGET);
         let first_word = match answer {
-            Answer::Model(model) => digits(model, variables),
+            Answer::Model(model) => digits(model, variables).collect(),
             _ => "end".to_string(),
         };
         writeln!(text, "{first_word} {steps} {expansions}").expect("writing to a string");
@@ -44,8 +44,6 @@ fn print_models(input: &[u8]) -> Result<String, Refusal> {
 }
 
 /// A digit for each variable, the first one first.
-fn digits(model: u64, variables: usize) -> String {
-    (0..variables)
-        .map(|v| if model >> v & 1 == 1 { '1' } else { '0' })
-        .collect()
+pub(crate) fn digits(model: u64, variables: usize) -> impl Iterator<Item = char> {
+    (0..variables).map(move |v| if model >> v & 1 == 1 { '1' } else { '0' })
 }

@@ -1,4 +1,4 @@
-//! What calls get beside the input: assignments, budgets, buffers, and checkpoints that a walk may or may not have.
+//! What calls get beside the input: assignments, budgets, buffers, serials, and checkpoints that a walk may or may not have.
 
 use crate::random::Random;
 
@@ -39,6 +39,19 @@ pub fn some_length(random: &mut Random, least: usize) -> usize {
         1 => random.below(least),
         2 => least + random.between(1, 100),
         _ => least,
+    }
+}
+
+/// The serial of a page's first line: at a limit or past it, near to one that has a digit more, or any other.
+pub fn some_serial(random: &mut Random) -> u32 {
+    match random.below(24) {
+        0 => 0,
+        1 => random.pick(&[999_951, 1_000_000, u32::MAX]),
+        2 => random.bits() as u32,
+        3..=5 => random.pick(&[999_949, 999_950]),
+        6..=11 => random.pick(&[100, 1_000, 10_000, 100_000]) - random.between(1, 50) as u32,
+        12..=17 => random.between(1, 999_950) as u32,
+        _ => 1,
     }
 }
 

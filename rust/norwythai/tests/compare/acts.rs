@@ -2,8 +2,8 @@
 
 use crate::assumed::Assumed;
 use crate::raw;
-use crate::tally::{Conversions, Tally};
-use norwythai::{Answer, Checkpoint, JudgeError, Refusal};
+use crate::tally::{Outcomes, Tally};
+use norwythai::{Answer, Checkpoint, JudgeError, Refusal, PAGE_SIZE};
 use norwythai_reference as reference;
 use norwythai_samples::{some_budget, some_length, Random};
 
@@ -293,6 +293,66 @@ pub fn compare_list(
     }
 }
 
+/// A page call, with the lent page as it is before.
+pub struct PageCall<'a> {
+    pub input: &'a [u8],
+    pub assumed: &'a Assumed,
+    pub given: reference::Checkpoint,
+    pub serial: u32,
+    pub before: Vec<u8>,
+}
+
+/// Compares a page call, and gives the checkpoint that it returns if it is not refused.
+pub fn compare_page(tally: &mut Tally, call: &PageCall) -> Option<reference::Checkpoint> {
+    let PageCall {
+        input,
+        assumed,
+        given,
+        serial,
+        ref before,
+    } = *call;
+    let context = || {
+        let (assumed, length) = (&assumed.bytes, before.len());
+        format!("{input:02x?} {assumed:?} {given:02x?} {serial} {length}")
+    };
+    let mut expected_page = before.clone();
+    let list = &assumed.reference;
+    let expected = reference::page(input, list, &given, serial, &mut expected_page);
+    let returned = expected.map_or(given, |paged| paged.checkpoint);
+
+    let mut checkpoint = Checkpoint::from_bytes(given);
+    let mut page = before.clone();
+    let found = norwythai::page(input, &assumed.list, &mut checkpoint, serial, &mut page);
+    assert_eq!(
+        found.map(|paged| paged.lines),
+        expected.map(|paged| paged.lines).map_err(refusal_of),
+        "{}",
+        context()
+    );
+    assert_eq!(page, expected_page, "{}", context());
+    assert_eq!(checkpoint.as_bytes(), &returned, "{}", context());
+
+    let mut bytes = given;
+    let mut page = before.clone();
+    let mut results = [UNWRITTEN; 6];
+    let list = &assumed.bytes;
+    assert_eq!(
+        raw::page(input, list, &mut bytes, serial, &mut page, &mut results),
+        0
+    );
+    assert_eq!(page, expected_page, "{}", context());
+    assert_eq!(bytes, returned, "{}", context());
+    let expected_results = match expected {
+        Ok(paged) if paged.lines == 50 => [0, 0, 0, 0, 50, 0],
+        Ok(paged) => [2, 0, 0, 0, paged.lines as u64, 0],
+        Err(refusal) => refused_results(refusal),
+    };
+    assert_eq!(results, expected_results, "{}", context());
+
+    tally.pages.called(call, expected);
+    expected.ok().map(|paged| paged.checkpoint)
+}
+
 pub fn compare_start(tally: &mut Tally, random: &mut Random) {
     let expected = reference::start_checkpoint();
     assert_eq!(Checkpoint::start().as_bytes(), &expected);
@@ -310,7 +370,7 @@ pub struct Conversion {
     pub owned: fn(&[u8]) -> Result<Vec<u8>, Refusal>,
     /// The bytes that the buffer must have.
     pub least: usize,
-    pub tally: fn(&mut Tally) -> &mut Conversions,
+    pub tally: fn(&mut Tally) -> &mut Outcomes,
 }
 
 pub const FROM_DIMACS: Conversion = Conversion {
@@ -399,7 +459,7 @@ fn reject_judge(input: &[u8], assumptions: &[u8], fill: u8, results_length: usiz
     assert_eq!(results, vec![UNWRITTEN; results_length]);
 }
 
-/// Walk and list likewise.
+/// Walk, list and page likewise.
 fn reject_walks(input: &[u8], assumptions: &[u8], given: &[u8], results_length: usize) {
     let mut checkpoint = given.to_vec();
     let mut results = vec![UNWRITTEN; results_length];
@@ -418,6 +478,19 @@ fn reject_walks(input: &[u8], assumptions: &[u8], given: &[u8], results_length: 
     assert_eq!((returned, &checkpoint[..]), (1, given));
     assert_eq!(results, vec![UNWRITTEN; results_length]);
     assert_eq!(models, [UNWRITTEN; 3]);
+
+    let mut page = [7; PAGE_SIZE];
+    let returned = raw::page(
+        input,
+        assumptions,
+        &mut checkpoint,
+        1,
+        &mut page,
+        &mut results,
+    );
+    assert_eq!((returned, &checkpoint[..]), (1, given));
+    assert_eq!(results, vec![UNWRITTEN; results_length]);
+    assert_eq!(page, [7; PAGE_SIZE]);
 }
 
 /// The C functions with arrays of wrong lengths: they return 1 and write nothing.
@@ -434,7 +507,7 @@ pub fn compare_wrong_lengths(tally: &mut Tally, random: &mut Random, input: &[u8
         reject_walks(input, &assumptions, &good, results_length);
         FROM_DIMACS.compare_wrong_length(b"p cnf 2 1\n1 0\n", fill, &unwritten);
         TO_DIMACS.compare_wrong_length(input, fill, &unwritten);
-        tally.wrong_lengths += 6;
+        tally.wrong_lengths += 7;
     }
     for checkpoint_length in [0, 1, 49, 51, 100, random.below(50)] {
         let given = vec![fill & 3; checkpoint_length];
@@ -442,13 +515,13 @@ pub fn compare_wrong_lengths(tally: &mut Tally, random: &mut Random, input: &[u8
         assert_eq!(raw::start(&mut checkpoint), 1);
         assert_eq!(checkpoint, given);
         reject_walks(input, &assumptions, &given, 6);
-        tally.wrong_lengths += 3;
+        tally.wrong_lengths += 4;
     }
     // An assumption without its value, behind good or bad ones.
     for odd in [&assumptions[..], &[], &[1, 1], &[0; 100]] {
         let odd = [odd, &[random.below(3) as u8]].concat();
         reject_judge(input, &odd, fill, 6);
         reject_walks(input, &odd, &good, 6);
-        tally.odd_lengths += 3;
+        tally.odd_lengths += 4;
     }
 }

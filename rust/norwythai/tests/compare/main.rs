@@ -8,15 +8,16 @@ mod raw;
 mod tally;
 
 use acts::{
-    answer_of, compare_chain, compare_check, compare_judge, compare_list, compare_round_trip,
-    compare_start, compare_walk, compare_wrong_lengths, FROM_DIMACS, TO_DIMACS,
+    answer_of, compare_chain, compare_check, compare_judge, compare_list, compare_page,
+    compare_round_trip, compare_start, compare_walk, compare_wrong_lengths, PageCall, FROM_DIMACS,
+    TO_DIMACS,
 };
 use assumed::Assumed;
-use norwythai::{Answer, Assumption, Checkpoint, Models, Refusal};
+use norwythai::{Answer, Assumption, Checkpoint, Models, Refusal, LINE_SIZE, PAGE_SIZE};
 use norwythai_reference as reference;
 use norwythai_samples::{
     encode, longest_path, some_accepted_formula, some_assignment, some_budget, some_checkpoint,
-    some_input, some_text, Random,
+    some_input, some_length, some_serial, some_text, Random,
 };
 use tally::Tally;
 
@@ -30,7 +31,43 @@ fn is_accepted(input: &[u8]) -> bool {
     is_accepted_under(input, &[])
 }
 
-/// Judge, walk and list on one input under assumptions, with checkpoints of their own walk and, at times, those of a walk of another
+/// Pages one after the other from the start, under serials that go on past the highest, and then pages from any checkpoints, with any
+/// serials and lent pages of any lengths.
+fn compare_pages(
+    tally: &mut Tally,
+    random: &mut Random,
+    input: &[u8],
+    assumed: &Assumed,
+    pool: &mut Vec<reference::Checkpoint>,
+) {
+    let mut given = reference::start_checkpoint();
+    for serial in [999_900, 999_950, 1_000_000] {
+        let call = PageCall {
+            input,
+            assumed,
+            given,
+            serial,
+            before: vec![random.byte(); PAGE_SIZE + 5],
+        };
+        match compare_page(tally, &call) {
+            Some(next) => given = next,
+            None => break,
+        }
+        pool.push(given);
+    }
+    for _ in 0..3 {
+        let call = PageCall {
+            input,
+            assumed,
+            given: some_checkpoint(random, pool),
+            serial: some_serial(random),
+            before: vec![random.byte(); some_length(random, PAGE_SIZE)],
+        };
+        pool.extend(compare_page(tally, &call));
+    }
+}
+
+/// Judge, walk, list and page on one input under assumptions, with checkpoints of their own walk and, at times, those of a walk of another
 /// input or under another list.
 fn compare_assuming(
     tally: &mut Tally,
@@ -67,6 +104,7 @@ fn compare_assuming(
         let length = random.pick(&[0, 1, 2, 3, 10, 40]);
         pool.extend(compare_list(tally, input, assumed, &given, length));
     }
+    compare_pages(tally, random, input, assumed, &mut pool);
     pool
 }
 
@@ -175,16 +213,16 @@ fn list_and_models_give_exactly_all_models() {
         let assumed = some_accepted(&mut random, &input);
         let all = all_models(&input, &assumed);
 
-        let mut page = vec![0; 1 << input[1]];
-        let length = all.len() + random.below(page.len() - all.len() + 1);
+        let mut slice = vec![0; 1 << input[1]];
+        let length = all.len() + random.below(slice.len() - all.len() + 1);
         let mut checkpoint = Checkpoint::start();
-        let room = &mut page[..length];
+        let room = &mut slice[..length];
         let listed = norwythai::list(&input, &assumed.list, &mut checkpoint, room).unwrap();
         assert_eq!(listed.written, all.len(), "{input:02x?}");
-        let listing = page[..listed.written].to_vec();
-        page.truncate(listed.written);
-        page.sort();
-        assert_eq!(page, all, "{input:02x?}");
+        let listing = slice[..listed.written].to_vec();
+        slice.truncate(listed.written);
+        slice.sort();
+        assert_eq!(slice, all, "{input:02x?}");
 
         // The iterator, stopped now and then, kept as text and taken up again.
         let mut found = Vec::new();
@@ -212,6 +250,50 @@ fn list_and_models_give_exactly_all_models() {
     println!("{assuming} under assumptions, {full} with nothing left to assign, {stripped} accepted by stripping");
     assert!(models > 5_000 && resumed > 1_000);
     assert!(assuming > 200 && full > 50 && stripped > 50);
+}
+
+#[test]
+fn pages_have_all_models_under_rising_serials() {
+    let mut random = Random::new(4);
+    let (mut formulas, mut lines, mut last_blank) = (0, 0, 0);
+    while formulas < 300 {
+        let input = some_accepted_formula(&mut random, is_accepted);
+        let variables = input[1];
+        if !(4..=10).contains(&variables) {
+            continue;
+        }
+        let assumed = some_accepted(&mut random, &input);
+        let mut models = Models::under(&input, &assumed.list);
+        let mut checkpoint = Checkpoint::start();
+        let first = random.between(1, 990_000) as u32;
+        let mut serial = first;
+        loop {
+            let mut page = [0; PAGE_SIZE];
+            let paged =
+                norwythai::page(&input, &assumed.list, &mut checkpoint, serial, &mut page).unwrap();
+            for line in page.chunks(LINE_SIZE).take(paged.lines) {
+                let digits = models
+                    .next()
+                    .unwrap()
+                    .unwrap()
+                    .digits(variables)
+                    .to_string();
+                let start = format!("{serial:>6} {digits:<48} ");
+                assert!(line.starts_with(start.as_bytes()), "{input:02x?}");
+                serial += 1;
+            }
+            if paged.is_last() {
+                last_blank += usize::from(paged.lines == 0);
+                break;
+            }
+        }
+        assert_eq!(models.next(), None, "{input:02x?}");
+        assert_eq!(checkpoint, models.checkpoint());
+        formulas += 1;
+        lines += serial - first;
+    }
+    println!("{lines} lines, {last_blank} blank pages at the end");
+    assert!(lines > 5_000);
 }
 
 #[test]

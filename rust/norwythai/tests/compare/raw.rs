@@ -1,8 +1,8 @@
 //! The C functions themselves, called with arrays of any length. Each array stands between guards, which no call may change.
 
 use norwythai::raw::{
-    norwythai_check, norwythai_from_dimacs, norwythai_judge, norwythai_list, norwythai_start,
-    norwythai_to_dimacs, norwythai_walk,
+    norwythai_check, norwythai_from_dimacs, norwythai_judge, norwythai_list, norwythai_page,
+    norwythai_start, norwythai_to_dimacs, norwythai_walk,
 };
 use std::fmt::Debug;
 
@@ -155,7 +155,7 @@ pub fn list(
     models: &mut [u64],
     results: &mut [u64],
 ) -> u32 {
-    let (mut lent, mut page, mut written) = (bytes(checkpoint), numbers(models), numbers(results));
+    let (mut lent, mut slice, mut written) = (bytes(checkpoint), numbers(models), numbers(results));
     // SAFETY: the pointers are good for the lengths, and the arrays do not overlap.
     let returned = unsafe {
         norwythai_list(
@@ -165,14 +165,45 @@ pub fn list(
             assumptions.len(),
             lent.pointer(),
             lent.length(),
-            page.pointer(),
-            page.length(),
+            slice.pointer(),
+            slice.length(),
             written.pointer(),
             written.length(),
         )
     };
     lent.take(checkpoint);
-    page.take(models);
+    slice.take(models);
+    written.take(results);
+    returned
+}
+
+pub fn page(
+    input: &[u8],
+    assumptions: &[u8],
+    checkpoint: &mut [u8],
+    serial: u32,
+    page: &mut [u8],
+    results: &mut [u64],
+) -> u32 {
+    let (mut lent, mut lines, mut written) = (bytes(checkpoint), bytes(page), numbers(results));
+    // SAFETY: the pointers are good for the lengths, and the arrays do not overlap.
+    let returned = unsafe {
+        norwythai_page(
+            input.as_ptr(),
+            input.len(),
+            assumptions.as_ptr(),
+            assumptions.len(),
+            lent.pointer(),
+            lent.length(),
+            serial,
+            lines.pointer(),
+            lines.length(),
+            written.pointer(),
+            written.length(),
+        )
+    };
+    lent.take(checkpoint);
+    lines.take(page);
     written.take(results);
     returned
 }

@@ -205,6 +205,86 @@ static int test_all_assumed(void) {
     return 0;
 }
 
+/* No clauses over six variables: 64 models, of which 50 are on the first page. */
+static const uint8_t TWO_PAGES[] = {1, 6, 5};
+
+/* Whether a line has this serial, these digits and these steps. */
+static int is_line(const uint8_t *line, const char *serial, const char *digits, const char *steps) {
+    char expected[NORWYTHAI_LINE_SIZE];
+
+    memset(expected, ' ', sizeof expected);
+    memcpy(expected, serial, 6);
+    memcpy(expected + 7, digits, strlen(digits));
+    memcpy(expected + 56, steps, 3);
+    expected[NORWYTHAI_LINE_SIZE - 1] = '\n';
+    return memcmp(line, expected, sizeof expected) == 0;
+}
+
+static int test_page(void) {
+    static uint8_t page[NORWYTHAI_PAGE_SIZE + 5];
+    const uint8_t byte = 0;
+    uint8_t checkpoint[NORWYTHAI_CHECKPOINT];
+    uint64_t results[NORWYTHAI_RESULTS];
+    const uint8_t *last = page + NORWYTHAI_LINE_SIZE * (NORWYTHAI_PAGE_LINES - 1);
+    int line;
+
+    REQUIRE(NORWYTHAI_PAGE_SIZE == NORWYTHAI_PAGE_LINES * NORWYTHAI_LINE_SIZE);
+    REQUIRE(NORWYTHAI_MAX_SERIAL + NORWYTHAI_PAGE_LINES - 1 == 999999);
+    memset(page, 7, sizeof page);
+    REQUIRE(norwythai_start(checkpoint, sizeof checkpoint) == 0);
+    REQUIRE(norwythai_page(TWO_PAGES, sizeof TWO_PAGES, &byte, 0, checkpoint, sizeof checkpoint, 960, page, sizeof page, results,
+                           NORWYTHAI_RESULTS) == 0);
+    REQUIRE(results[0] == NORWYTHAI_FULL && results[1] == 0 && results[4] == NORWYTHAI_PAGE_LINES && results[5] == 0);
+    REQUIRE(is_line(page, "   960", "000000", "  6") && is_line(page + NORWYTHAI_LINE_SIZE, "   961", "000001", "  2"));
+    REQUIRE(is_line(last, "  1009", "110001", "  2") && page[NORWYTHAI_PAGE_SIZE] == 7);
+    REQUIRE(checkpoint[0] == 1 && checkpoint[1] == 6);
+    REQUIRE(norwythai_page(TWO_PAGES, sizeof TWO_PAGES, &byte, 0, checkpoint, sizeof checkpoint, 1010, page, sizeof page, results,
+                           NORWYTHAI_RESULTS) == 0);
+    REQUIRE(results[0] == NORWYTHAI_ENDED && results[4] == 14 && checkpoint[0] == 4);
+    REQUIRE(is_line(page, "  1010", "110010", "  4"));
+    for (line = 14; line < NORWYTHAI_PAGE_LINES; line++) {
+        REQUIRE(is_line(page + NORWYTHAI_LINE_SIZE * line, "      ", "", "   "));
+    }
+    REQUIRE(page[NORWYTHAI_PAGE_SIZE] == 7);
+
+    /* An assumed variable has its digit. */
+    REQUIRE(norwythai_start(checkpoint, sizeof checkpoint) == 0);
+    REQUIRE(norwythai_page(INPUT, sizeof INPUT, FIRST_TRUE, 2, checkpoint, sizeof checkpoint, NORWYTHAI_MAX_SERIAL, page,
+                           NORWYTHAI_PAGE_SIZE, results, NORWYTHAI_RESULTS) == 0);
+    REQUIRE(results[0] == NORWYTHAI_ENDED && results[4] == 1 && is_line(page, "999950", "10", "  1"));
+    return 0;
+}
+
+static int test_refused_page(void) {
+    static uint8_t page[NORWYTHAI_PAGE_SIZE];
+    const uint8_t byte = 0;
+    uint8_t checkpoint[NORWYTHAI_CHECKPOINT];
+    uint64_t results[NORWYTHAI_RESULTS];
+
+    memset(page, 7, sizeof page);
+    memset(checkpoint, 9, sizeof checkpoint);
+    /* An input of no bytes, a bad serial and a short page: what is tested first is the page, and then the serial. */
+    REQUIRE(norwythai_page(&byte, 0, &byte, 0, checkpoint, sizeof checkpoint, 0, page, NORWYTHAI_PAGE_SIZE - 1, results,
+                           NORWYTHAI_RESULTS) == 0);
+    REQUIRE(results[0] == NORWYTHAI_REFUSED && results[2] == 17 && results[3] == 0 && results[4] == 0);
+    REQUIRE(norwythai_page(&byte, 0, &byte, 0, checkpoint, sizeof checkpoint, 0, page, sizeof page, results, NORWYTHAI_RESULTS) == 0);
+    REQUIRE(results[0] == NORWYTHAI_REFUSED && results[2] == 18 && results[3] == 0 && results[4] == 0);
+    REQUIRE(norwythai_page(&byte, 0, &byte, 0, checkpoint, sizeof checkpoint, NORWYTHAI_MAX_SERIAL + 1, page, sizeof page, results,
+                           NORWYTHAI_RESULTS) == 0);
+    REQUIRE(results[0] == NORWYTHAI_REFUSED && results[2] == 18);
+    REQUIRE(norwythai_page(&byte, 0, &byte, 0, checkpoint, sizeof checkpoint, 1, page, sizeof page, results, NORWYTHAI_RESULTS) == 0);
+    REQUIRE(results[0] == NORWYTHAI_REFUSED && results[2] == 2 && results[3] == 0);
+    REQUIRE(norwythai_page(INPUT, sizeof INPUT, TWICE, 4, checkpoint, sizeof checkpoint, 1, page, sizeof page, results,
+                           NORWYTHAI_RESULTS) == 0);
+    REQUIRE(results[0] == NORWYTHAI_REFUSED && results[2] == 16 && results[3] == 1);
+    REQUIRE(norwythai_page(INPUT, sizeof INPUT, &byte, 0, checkpoint, sizeof checkpoint, 1, page, sizeof page, results,
+                           NORWYTHAI_RESULTS) == 0);
+    REQUIRE(results[0] == NORWYTHAI_REFUSED && results[2] == 11 && results[4] == 0);
+    REQUIRE(page[0] == 7 && memcmp(page, page + 1, sizeof page - 1) == 0);
+    REQUIRE(checkpoint[0] == 9 && memcmp(checkpoint, checkpoint + 1, sizeof checkpoint - 1) == 0);
+    return 0;
+}
+
 static int test_from_dimacs(void) {
     static const char TEXT[] = "c one of two\np cnf 2 2\n1 2\nc and again\n1 0\n-1 -2 0";
     static uint8_t buffer[NORWYTHAI_FORMULA_BUFFER + 1];
@@ -253,6 +333,7 @@ static int test_to_dimacs(void) {
 
 /* A length in bytes is not that of the results, and assumptions have an even length. */
 static int test_lengths(void) {
+    static uint8_t page[NORWYTHAI_PAGE_SIZE];
     uint8_t buffer[NORWYTHAI_BUFFER], checkpoint[NORWYTHAI_CHECKPOINT];
     uint64_t models[1] = {7}, results[NORWYTHAI_RESULTS] = {7, 7, 7, 7, 7, 7};
     size_t odd;
@@ -266,14 +347,18 @@ static int test_lengths(void) {
         REQUIRE(norwythai_walk(INPUT, sizeof INPUT, TWICE, odd, checkpoint, sizeof checkpoint, 96, results, NORWYTHAI_RESULTS) == 1);
         REQUIRE(norwythai_list(INPUT, sizeof INPUT, TWICE, odd, checkpoint, sizeof checkpoint, models, 1, results,
                                NORWYTHAI_RESULTS) == 1);
+        REQUIRE(norwythai_page(INPUT, sizeof INPUT, TWICE, odd, checkpoint, sizeof checkpoint, 1, page, sizeof page, results,
+                               NORWYTHAI_RESULTS) == 1);
     }
+    REQUIRE(norwythai_page(INPUT, sizeof INPUT, TWICE, 0, checkpoint, 49, 1, page, sizeof page, results, NORWYTHAI_RESULTS) == 1);
+    REQUIRE(norwythai_page(INPUT, sizeof INPUT, TWICE, 0, checkpoint, sizeof checkpoint, 1, page, sizeof page, results, 5) == 1);
     REQUIRE(results[0] == 7 && results[5] == 7);
-    REQUIRE(buffer[0] == 7 && checkpoint[0] == 0 && models[0] == 7);
+    REQUIRE(buffer[0] == 7 && checkpoint[0] == 0 && models[0] == 7 && page[0] == 0);
     return 0;
 }
 
 int main(void) {
     return test_check() || test_judge() || test_judge_by_stripping() || test_judge_under_assumptions() || test_walk() ||
-           test_list() || test_list_by_stripping() || test_walk_under_assumptions() || test_all_assumed() ||
-           test_from_dimacs() || test_to_dimacs() || test_lengths();
+           test_list() || test_list_by_stripping() || test_walk_under_assumptions() || test_all_assumed() || test_page() ||
+           test_refused_page() || test_from_dimacs() || test_to_dimacs() || test_lengths();
 }

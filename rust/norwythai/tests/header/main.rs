@@ -100,46 +100,46 @@ fn an_ignored_result_brings_a_warning() {
         let text = String::from_utf8_lossy(&output.stderr);
         assert!(output.status.success(), "{compiler} {options:?}: {text}");
         let warnings = text.matches("warning: ignoring return value").count();
-        assert_eq!(warnings, 7, "{compiler} {options:?}: {text}");
+        assert_eq!(warnings, 8, "{compiler} {options:?}: {text}");
     }
 }
 
 #[test]
-fn the_example_lists_models_in_pages() {
-    let program = temporary("pages");
-    let source = repository("examples/c/pages.c");
+fn the_example_lists_models_in_batches() {
+    let program = temporary("batches");
+    let source = repository("examples/c/batches.c");
     compile("cc", &["-std=c99"], &source, &program);
-    let pages = |file: PathBuf, size: &str| run(Command::new(&program).arg(file).arg(size));
-    let output = pages(repository("examples/two_variables.bin"), "1");
+    let batches = |file: PathBuf, size: &str| run(Command::new(&program).arg(file).arg(size));
+    let output = batches(repository("examples/two_variables.bin"), "1");
     assert!(output.status.success());
-    assert_eq!(output.stdout, b"page 1\n01\npage 2\n10\n");
+    assert_eq!(output.stdout, b"batch 1\n01\nbatch 2\n10\n");
 
-    let output = pages(repository("examples/unmatched.bin"), "1");
+    let output = batches(repository("examples/unmatched.bin"), "1");
     assert!(!output.status.success());
-    assert_eq!(output.stderr, b"pages: refused 10 at 3\n");
+    assert_eq!(output.stderr, b"batches: refused 10 at 3\n");
 
     // A text, and one that ends within a clause.
     let [text, encoded] =
-        ["examples/velodrome.cnf", "examples/velodrome.bin"].map(|f| pages(repository(f), "1000"));
+        ["examples/velodrome.cnf", "examples/velodrome.bin"].map(|f| batches(repository(f), "1000"));
     assert!(text.status.success());
-    // a line for the page, and 546 models
+    // a line for the batch, and 546 models
     assert_eq!(String::from_utf8_lossy(&text.stdout).lines().count(), 547);
     assert_eq!(text.stdout, encoded.stdout);
     let file = temporary("input.cnf");
     std::fs::write(&file, "p cnf 2 1\n1 2").unwrap();
-    let output = pages(file, "2");
+    let output = batches(file, "2");
     assert!(!output.status.success());
-    assert_eq!(output.stderr, b"pages: refused 2 at 13\n");
+    assert_eq!(output.stderr, b"batches: refused 2 at 13\n");
 
     // An empty file, and one with the clause (1) in very many records.
     let file = temporary("input.bin");
     std::fs::write(&file, []).unwrap();
-    let output = pages(file.clone(), "2");
+    let output = batches(file.clone(), "2");
     assert!(!output.status.success());
-    assert_eq!(output.stderr, b"pages: refused 2 at 0\n");
+    assert_eq!(output.stderr, b"batches: refused 2 at 0\n");
     let input = [&[1, 2][..], &[2, 1].repeat(50_000), &[4, 5]].concat();
     std::fs::write(&file, input).unwrap();
-    let output = pages(file, "2");
+    let output = batches(file, "2");
     assert!(output.status.success());
-    assert_eq!(output.stdout, b"page 1\n10\n11\n");
+    assert_eq!(output.stdout, b"batch 1\n10\n11\n");
 }

@@ -2,8 +2,9 @@
 
 use crate::values::{from_hex, number};
 use norwythai_reference::{
-    check, from_dimacs, judge, list, print, start_checkpoint, to_dimacs, walk, Answer, Assumption,
-    Checkpoint, Refusal, Walked, CHECKPOINT_LENGTH, LIST_BUDGET,
+    check, from_dimacs, judge, list, page, print, start_checkpoint, to_dimacs, walk, Answer,
+    Assumption, Checkpoint, Paged, Refusal, Walked, CHECKPOINT_LENGTH, LINE_SIZE, LIST_BUDGET,
+    PAGE_SIZE,
 };
 use std::collections::BTreeMap;
 
@@ -55,13 +56,20 @@ fn mask(text: &str) -> Result<u64, String> {
 }
 
 /// The items of an array without arrays in it; strings without their quotes.
-fn items<const COUNT: usize>(text: &str) -> Result<[&str; COUNT], String> {
+fn all_items(text: &str) -> Vec<&str> {
     let inside = text.trim_matches(['[', ']']);
-    let items: Vec<&str> = inside
+    if inside.is_empty() {
+        return Vec::new();
+    }
+    inside
         .split(',')
         .map(|item| item.trim().trim_matches('"'))
-        .collect();
-    items
+        .collect()
+}
+
+/// As many of them as there must be.
+fn items<const COUNT: usize>(text: &str) -> Result<[&str; COUNT], String> {
+    all_items(text)
         .try_into()
         .map_err(|_| format!("not {COUNT} items: {text}"))
 }
@@ -106,6 +114,13 @@ fn assumptions_of(line: &str) -> Result<Vec<Assumption>, String> {
     rows(line, "fixings")?.into_iter().map(assumption).collect()
 }
 
+/// A lent buffer as it is before the call, by the name of its fields.
+fn lent(line: &str, name: &str) -> Result<Vec<u8>, String> {
+    let length = number(field(line, &format!("{name}_len"))?)?;
+    let fill = number(field(line, &format!("{name}_fill"))?)?;
+    Ok(vec![fill; length])
+}
+
 fn compare<T: PartialEq + std::fmt::Debug>(what: &str, found: T, expected: T) -> Compared {
     if found == expected {
         Ok(())
@@ -131,9 +146,7 @@ fn compare_check(line: &str) -> Compared {
 
 fn compare_judge(line: &str) -> Compared {
     let input = hex_field(line, "sheet")?;
-    let length: usize = number(field(line, "slate_len")?)?;
-    let fill: u8 = number(field(line, "slate_fill")?)?;
-    let mut buffer = vec![fill; length];
+    let mut buffer = lent(line, "slate")?;
     let found = judge(&input, &assumptions_of(line)?, &mut buffer)
         .map(|size| (size.variables, size.clauses));
     let expected = match refusal_of(line)? {
@@ -270,9 +283,8 @@ fn compare_conversion(
     given: &str,
     convert: fn(&[u8], &mut [u8]) -> Result<usize, Refusal>,
 ) -> Compared {
-    let length: usize = number(field(line, "buffer_len")?)?;
-    let fill: u8 = number(field(line, "buffer_fill")?)?;
-    let mut buffer = vec![fill; length];
+    let before = lent(line, "buffer")?;
+    let mut buffer = before.clone();
     let found = convert(&hex_field(line, given)?, &mut buffer);
     let written: usize = number(field(line, "written")?)?;
     let output = hex_field(line, "output")?;
@@ -285,9 +297,59 @@ fn compare_conversion(
         None => Ok(written),
     };
     compare("answer", found, expected)?;
-    let mut expected_buffer = vec![fill; length];
+    let mut expected_buffer = before;
     expected_buffer[..written].copy_from_slice(&output);
     compare("buffer", buffer, expected_buffer)
+}
+
+/// The page after a call that is not refused: these lines and then blank ones, over the first bytes of those that were lent.
+fn page_of(lines: &[&str], before: &[u8]) -> Result<Vec<u8>, String> {
+    let mut page = String::new();
+    for line in lines {
+        compare("the length of a line", line.len(), LINE_SIZE - 1)?;
+        page += line;
+        page.push('\n');
+    }
+    while page.len() < PAGE_SIZE {
+        page += &" ".repeat(LINE_SIZE - 1);
+        page.push('\n');
+    }
+    let behind = before
+        .get(page.len()..)
+        .ok_or("a page has at most 50 lines, and room for them")?;
+    Ok([page.as_bytes(), behind].concat())
+}
+
+fn compare_page(line: &str) -> Compared {
+    let input = hex_field(line, "sheet")?;
+    let assumptions = assumptions_of(line)?;
+    let given = checkpoint_of(field(line, "marker")?)?;
+    let serial = number(field(line, "serial")?)?;
+    let before = lent(line, "page")?;
+    let mut after = before.clone();
+    let found = page(&input, &assumptions, &given, serial, &mut after);
+
+    let written = all_items(field(line, "page")?);
+    let expected = Paged {
+        lines: number(field(line, "lines")?)?,
+        checkpoint: checkpoint_of(field(line, "marker_out")?)?,
+    };
+    compare("the vector's own lines", written.len(), expected.lines)?;
+    match refusal_of(line)? {
+        Some(refusal) => {
+            let unfilled = Paged {
+                lines: 0,
+                checkpoint: given,
+            };
+            compare("the vector's own refusal", expected, unfilled)?;
+            compare("answer", found, Err(refusal))?;
+            compare("page", after, before)
+        }
+        None => {
+            compare("answer", found, Ok(expected))?;
+            compare("page", after, page_of(&written, &before)?)
+        }
+    }
 }
 
 /// Compares the reference with one vector.
@@ -302,6 +364,7 @@ pub fn compare_line(line: &str) -> Compared {
         "printed" => compare_printed(line),
         "read_text" => compare_conversion(line, "text", from_dimacs),
         "write_text" => compare_conversion(line, "sheet", to_dimacs),
+        "page" => compare_page(line),
         _ => Err("unknown act".to_string()),
     }
 }

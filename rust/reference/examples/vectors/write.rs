@@ -2,13 +2,13 @@
 
 use crate::values::to_hex;
 use norwythai_reference::{
-    check, decode, from_dimacs, judge, print, start_checkpoint, to_dimacs, walk, write_text,
-    Answer, Assumption, Checkpoint, Progress, Refusal, Walker, FORMULA_BUFFER, LIST_BUDGET,
-    TEXT_BUFFER,
+    check, decode, from_dimacs, judge, page, print, start_checkpoint, to_dimacs, walk, write_text,
+    Answer, Assumption, Checkpoint, Paged, Progress, Refusal, Walker, FORMULA_BUFFER, LINE_SIZE,
+    LIST_BUDGET, PAGE_LINES, PAGE_SIZE, TEXT_BUFFER,
 };
 use norwythai_samples::{
     some_assignment, some_assumptions, some_budget, some_checkpoint, some_input, some_length,
-    some_text, Random,
+    some_serial, some_text, Random,
 };
 
 /// A longer input or printed walk takes much of a file of the corpus. Such an input is given to fewer calls, and such a walk is
@@ -18,6 +18,10 @@ const ONE_LONG_OF: usize = 16;
 
 /// A listing of more models is not written.
 const MOST_LISTED: usize = 32;
+
+/// Pages take much of a file, too: so many of a hundred walks are written page after page, and at most so many pages of one.
+const IN_PAGES: usize = 4;
+const MOST_PAGES: u32 = 3;
 
 /// A line of an act, with the fields that follow.
 fn line(act: &str, from: &str, fields: &str) -> String {
@@ -178,6 +182,91 @@ fn listing_line(from: &str, input: &[u8], assumptions: &[Assumption]) -> Option<
     }
 }
 
+/// What a page call gets beside the formula: the checkpoint, the first serial, and the length and the fill of the lent page.
+struct PageRequest {
+    given: Checkpoint,
+    serial: u32,
+    length: usize,
+    fill: u8,
+}
+
+/// A page call: the line, and what the call gives.
+fn page_line(
+    from: &str,
+    input: &[u8],
+    assumptions: &[Assumption],
+    request: PageRequest,
+) -> (String, Result<Paged, Refusal>) {
+    let PageRequest {
+        given,
+        serial,
+        length,
+        fill,
+    } = request;
+    let mut lent = vec![fill; length];
+    let found = page(input, assumptions, &given, serial, &mut lent);
+    let (lines, returned) = found.map_or((0, given), |paged| (paged.lines, paged.checkpoint));
+    let written: Vec<String> = lent
+        .chunks(LINE_SIZE)
+        .take(lines)
+        .map(|line| format!("\"{}\"", String::from_utf8_lossy(&line[..LINE_SIZE - 1])))
+        .collect();
+    let fields = format!(
+        "{}, \"marker\": \"{}\", \"serial\": {serial}, \"page_len\": {length}, \"page_fill\": {fill}, \
+         \"refusal\": {}, \"marker_out\": \"{}\", \"lines\": {lines}, \"page\": [{}]",
+        given_text(input, assumptions),
+        to_hex(&given),
+        refusal_text(found.err()),
+        to_hex(&returned),
+        written.join(", "),
+    );
+    (line("page", from, &fields), found)
+}
+
+/// A page call from a checkpoint, with some serial and a lent page of some length.
+fn some_page_line(
+    from: &str,
+    random: &mut Random,
+    input: &[u8],
+    assumptions: &[Assumption],
+    given: Checkpoint,
+) -> String {
+    let request = PageRequest {
+        given,
+        serial: some_serial(random),
+        length: some_length(random, PAGE_SIZE),
+        fill: random.byte(),
+    };
+    page_line(from, input, assumptions, request).0
+}
+
+/// Pages one after the other from the start, with serials that go on, to the end or to a serial that is too high.
+fn page_lines(
+    from: &str,
+    random: &mut Random,
+    input: &[u8],
+    assumptions: &[Assumption],
+) -> Vec<String> {
+    let mut lines = Vec::new();
+    let mut given = start_checkpoint();
+    let first = random.pick(&[1, 9_951, 999_900]);
+    for pages in 0..MOST_PAGES {
+        let request = PageRequest {
+            given,
+            serial: first + pages * PAGE_LINES as u32,
+            length: PAGE_SIZE + random.below(6),
+            fill: random.byte(),
+        };
+        let (line, found) = page_line(from, input, assumptions, request);
+        lines.push(line);
+        match found {
+            Ok(paged) if paged.lines == PAGE_LINES => given = paged.checkpoint,
+            _ => break,
+        }
+    }
+    lines
+}
+
 fn printed_line(from: &str, input: &[u8], text: &str) -> String {
     let fields = format!(
         "\"stdin\": \"{}\", \"stdout\": \"{}\"",
@@ -238,8 +327,8 @@ fn is_accepted(input: &[u8]) -> bool {
     judge(input, &[], &mut [0; 96]).is_ok()
 }
 
-/// The vectors of one input under a list of assumptions. The walks are given checkpoints of their own chain and of those before it,
-/// which are made under another list; then they are known, too.
+/// The vectors of one input under a list of assumptions. The walks and the page are given checkpoints of their own chain and of
+/// those before it, which are made under another list; then they are known, too.
 fn assuming_lines(
     from: &str,
     random: &mut Random,
@@ -271,6 +360,15 @@ fn assuming_lines(
         };
         let budget = some_budget(random);
         lines.push(walk_line(from, input, assumptions, &given, budget));
+    }
+    let given = if random.percent(40) {
+        start_checkpoint()
+    } else {
+        some_checkpoint(random, known)
+    };
+    lines.push(some_page_line(from, random, input, assumptions, given));
+    if random.percent(IN_PAGES) {
+        lines.extend(page_lines(from, random, input, assumptions));
     }
     lines
 }
@@ -399,6 +497,79 @@ mod tests {
         );
     }
 
+    /// The lines that have all these words.
+    fn count_with(lines: &[String], words: &[&str]) -> usize {
+        let has_all = |line: &&String| words.iter().all(|word| line.contains(word));
+        lines.iter().filter(has_all).count()
+    }
+
+    /// A page call on the example from the start.
+    fn example_page(serial: u32, length: usize) -> String {
+        let request = PageRequest {
+            given: start_checkpoint(),
+            serial,
+            length,
+            fill: 9,
+        };
+        page_line("edge", EXAMPLE, &[], request).0
+    }
+
+    #[test]
+    fn lines_of_pages() {
+        let start = to_hex(&start_checkpoint());
+        let given = format!(
+            "{{\"act\": \"page\", \"from\": \"edge\", \"sheet\": \"01020201020204030103020405\", \"fixings\": [], \
+             \"marker\": \"{start}\""
+        );
+        let columns = " ".repeat(46);
+        assert_eq!(
+            example_page(9, 3_005),
+            format!(
+                "{given}, \"serial\": 9, \"page_len\": 3005, \"page_fill\": 9, \"refusal\": null, \
+                 \"marker_out\": \"04{}\", \"lines\": 2, \
+                 \"page\": [\"     9 01{columns}   2\", \"    10 10{columns}   4\"]}}",
+                &start[2..]
+            )
+        );
+        assert_eq!(
+            example_page(0, 3_000),
+            format!(
+                "{given}, \"serial\": 0, \"page_len\": 3000, \"page_fill\": 9, \"refusal\": [18, 0], \
+                 \"marker_out\": \"{start}\", \"lines\": 0, \"page\": []}}"
+            )
+        );
+    }
+
+    #[test]
+    fn pages_of_all_kinds_are_written() {
+        let lines = generated_vectors(1, 300);
+        let count = |words: &[&str]| count_with(&lines, words);
+        let page = "\"act\": \"page\"";
+        for refusal in [2, 10, 11, 16, 17, 18] {
+            let refusal = format!("\"refusal\": [{refusal}, ");
+            assert!(count(&[page, &refusal]) >= 5, "{refusal}");
+        }
+        let wanted = [
+            // full, and with fewer lines
+            "\"lines\": 50,",
+            "\"lines\": 1,",
+            // serials and lengths at their limits
+            "\"serial\": 0,",
+            "\"serial\": 999950,",
+            "\"serial\": 999951,",
+            "\"page_len\": 2999,",
+            "\"page_len\": 3005,",
+            // from within the walk, and the second page of one from the start
+            "\"marker\": \"02",
+            "\"serial\": 51,",
+        ];
+        for words in wanted {
+            assert!(count(&[page, words]) > 0, "{words}");
+        }
+        let blank = [page, "\"refusal\": null", "\"lines\": 0,"];
+        assert!(count(&blank) > 0);
+    }
+
     #[test]
     fn a_refused_walk_gives_its_checkpoint_back() {
         let mut foreign = start_checkpoint();
@@ -427,6 +598,7 @@ mod tests {
             "printed",
             "read_text",
             "write_text",
+            "page",
         ] {
             let start = format!("{{\"act\": \"{act}\"");
             assert!(lines.iter().any(|line| line.starts_with(&start)), "{act}");
@@ -436,10 +608,7 @@ mod tests {
     #[test]
     fn assumptions_of_all_kinds_are_written() {
         let lines = generated_vectors(1, 300);
-        let count = |words: &[&str]| {
-            let has_all = |line: &&String| words.iter().all(|word| line.contains(word));
-            lines.iter().filter(has_all).count()
-        };
+        let count = |words: &[&str]| count_with(&lines, words);
         for act in ["judge", "walk"].map(|act| format!("\"act\": \"{act}\"")) {
             for refusal in ["[7, ", "[10, ", "[16, 0]", "[16, 1]", "[16, 2]"] {
                 let refusal = format!("\"refusal\": {refusal}");
@@ -505,5 +674,29 @@ mod tests {
         assert_eq!(compare_line(&right), Ok(()));
         assert!(compare_line(&right.replace("010205", "010204")).is_err());
         assert!(compare_line(&right.replace("null", "[15, 8]")).is_err());
+    }
+
+    #[test]
+    fn a_wrong_page_is_found() {
+        let (filled, refused) = (example_page(9, 3_000), example_page(0, 3_000));
+        for right in [&filled, &refused] {
+            assert_eq!(compare_line(right), Ok(()));
+        }
+        for (right, part, wrong) in [
+            (&filled, "9 01", "9 10"),
+            (&filled, "    10", "    11"),
+            (&filled, "   4\"", "   2\""),
+            (&filled, "\"     9", "\"    9"),
+            (&filled, "\"lines\": 2", "\"lines\": 1"),
+            (&filled, "\"marker_out\": \"04", "\"marker_out\": \"01"),
+            (&filled, "\"page_len\": 3000", "\"page_len\": 2999"),
+            (&filled, "null", "[18, 0]"),
+            (&refused, "[18, 0]", "[17, 0]"),
+            (&refused, "[18, 0]", "null"),
+            (&refused, "\"marker_out\": \"00", "\"marker_out\": \"04"),
+        ] {
+            let line = right.replace(part, wrong);
+            assert!(line != *right && compare_line(&line).is_err(), "{line}");
+        }
     }
 }

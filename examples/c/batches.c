@@ -1,10 +1,10 @@
-/* pages FILE SIZE: prints the models of the formula in FILE, a digit for each variable, in pages of SIZE models. The file has DIMACS
+/* batches FILE SIZE: prints the models of the formula in FILE, a digit for each variable, in batches of SIZE models. The file has DIMACS
  * text if its name ends in .cnf, else the encoded formula.
  *
  * In this folder, once `rt staticlib capi` has built the library:
  *
- *     cc -std=c99 -o pages pages.c ../../target/staticlib/libcapi.a
- *     ./pages ../velodrome.cnf 10
+ *     cc -std=c99 -o batches batches.c ../../target/staticlib/libcapi.a
+ *     ./batches ../velodrome.cnf 10
  */
 #include <stdint.h>
 #include <stdio.h>
@@ -13,7 +13,7 @@
 
 #include "../../include/norwythai.h"
 
-enum { PAGE_MOST = 1000 };
+enum { BATCH_MOST = 1000 };
 
 /* What stands where in the results. */
 enum { ANSWER = 0, NUMBER = 2, PLACE = 3, VARIABLES = 4, WRITTEN = 4 };
@@ -22,12 +22,12 @@ enum { ANSWER = 0, NUMBER = 2, PLACE = 3, VARIABLES = 4, WRITTEN = 4 };
 static const uint8_t NOTHING[1] = {0};
 
 static int fail(const char *why) {
-    fprintf(stderr, "pages: %s\n", why);
+    fprintf(stderr, "batches: %s\n", why);
     return EXIT_FAILURE;
 }
 
 static int refused(const uint64_t *results) {
-    fprintf(stderr, "pages: refused %llu at %llu\n", (unsigned long long)results[NUMBER],
+    fprintf(stderr, "batches: refused %llu at %llu\n", (unsigned long long)results[NUMBER],
             (unsigned long long)results[PLACE]);
     return EXIT_FAILURE;
 }
@@ -69,9 +69,9 @@ static int print_assignment(uint64_t assignment, uint64_t variables) {
     return putchar('\n') == EOF;
 }
 
-/* Prints all models in pages of so many, and gives the program's status. */
-static int print_pages(const uint8_t *input, size_t length, size_t size) {
-    static uint64_t models[PAGE_MOST];
+/* Prints all models in batches of so many, and gives the program's status. */
+static int print_batches(const uint8_t *input, size_t length, size_t size) {
+    static uint64_t models[BATCH_MOST];
     uint8_t buffer[NORWYTHAI_BUFFER], checkpoint[NORWYTHAI_CHECKPOINT];
     uint64_t results[NORWYTHAI_RESULTS];
 
@@ -87,8 +87,8 @@ static int print_pages(const uint8_t *input, size_t length, size_t size) {
     if (norwythai_start(checkpoint, NORWYTHAI_CHECKPOINT) != 0) {
         return fail("an array has the wrong length");
     }
-    for (unsigned long page = 1;; page++) {
-        /* The checkpoint is all that goes from one page to the next: it may be kept, sent and brought back in between. */
+    for (unsigned long batch = 1;; batch++) {
+        /* The checkpoint is all that goes from one batch to the next: it may be kept, sent and brought back in between. */
         if (norwythai_list(input, length, NOTHING, 0, checkpoint, NORWYTHAI_CHECKPOINT, models, size, results,
                            NORWYTHAI_RESULTS) != 0) {
             return fail("an array has the wrong length");
@@ -96,7 +96,7 @@ static int print_pages(const uint8_t *input, size_t length, size_t size) {
         if (results[ANSWER] == NORWYTHAI_REFUSED) {
             return refused(results);
         }
-        if (results[WRITTEN] > 0 && printf("page %lu\n", page) < 0) {
+        if (results[WRITTEN] > 0 && printf("batch %lu\n", batch) < 0) {
             return fail("the output can't be written");
         }
         for (uint64_t i = 0; i < results[WRITTEN]; i++) {
@@ -112,7 +112,7 @@ static int print_pages(const uint8_t *input, size_t length, size_t size) {
 }
 
 /* The same of a DIMACS text. */
-static int print_text_pages(const uint8_t *text, size_t length, size_t size) {
+static int print_text_batches(const uint8_t *text, size_t length, size_t size) {
     static uint8_t formula[NORWYTHAI_FORMULA_BUFFER];
     uint64_t results[NORWYTHAI_RESULTS];
 
@@ -122,7 +122,7 @@ static int print_text_pages(const uint8_t *text, size_t length, size_t size) {
     if (results[ANSWER] != NORWYTHAI_WRITTEN) {
         return refused(results);
     }
-    return print_pages(formula, (size_t)results[WRITTEN], size);
+    return print_batches(formula, (size_t)results[WRITTEN], size);
 }
 
 static int ends_in(const char *name, const char *end) {
@@ -132,8 +132,8 @@ static int ends_in(const char *name, const char *end) {
 
 int main(int argc, char **argv) {
     long size = argc == 3 ? strtol(argv[2], NULL, 10) : 0;
-    if (size < 1 || size > PAGE_MOST) {
-        return fail("usage: pages FILE SIZE, with a size of 1 to 1000");
+    if (size < 1 || size > BATCH_MOST) {
+        return fail("usage: batches FILE SIZE, with a size of 1 to 1000");
     }
     size_t length;
     uint8_t *input = read_input(argv[1], &length);
@@ -141,7 +141,7 @@ int main(int argc, char **argv) {
         return fail("the file can't be read");
     }
     int is_text = ends_in(argv[1], ".cnf");
-    int status = is_text ? print_text_pages(input, length, (size_t)size) : print_pages(input, length, (size_t)size);
+    int status = is_text ? print_text_batches(input, length, (size_t)size) : print_batches(input, length, (size_t)size);
     free(input);
     return status;
 }
