@@ -119,8 +119,8 @@ fn the_example_lists_models_in_batches() {
     assert_eq!(output.stderr, b"batches: refused 10 at 3\n");
 
     // A text, and one that ends within a clause.
-    let [text, encoded] =
-        ["examples/velodrome.cnf", "examples/velodrome.bin"].map(|f| batches(repository(f), "1000"));
+    let [text, encoded] = ["examples/velodrome.cnf", "examples/velodrome.bin"]
+        .map(|f| batches(repository(f), "1000"));
     assert!(text.status.success());
     // a line for the batch, and 546 models
     assert_eq!(String::from_utf8_lossy(&text.stdout).lines().count(), 547);
