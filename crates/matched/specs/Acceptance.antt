@@ -1,5 +1,5 @@
--- S5.6, S17.2, S18: which inputs are accepted under which assumptions, told once for judge, walk, list and print: the reader (2 to 9), the
--- assumptions (16), then the matching of what remains and, only where that fails, of what stripping leaves of it (10).
+-- S5.6, S17.2, S18: which inputs are accepted under which assumptions, told once for judge, walk, list, page and print: the reader (2 to
+-- 9), the assumptions (16), then the matching of what remains and, only where that fails, of what stripping leaves of it (10).
 use Prim.Native.Nat.{ℕ, suc, _+_}
 use mathlib.Core.Bool.{cond}
 use mathlib.Core.List.{List, [], _∷_, map}

@@ -1,7 +1,7 @@
 // Which inputs are accepted, each with its matching or a violator, and the act judge (S5.6, S5.7, S17.2, S18).
 //
-// `accept` says what comes of an input (`acceptance`) to judge, walk, list and print, which have read it; judge writes it into a lent
-// buffer.
+// `accept` says what comes of an input (`acceptance`) to judge, walk, list, page and print, which have read it; judge writes it into a
+// lent buffer.
 ghost use mathlib.Core.List.{List};
 ghost use mathlib.Core.Path.{_≡_};
 ghost use Prim.Native.Nat.{ℕ, _+_, _<_, _≤_};

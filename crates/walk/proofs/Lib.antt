@@ -1,3 +1,4 @@
+pub mod BudgetLaws
 pub mod LocateLaws
 pub mod RestLaws
 pub mod PositionLaws

@@ -6,6 +6,7 @@ use native.Mathlib.Numerals.{add-one}
 use native.Mathlib.Omega.{arith}
 use lib.ListN.{length, take, drop, getD, set, take-append-drop, length-append, length-drop, drop-of-length-le}
 use lib.Seq.{length-take-le, take-suc, set-split, take-at, drop-append-add, drop-drop}
+use Rattle.lists.specs.Over.{over}
 use Rattle.lists.specs.Tabulated.{tabulated}
 use Rattle.lists.proofs.TabulatedLaws.{length-tabulated, tabulated-more}
 use Rattle.writing.specs.Placed.{placed, Room, Wrote}
@@ -38,6 +39,16 @@ module _ {A : Type 0} where
       ∙ drop-drop (length ys) (at + length xs) b
       ∙ ap (λ (k : ℕ). drop k b) o in
       rw (f, g) (simp append-assoc)
+
+  -- behind a list that is written over the beginning
+  pub placed-over : (xs ys b : List A) (k : ℕ) → length xs ≡ k → placed k ys (over xs b) ≡ over (xs ++ ys) b
+  placed-over xs ys b k h =
+      let o : (zs : List A) → over zs b ≡ placed 0 zs b = λ zs. (let z : length zs ≡ 0 + length zs = omega arith in ap (λ (j : ℕ). zs ++ drop j b) z) in
+      let z : k ≡ 0 + length xs = omega arith in
+      ap (placed k ys) (o xs)
+      ∙ ap (λ (j : ℕ). placed j ys (placed 0 xs b)) z
+      ∙ placed-placed 0 xs ys b (omega arith)
+      ∙ sym (o (xs ++ ys))
 
   -- no element
   pub placed-none : (at : ℕ) (b : List A) → b ≡ placed at [] b

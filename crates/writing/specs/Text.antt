@@ -1,4 +1,4 @@
--- Text as lists of ASCII bytes: numbers in decimal, the digits of a mask, lines of words.
+-- Text as lists of ASCII bytes: numbers in decimal, the digits of a mask, lines of words, blanks and words that are right-aligned.
 use Prim.Native.Nat.{ℕ, zero, suc, _+_, _-_, _/_, _%_}
 use mathlib.Core.Bool.{cond}
 use mathlib.Core.List.{List, [], _∷_, _++_}
@@ -43,7 +43,7 @@ line-of [] = line-feed ∷ []
 line-of (w ∷ []) = w ++ (line-feed ∷ [])
 line-of (w ∷ v ∷ ws) = w ++ (blank ∷ line-of (v ∷ ws))
 
--- so many blanks
+-- S19.1: so many blanks
 unfoldable pub blanks : ℕ → List ℕ
 blanks k = replicate k blank
 
