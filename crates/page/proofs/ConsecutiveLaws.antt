@@ -6,6 +6,7 @@ use native.Mathlib.Omega.{arith}
 use lib.ListN.{length, take, drop, getD, length-take, length-drop}
 use lib.Seq.{length-take-le, split-at}
 use Rattle.lists.specs.Every.{Every}
+use Rattle.lists.proofs.EveryLaws.{every-split}
 use Rattle.assumptions.specs.declared.Assumption.{Assumption}
 use Rattle.matched.specs.Acceptance.{acceptance}
 use Rattle.walk.specs.Task.{Task, Posed}
@@ -21,13 +22,8 @@ use Rattle.page.proofs.NextLaws.{checkpoint-zero, checkpoint-append}
 use Rattle.page.proofs.NextModelLaws.{nexts, one-unrefused, next-part}
 use Rattle.page.proofs.PageCallLaws.{filled-line, unrefused-filled}
 
--- what holds of an element whatever stands before and behind it holds of every element
-every-split : {A : Type 0} (P : A → Type 0) (l : List A) → ((ps qs : List A) (p : A) → l ≡ ps ++ (p ∷ qs) → P p) → Every P l
-every-split P [] h = tt
-every-split {A} P (x ∷ l) h = (h [] l x refl, every-split P l (λ ps qs p e. h (x ∷ ps) qs p (ap {B = List A} (λ r. x ∷ r) e)))
-
 -- one page for each buffer
-pages-length : (s : List ℕ) (us : List Assumption) (bs : List (List ℕ)) (c : Checkpoint) (serial : ℕ) → length (page-calls s us c serial bs) ≡ length bs
+pub pages-length : (s : List ℕ) (us : List Assumption) (bs : List (List ℕ)) (c : Checkpoint) (serial : ℕ) → length (page-calls s us c serial bs) ≡ length bs
 unfolding page-calls
 pages-length s us [] c serial = refl
 pages-length s us (b ∷ bs) c serial = ap suc (pages-length s us bs (page-call s us c serial b .checkpoint) (serial + page-lines))
@@ -77,12 +73,12 @@ module _ (s : List ℕ) (us : List Assumption) (T : Task) (P : Posed T) (walks :
       }
 
   -- every page stands behind those before it
-  pub page-behind : (bs : List (List ℕ)) (c : Checkpoint) (serial : ℕ) → Begins c serial (length bs) → Every (λ b. page-size ≤ length b) bs
+  page-among : (bs : List (List ℕ)) (c : Checkpoint) (serial : ℕ) → Begins c serial (length bs) → Every (λ b. page-size ≤ length b) bs
       → (ps qs : List PageCall) (p : PageCall) → page-calls s us c serial bs ≡ ps ++ (p ∷ qs) → Behind c serial (length bs) (length ps) p
   unfolding page-calls
-  page-behind [] c serial g room [] qs p e = let z : _≡_ {A = ℕ} 0 1 = cc in absurd (omega arith)
-  page-behind [] c serial g room (q ∷ ps) qs p e = let z : _≡_ {A = ℕ} 0 1 = cc in absurd (omega arith)
-  page-behind (b ∷ bs) c serial g room [] qs p e =
+  page-among [] c serial g room [] qs p e = let z : _≡_ {A = ℕ} 0 1 = cc in absurd (omega arith)
+  page-among [] c serial g room (q ∷ ps) qs p e = let z : _≡_ {A = ℕ} 0 1 = cc in absurd (omega arith)
+  page-among (b ∷ bs) c serial g room [] qs p e =
       let q : page-call s us c serial b ≡ p = cc in
       let z : serial + page-lines * 0 ≡ serial = omega arith in
       record {
@@ -93,23 +89,23 @@ module _ (s : List ℕ) (us : List Assumption) (T : Task) (P : Posed T) (walks :
             ∙ ap (λ (d : Checkpoint). filling-page s us d serial b) (sym (checkpoint-zero s us c))
             ∙ ap (λ (k : ℕ). filling-page s us (next-checkpoint s us c 0) k b) (sym z);
       }
-  page-behind (b ∷ bs) c serial g room (q ∷ ps) qs p e =
+  page-among (b ∷ bs) c serial g room (q ∷ ps) qs p e =
       behind-next c serial (length bs) (length ps) g b (room .0) p
-      (page-behind bs (page-call s us c serial b .checkpoint) (serial + page-lines) (begins-next c serial (length bs) g b (room .0)) (room .1) ps qs p (cc))
+      (page-among bs (page-call s us c serial b .checkpoint) (serial + page-lines) (begins-next c serial (length bs) g b (room .0)) (room .1) ps qs p (cc))
 
   module _ (bs : List (List ℕ)) (c : Checkpoint) (serial : ℕ) (g : Begins c serial (length bs)) (room : Every (λ b. page-size ≤ length b) bs) where
     -- no page is refused
     pub pages-written : Every (λ p. p .answer .number ≡ 0) (page-calls s us c serial bs)
     pages-written =
         every-split (λ p. p .answer .number ≡ 0) (page-calls s us c serial bs)
-        (λ ps qs p e. ap (λ (x : PageCall). x .answer .number) (page-behind bs c serial g room ps qs p e .filled))
+        (λ ps qs p e. ap (λ (x : PageCall). x .answer .number) (page-among bs c serial g room ps qs p e .filled))
 
     module _ (ps qs : List PageCall) (p : PageCall) (e : page-calls s us c serial bs ≡ ps ++ (p ∷ qs)) where
       -- the results of a page's calls, out of those of all
       part : take page-lines (drop (page-lines * length ps) (next-results s us c (page-lines * length bs)))
           ≡ next-results s us (next-checkpoint s us c (page-lines * length ps)) page-lines
       part =
-          let h = page-behind bs c serial g room ps qs p e .among in
+          let h = page-among bs c serial g room ps qs p e .among in
           next-part s us T P walks c (g .has) (page-lines * length ps) page-lines (page-lines * length bs) (omega arith)
 
       -- its lines are those of these results,
@@ -119,7 +115,7 @@ module _ (s : List ℕ) (us : List Assumption) (T : Task) (P : Posed T) (walks :
       behind-line i l =
           let n = accepted-variables (acceptance s us) in
           let j = page-lines * length ps in
-          let x = page-behind bs c serial g room ps qs p e in
+          let x = page-among bs c serial g room ps qs p e in
           ap (λ (q : PageCall). take line-size (drop (line-size * i) (q .page))) (x .filled)
           ∙ filled-line s us (next-checkpoint s us c j) (serial + j) (x .most) (x .before) i l
           ∙ ap (λ (rs : List Result). line-at n (serial + j) rs i) (sym part)
@@ -128,14 +124,14 @@ module _ (s : List ℕ) (us : List Assumption) (T : Task) (P : Posed T) (walks :
 
       -- so many are filled,
       pub behind-count : p .answer .lines ≡ length (take page-lines (drop (page-lines * length ps) (next-results s us c (page-lines * length bs))))
-      behind-count = ap (λ (q : PageCall). q .answer .lines) (page-behind bs c serial g room ps qs p e .filled) ∙ ap length (sym part)
+      behind-count = ap (λ (q : PageCall). q .answer .lines) (page-among bs c serial g room ps qs p e .filled) ∙ ap length (sym part)
 
       -- and its checkpoint is that behind them
       pub behind-checkpoint : p .checkpoint ≡ next-checkpoint s us c (page-lines * (length ps + 1))
       behind-checkpoint =
           let j = page-lines * length ps in
           let q : j + page-lines ≡ page-lines * (length ps + 1) = omega arith in
-          ap (λ (x : PageCall). x .checkpoint) (page-behind bs c serial g room ps qs p e .filled)
+          ap (λ (x : PageCall). x .checkpoint) (page-among bs c serial g room ps qs p e .filled)
           ∙ sym (checkpoint-append s us c j page-lines)
           ∙ ap (next-checkpoint s us c) q
 

@@ -3,12 +3,14 @@
 use Prim.Native.Nat.{ℕ, _+_, _*_, _-_, _≤_, _<_}
 use mathlib.Core.List.{List, [], _∷_, _++_, map}
 use mathlib.Core.Logic.{_⊎_, inr, _↔_}
-use mathlib.Core.Path.{_≡_, ap, _∙_}
+use mathlib.Core.Path.{_≡_, sym, ap, _∙_}
 use native.Mathlib.Omega.{arith}
-use lib.ListN.{length, getD, take, drop, length-map}
-use lib.Seq.{take-all}
+use lib.ListN.{length, getD, take, drop, length-append, length-take, length-map, take-append-drop}
+use lib.Seq.{take-all, getD-take}
 use Rattle.lists.specs.Over.{over}
+use Rattle.lists.specs.Distinct.{Distinct}
 use Rattle.lists.specs.Every.{Every}
+use Rattle.lists.proofs.DistinctLaws.{distinct-first}
 use Rattle.formula.specs.declared.Refusal.the-variants.{ShortPage, BadSerial}
 use Rattle.formula.specs.Format.{Literal, Encodes}
 use Rattle.assumptions.specs.declared.Assumption.{Assumption}
@@ -28,7 +30,7 @@ use Rattle.walk.proofs.TaskLaws.{answer-unrefused}
 use Rattle.walk.proofs.Demands as walk
 use Rattle.walk.proofs.Demands.{from-end}
 use Rattle.page.specs.PageLines.{page-lines, line-size, page-size, page-line, blank-line}
-use Rattle.page.specs.Pages.{ample-budgets, next-results, next-checkpoint, line-at, joined, filled-values, PageCall, unfilled, refusing-page, accepted-variables, max-serial, filling-page, page-call, page-calls}
+use Rattle.page.specs.Pages.{ample-budgets, next-results, next-checkpoint, line-at, joined, filled-values, PageCall, unfilled, refusing-page, accepted-variables, max-serial, line-of-page, filling-page, page-call, page-calls}
 use Rattle.page.proofs.LineAtLaws as lines
 use Rattle.page.proofs.NextModelLaws as nexts
 use Rattle.page.proofs.PageCallLaws as pages
@@ -45,21 +47,17 @@ pub line-none : (n serial : ℕ) (rs : List Result) (i : ℕ) → length rs ≤ 
 line-none = lines.line-none
 
 module _ (s : List ℕ) (us : List Assumption) (c : Checkpoint) (serial : ℕ) where
-  -- line i of a page
-  abbrev pub line : ℕ → List ℕ
-  line i = line-at (accepted-variables (acceptance s us)) serial (next-results s us c page-lines) i
-
   -- S19.1: every line has 60 bytes: a serial has at most 6 digits, and the steps at most 3
-  pub line-sixty : serial ≤ max-serial → (i : ℕ) → i < page-lines → length (line i) ≡ line-size
+  pub line-sixty : serial ≤ max-serial → (i : ℕ) → i < page-lines → length (line-of-page s us c serial i) ≡ line-size
   line-sixty = pages.lines-sixty s us c serial
 
   module _ (before : List ℕ) where
     -- a page that is not refused: line i stands in bytes 60 i to 60 i + 59, and the 50 lines are the first 3,000 bytes
     pub line-stands : page-call s us c serial before .answer .number ≡ 0 → (i : ℕ) → i < page-lines
-        → take line-size (drop (line-size * i) (page-call s us c serial before .page)) ≡ line i
+        → take line-size (drop (line-size * i) (page-call s us c serial before .page)) ≡ line-of-page s us c serial i
     line-stands h i l = let w = pages.numberless-filled s us c serial before h in rw (w .1) (pages.filled-line s us c serial (w .0) before i l)
 
-    pub lines-stand : page-call s us c serial before .answer .number ≡ 0 → take page-size (page-call s us c serial before .page) ≡ joined line page-lines
+    pub lines-stand : page-call s us c serial before .answer .number ≡ 0 → take page-size (page-call s us c serial before .page) ≡ joined (line-of-page s us c serial) page-lines
     lines-stand h = let w = pages.numberless-filled s us c serial before h in rw (w .1) (pages.filled-lines s us c serial (w .0) before)
 
     -- S19.4: whatever the answer, the bytes behind the page and its length stay
@@ -185,7 +183,7 @@ module _ (s : List ℕ) (us : List Assumption) (n : ℕ) (cs : List (List Litera
     pages-written = follow.pages-written s us task posed walks buffers start first begins room
 
     -- the page p behind the pages ps has 50 lines of the whole, those behind the 50 of each page before: so model i (from 0) has the serial
-    -- `first` + i, and is on no other line (`line-told`);
+    -- `first` + i (`pages-model`), and no model is on two lines: `pages-once`;
     pub pages-lines : (ps qs : List PageCall) (p : PageCall) → page-calls s us start first buffers ≡ ps ++ (p ∷ qs) → (i : ℕ) → i < page-lines
         → take line-size (drop (line-size * i) (p .page)) ≡ line-at n first all-results (page-lines * length ps + i)
     pages-lines ps qs p e i l =
@@ -201,6 +199,51 @@ module _ (s : List ℕ) (us : List Assumption) (n : ℕ) (cs : List (List Litera
     pub pages-checkpoint : (ps qs : List PageCall) (p : PageCall) → page-calls s us start first buffers ≡ ps ++ (p ∷ qs)
         → p .checkpoint ≡ next-checkpoint s us start (page-lines * (length ps + 1))
     pages-checkpoint = follow.behind-checkpoint s us task posed walks buffers start first begins room
+
+    -- There is one page for each buffer,
+    pub pages-number : length (page-calls s us start first buffers) ≡ length buffers
+    pages-number = follow.pages-length s us buffers start first
+
+    -- and no model is on two lines.
+    pub pages-once : Distinct (map (λ r. r .model) all-results)
+    pages-once =
+        let k = page-lines * length buffers in
+        let once : Distinct (take k (listing task) ++ drop k (listing task)) =
+        rw (take-append-drop k (listing task)) (walk.demand-3 s us n cs encodes good vs pairs [] .once) in
+        rw pages-models (distinct-first (take k (listing task)) (drop k (listing task)) once)
+
+    -- as many results come as models of the listing have a line
+    results-number : length all-results ≡ length (take (page-lines * length buffers) (listing task))
+    results-number = sym (length-map all-results (λ r. r .model)) ∙ ap length pages-models
+
+    -- line i of the page is one of the lines of all
+    line-among : (ps qs : List PageCall) (p : PageCall) → page-calls s us start first buffers ≡ ps ++ (p ∷ qs) → (i : ℕ) → i < page-lines
+        → page-lines * length ps + i < page-lines * length buffers
+    line-among ps qs p e i l = omega (arith, pages-number, ap length e, length-append ps (p ∷ qs))
+
+    -- line k of all
+    model-line : (k : ℕ) → k < page-lines * length buffers → k < length (listing task)
+        → line-at n first all-results k ≡ page-line (first + k) n (getD (listing task) k 0) (getD (map (λ r. r .steps) all-results) k 0)
+    model-line k j h =
+        line-told n first all-results k (omega (arith, results-number, length-take (page-lines * length buffers) (listing task)))
+        ∙ ap (λ (a : ℕ). page-line (first + k) n a (getD (map (λ r. r .steps) all-results) k 0))
+        (ap (λ (l : List ℕ). getD l k 0) pages-models ∙ getD-take (page-lines * length buffers) (listing task) k 0 j)
+
+    -- Model k of the listing, from 0, is on line k of all, with the serial `first` + k;
+    pub pages-model : (ps qs : List PageCall) (p : PageCall) → page-calls s us start first buffers ≡ ps ++ (p ∷ qs) → (i : ℕ) → i < page-lines
+        → page-lines * length ps + i < length (listing task)
+        → take line-size (drop (line-size * i) (p .page))
+        ≡ page-line (first + (page-lines * length ps + i)) n (getD (listing task) (page-lines * length ps + i) 0)
+        (getD (map (λ r. r .steps) all-results) (page-lines * length ps + i) 0)
+    pages-model ps qs p e i l h = pages-lines ps qs p e i l ∙ model-line (page-lines * length ps + i) (line-among ps qs p e i l) h
+
+    -- the lines behind the last model are blank.
+    pub pages-blank : (ps qs : List PageCall) (p : PageCall) → page-calls s us start first buffers ≡ ps ++ (p ∷ qs) → (i : ℕ) → i < page-lines
+        → length (listing task) ≤ page-lines * length ps + i → take line-size (drop (line-size * i) (p .page)) ≡ blank-line
+    pages-blank ps qs p e i l h =
+        let none : length all-results ≤ page-lines * length ps + i =
+        omega (arith, results-number, length-take (page-lines * length buffers) (listing task)) in
+        pages-lines ps qs p e i l ∙ line-none n first all-results (page-lines * length ps + i) none
 
     -- Behind the last serial that is not too high, the next page is refused by 18 and leaves everything; and the walk goes on under any other.
     module _ (other : ℕ) (b : List ℕ) (lent : page-size ≤ length b) where

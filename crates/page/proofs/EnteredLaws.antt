@@ -80,7 +80,7 @@ module _ (s : List ℕ) (us : List Assumption) (f : Formula) (z : Scope) (c : Ch
       a (runs-shown k (resume K ample-budget p .position) (a .fine) (a .stops))
 
   -- and from the checkpoint that was entered
-  pub runs-entered : (k : ℕ) → 0 < k → Runs s us (B .tree) c (position-in (r .state)) k
+  runs-entered : (k : ℕ) → 0 < k → Runs s us (B .tree) c (position-in (r .state)) k
   runs-entered zero l = absurd (omega arith)
   runs-entered (suc k) l =
       let K = B .tree in

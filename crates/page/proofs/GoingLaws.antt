@@ -25,12 +25,12 @@ use Rattle.page.proofs.LineAtLaws.{line-behind, line-none, line-length}
 use Rattle.page.proofs.RunLaws.{found-steps, found-most, run-model, run-found, run-stops, run-last}
 
 -- the lines of the models that runs from p find
-abbrev pub lines-from : Tree → ℕ → ℕ → Position → ℕ → List ℕ
+abbrev lines-from : Tree → ℕ → ℕ → Position → ℕ → List ℕ
 lines-from K n serial p = line-at n serial (found-from K page-lines p)
 
 -- each has 60 bytes
-pub lines-sixty : (K : Tree) (n serial : ℕ) (p : Position) → n ≤ max-variables → serial ≤ max-serial → Sixty (lines-from K n serial p)
-lines-sixty K n serial p most low i l = line-length n most serial (found-from K page-lines p) (found-steps K page-lines p) i (omega arith)
+found-sixty : (K : Tree) (n serial : ℕ) (p : Position) → n ≤ max-variables → serial ≤ max-serial → Sixty (lines-from K n serial p)
+found-sixty K n serial p most low i l = line-length n most serial (found-from K page-lines p) (found-steps K page-lines p) i (omega arith)
 
 -- i lines are written, those of the models found so far, and the others go on from s
 pub record Going (K : Tree) (n serial : ℕ) (p : Position) (before now : List ℕ) (s : State) (i : ℕ) : Type 0 where
@@ -80,7 +80,7 @@ module _ (K : Tree) (n serial : ℕ) (p : Position) (before now : List ℕ) (s :
             stops = g .stops ∙ ap (λ (k : ℕ). stopped-from K k (position-in s)) left ∙ run-stops K (position-in s) r R m e (page-lines - (i + 1));
             written =
                 w ∙ ap (λ (x : List ℕ). placed (line-size * i) x now) (sym line-more)
-                ∙ joined-next (lines-from K n serial p) (lines-sixty K n serial p most low) i before now l (g .written);
+                ∙ joined-next (lines-from K n serial p) (found-sixty K n serial p most low) i before now l (g .written);
           }
 
     -- the run brought no model
@@ -117,5 +117,5 @@ module _ (K : Tree) (n serial : ℕ) (p : Position) (before now : List ℕ) (t :
   pub filled-blanked : (now′ : List ℕ) → n ≤ max-variables → serial ≤ max-serial → now′ ≡ blanked (t .count) now → now′ ≡ over (joined (lines-from K n serial p) page-lines) before
   filled-blanked now′ most low w =
       w
-      ∙ joined-blank (lines-from K n serial p) (lines-sixty K n serial p most low) (t .count) filled-most
+      ∙ joined-blank (lines-from K n serial p) (found-sixty K n serial p most low) (t .count) filled-most
       (λ i l. line-none n serial (found-from K page-lines p) i (omega (arith, filled .count))) before now (filled .written)

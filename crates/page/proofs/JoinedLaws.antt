@@ -9,10 +9,10 @@ use lib.ListN.{length, take, drop, length-append}
 use lib.Seq.{take-at, drop-at}
 use Rattle.lists.specs.Over.{over}
 use Rattle.writing.specs.Placed.{placed}
-use Rattle.writing.proofs.PlacedLaws.{placed-placed, placed-none}
+use Rattle.writing.proofs.PlacedLaws.{placed-placed, placed-none, placed-over}
 use Rattle.page.specs.PageLines.{page-lines, line-size, page-size, blank-line}
 use Rattle.page.specs.Pages.{joined}
-use Rattle.page.specs.InnerPages.{blanked}
+use Rattle.page.specs.InnerPages.{blanked-to, blanked}
 use Rattle.page.proofs.LineLaws.{blank-length}
 
 -- the first k lines say all
@@ -40,16 +40,6 @@ joined-sixty f (suc k) h = length-append (joined f k) (f k) ∙ omega (arith, jo
 -- a page's lines, of 60 bytes each
 abbrev pub Sixty : (ℕ → List ℕ) → Type 0
 Sixty line = (i : ℕ) → i < page-lines → length (line i) ≡ line-size
-
--- a list behind one that is written over the beginning
-placed-over : (xs ys b : List ℕ) (k : ℕ) → length xs ≡ k → placed k ys (over xs b) ≡ over (xs ++ ys) b
-placed-over xs ys b k h =
-    let o : (zs : List ℕ) → over zs b ≡ placed 0 zs b = λ zs. (let z : length zs ≡ 0 + length zs = omega arith in ap (λ (j : ℕ). zs ++ drop j b) z) in
-    let z : k ≡ 0 + length xs = omega arith in
-    ap (placed k ys) (o xs)
-    ∙ ap (λ (j : ℕ). placed j ys (placed 0 xs b)) z
-    ∙ placed-placed 0 xs ys b (omega arith)
-    ∙ sym (o (xs ++ ys))
 
 module _ (line : ℕ → List ℕ) (sixty : Sixty line) where
   -- k lines have 60 k bytes
@@ -95,23 +85,23 @@ module _ (line : ℕ → List ℕ) (sixty : Sixty line) where
       ∙ placed-over (joined line k) (joined (λ j. blank-line) (page-lines - k)) before (line-size * k) (joined-length k h)
       ∙ ap (λ (l : List ℕ). over l before) (sym (joined-behind k (page-lines - k) b) ∙ ap (joined line) z)
 
--- ---- blank lines from line i on
+-- ---- blank lines from line i to j - 1
 
 -- none
-pub blanked-none : (i : ℕ) (page : List ℕ) → page ≡ placed (line-size * i) (joined (λ j. blank-line) (i - i)) page
+pub blanked-none : (i : ℕ) (page : List ℕ) → page ≡ blanked-to i i page
 unfolding joined
 blanked-none i page = let z : i - i ≡ 0 = omega arith in rw z (placed-none (line-size * i) page)
 
 -- line j behind those before it
 pub blanked-next : (i j : ℕ) (before now : List ℕ) → i ≤ j → j < page-lines → page-size ≤ length before
-    → now ≡ placed (line-size * i) (joined (λ j. blank-line) (j - i)) before
-    → placed (line-size * j) blank-line now ≡ placed (line-size * i) (joined (λ j. blank-line) (j + 1 - i)) before
+    → now ≡ blanked-to i j before
+    → placed (line-size * j) blank-line now ≡ blanked-to i (j + 1) before
 unfolding joined
 blanked-next i j before now h k r e =
     let l = joined-length (λ j. blank-line) (λ m n. blank-length) (j - i) (omega arith) in
     let z : line-size * j ≡ line-size * i + length (joined (λ j. blank-line) (j - i)) = omega arith in
     let s : j + 1 - i ≡ suc (j - i) = omega arith in
     ap (placed (line-size * j) blank-line) e
-    ∙ ap (λ (m : ℕ). placed m blank-line (placed (line-size * i) (joined (λ j. blank-line) (j - i)) before)) z
+    ∙ ap (λ (m : ℕ). placed m blank-line (blanked-to i j before)) z
     ∙ placed-placed (line-size * i) (joined (λ j. blank-line) (j - i)) blank-line before (omega arith)
     ∙ rw s

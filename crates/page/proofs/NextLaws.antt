@@ -10,6 +10,7 @@ use Rattle.walk.specs.Checkpoints.{Checkpoint}
 use Rattle.walk.specs.Gaps.{ample-budget}
 use Rattle.walk.specs.Results.{AnswerKind, says-model, says-spent, says-ended, says-refused, Result}
 use Rattle.walk.specs.WalkCall.{walk-call, walk-calls, last-checkpoint}
+use Rattle.walk.proofs.BudgetLaws.{calls-append, last-checkpoint-append}
 use Rattle.walk.proofs.RefusalLaws.{call-steps}
 use Rattle.page.specs.Pages.{ample-budgets, if-model, with-models, next-results, next-checkpoint}
 
@@ -43,40 +44,24 @@ models-every P (r ∷ rs) h = at (r .kind) (models-every P rs (h .1))
     at says-refused i = i
 
 module _ (s : List ℕ) (us : List Assumption) where
-  -- the calls of two lists of budgets
-  calls-append : (bs ds : List ℕ) (c : Checkpoint) → walk-calls s us c (bs ++ ds) ≡ walk-calls s us c bs ++ walk-calls s us (last-checkpoint s us c bs) ds
-  unfolding walk-calls last-checkpoint
-  calls-append [] ds c = refl
-  calls-append (b ∷ bs) ds c = ap {B = List Result} (λ l. walk-call s us c b ∷ l) (calls-append bs ds (walk-call s us c b .checkpoint))
-
-  last-append : (bs ds : List ℕ) (c : Checkpoint) → last-checkpoint s us c (bs ++ ds) ≡ last-checkpoint s us (last-checkpoint s us c bs) ds
-  unfolding last-checkpoint
-  last-append [] ds c = refl
-  last-append (b ∷ bs) ds c = last-append bs ds (walk-call s us c b .checkpoint)
-
   -- the next results, of j calls and of k more
   pub next-append : (c : Checkpoint) (j k : ℕ) → next-results s us c (j + k) ≡ next-results s us c j ++ next-results s us (next-checkpoint s us c j) k
   next-append c j k =
-      rw (ample-append j k, calls-append (ample-budgets j) (ample-budgets k) c)
+      rw (ample-append j k, calls-append s us (ample-budgets j) (ample-budgets k) c)
       (models-append (walk-calls s us c (ample-budgets j)) (walk-calls s us (next-checkpoint s us c j) (ample-budgets k)))
 
   pub checkpoint-append : (c : Checkpoint) (j k : ℕ) → next-checkpoint s us c (j + k) ≡ next-checkpoint s us (next-checkpoint s us c j) k
-  checkpoint-append c j k = rw (ample-append j k) (last-append (ample-budgets j) (ample-budgets k) c)
+  checkpoint-append c j k = rw (ample-append j k) (last-checkpoint-append s us (ample-budgets j) (ample-budgets k) c)
 
   -- no call, and one before k more
   pub checkpoint-zero : (c : Checkpoint) → next-checkpoint s us c 0 ≡ c
   unfolding ample-budgets last-checkpoint
   checkpoint-zero c = refl
 
-  pub next-model : (c : Checkpoint) (k : ℕ) → walk-call s us c ample-budget .kind ≡ says-model
-      → next-results s us c (suc k) ≡ walk-call s us c ample-budget ∷ next-results s us (walk-call s us c ample-budget .checkpoint) k
+  pub next-by : (c : Checkpoint) (k : ℕ) (q : AnswerKind) → walk-call s us c ample-budget .kind ≡ q
+      → next-results s us c (suc k) ≡ if-model q (walk-call s us c ample-budget) (next-results s us (walk-call s us c ample-budget .checkpoint) k)
   unfolding ample-budgets walk-calls with-models
-  next-model c k e = ap (λ (q : AnswerKind). if-model q (walk-call s us c ample-budget) (next-results s us (walk-call s us c ample-budget .checkpoint) k)) e
-
-  pub next-ended : (c : Checkpoint) (k : ℕ) → walk-call s us c ample-budget .kind ≡ says-ended
-      → next-results s us c (suc k) ≡ next-results s us (walk-call s us c ample-budget .checkpoint) k
-  unfolding ample-budgets walk-calls with-models
-  next-ended c k e = ap (λ (q : AnswerKind). if-model q (walk-call s us c ample-budget) (next-results s us (walk-call s us c ample-budget .checkpoint) k)) e
+  next-by c k q e = ap (λ (x : AnswerKind). if-model x (walk-call s us c ample-budget) (next-results s us (walk-call s us c ample-budget .checkpoint) k)) e
 
   -- no result has more than 96 steps
   calls-steps : (c : Checkpoint) (k : ℕ) → Every (λ r. r .steps < 1000) (walk-calls s us c (ample-budgets k))

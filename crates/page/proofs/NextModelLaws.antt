@@ -2,7 +2,7 @@
 -- them the end.
 use Prim.Native.Nat.{ℕ, zero, suc, _+_, _-_, _≤_, _<_}
 use mathlib.Core.List.{List, [], _∷_, _++_, append-nil, map}
-use mathlib.Core.Logic.{_⊎_, inl, inr, _↔_}
+use mathlib.Core.Logic.{_⊎_, inl, inr, ⊎-elim, _↔_}
 use mathlib.Core.Path.{_≡_, refl, sym, ap, _∙_, subst}
 use native.Mathlib.Omega.{arith}
 use lib.ListN.{length, take, drop, drop-of-length-le}
@@ -19,20 +19,24 @@ use Rattle.walk.specs.WalkCall.{walk-call, walk-calls, last-checkpoint}
 use Rattle.walk.specs.InnerLocate.{task-call}
 use Rattle.walk.proofs.TaskLaws.{Onward, call-onward, last-plain, calls-ample, call-over}
 use Rattle.page.specs.Pages.{ample-budgets, with-models, next-results, next-checkpoint}
-use Rattle.page.proofs.NextLaws.{next-append, next-model, next-ended}
+use Rattle.page.proofs.NextLaws.{next-append, next-by}
+
+-- a result says model or ended
+abbrev ModelOrEnded : Result → Type 0
+ModelOrEnded r = (r .kind ≡ says-model) ⊎ (r .kind ≡ says-ended)
 
 module _ (s : List ℕ) (us : List Assumption) (T : Task) (P : Posed T) (walks : (c : Checkpoint) (b : ℕ) → walk-call s us c b ≡ task-call T c b) where
   -- the checkpoint of the end
-  abbrev over : Checkpoint
-  over = checkpoint-of 4 []
+  abbrev at-end : Checkpoint
+  at-end = checkpoint-of 4 []
 
   -- from there no model comes, and it stays
-  pub end-results : (k : ℕ) → next-results s us over k ≡ []
+  pub end-results : (k : ℕ) → next-results s us at-end k ≡ []
   unfolding ample-budgets walk-calls with-models
   end-results zero = refl
   end-results (suc k) = rw (call-over s us T P walks ample-budget) (end-results k)
 
-  pub end-checkpoint : (k : ℕ) → next-checkpoint s us over k ≡ over
+  pub end-checkpoint : (k : ℕ) → next-checkpoint s us at-end k ≡ at-end
   unfolding ample-budgets last-checkpoint
   end-checkpoint zero = refl
   end-checkpoint (suc k) = ap (λ (r : Result). next-checkpoint s us (r .checkpoint) k) (call-over s us T P walks ample-budget) ∙ end-checkpoint k
@@ -49,16 +53,16 @@ module _ (s : List ℕ) (us : List Assumption) (T : Task) (P : Posed T) (walks :
       (call-onward s us T P walks (w .0) ample-budget)
 
   -- it says model or ended
-  one-answers : (c : Checkpoint) → Has T c → (walk-call s us c ample-budget .kind ≡ says-model) ⊎ (walk-call s us c ample-budget .kind ≡ says-ended)
+  one-answers : (c : Checkpoint) → Has T c → ModelOrEnded (walk-call s us c ample-budget)
   one-answers c w =
-      subst (λ (d : Checkpoint). (walk-call s us d ample-budget .kind ≡ says-model) ⊎ (walk-call s us d ample-budget .kind ≡ says-ended))
+      subst (λ (d : Checkpoint). ModelOrEnded (walk-call s us d ample-budget))
       (last-plain s us T P walks (w .0) ∙ w .1) (calls-ample s us T P walks (w .0) ample-budget (omega arith))
 
   -- and is not refused
   pub one-unrefused : (c : Checkpoint) → Has T c → walk-call s us c ample-budget .kind ≡ says-refused → ⊥
   one-unrefused c w e = at (one-answers c w)
     where
-      at : (walk-call s us c ample-budget .kind ≡ says-model) ⊎ (walk-call s us c ample-budget .kind ≡ says-ended) → ⊥
+      at : ModelOrEnded (walk-call s us c ample-budget) → ⊥
       at (inl q) = let z : _≡_ {A = ℕ} 0 1 = cc in omega arith
       at (inr q) = let z : _≡_ {A = ℕ} 0 1 = cc in omega arith
 
@@ -71,12 +75,12 @@ module _ (s : List ℕ) (us : List Assumption) (T : Task) (P : Posed T) (walks :
   -- or fewer models come, and the checkpoint is that of the end
   pub record Fewer (c : Checkpoint) (k : ℕ) : Type 0 where
     pub count : length (next-results s us c k) < k
-    pub checkpoint : next-checkpoint s us c k ≡ over
+    pub checkpoint : next-checkpoint s us c k ≡ at-end
 
   -- k calls from c, which stands behind the calls bs
   pub record Nexts (bs : List ℕ) (c : Checkpoint) (k : ℕ) : Type 0 where
     pub models : map (λ r. r .model) (next-results s us c k) ≡ take k (left bs)
-    pub answers : Every (λ r. (r .kind ≡ says-model) ⊎ (r .kind ≡ says-ended)) (walk-calls s us c (ample-budgets k))
+    pub answers : Every ModelOrEnded (walk-calls s us c (ample-budgets k))
     pub comes : Full c k ⊎ Fewer c k
     pub has : Has T (next-checkpoint s us c k)
 
@@ -95,7 +99,7 @@ module _ (s : List ℕ) (us : List Assumption) (T : Task) (P : Posed T) (walks :
       r = walk-call s us c ample-budget
 
       more : next-results s us c (suc k) ≡ r ∷ next-results s us (r .checkpoint) k
-      more = next-model s us c k e
+      more = next-by s us c k says-model e
 
       ahead : left (w .0) ≡ r .model ∷ left (w .0 ++ (ample-budget ∷ []))
       ahead = one-onward c w .models ∙ ap (λ (x : AnswerKind). brings x (r .model) ++ left (w .0 ++ (ample-budget ∷ []))) e
@@ -122,11 +126,11 @@ module _ (s : List ℕ) (us : List Assumption) (T : Task) (P : Posed T) (walks :
       r : Result
       r = walk-call s us c ample-budget
 
-      stays : r .checkpoint ≡ over
+      stays : r .checkpoint ≡ at-end
       stays = one-onward c w .over e
 
       nothing : next-results s us c (suc k) ≡ []
-      nothing = next-ended s us c k e ∙ ap (λ (d : Checkpoint). next-results s us d k) stays ∙ end-results k
+      nothing = next-by s us c k says-ended e ∙ ap (λ (d : Checkpoint). next-results s us d k) stays ∙ end-results k
 
       ahead : left (w .0) ≡ []
       ahead =
@@ -140,7 +144,7 @@ module _ (s : List ℕ) (us : List Assumption) (T : Task) (P : Posed T) (walks :
   nexts (suc k) c w = at (nexts k (walk-call s us c ample-budget .checkpoint) (w .0 ++ (ample-budget ∷ []), one-onward c w .returned)) (one-answers c w)
     where
       at : Nexts (w .0 ++ (ample-budget ∷ [])) (walk-call s us c ample-budget .checkpoint) k
-          → (walk-call s us c ample-budget .kind ≡ says-model) ⊎ (walk-call s us c ample-budget .kind ≡ says-ended) → Nexts (w .0) c (suc k)
+          → ModelOrEnded (walk-call s us c ample-budget) → Nexts (w .0) c (suc k)
       at i (inl e) = model-first k c w e i
       at i (inr e) = ended-first k c w e i
 
@@ -154,38 +158,33 @@ module _ (s : List ℕ) (us : List Assumption) (T : Task) (P : Posed T) (walks :
   start-models k = nexts k start ([], sym (last-plain s us T P walks [])) .models
 
   module _ (c : Checkpoint) (w : Has T c) where
+    -- k models come,
+    is-full : (k : ℕ) → length (next-results s us c k) ≡ k → Full c k
+    is-full k h = ⊎-elim (λ (f : Full c k). f) (λ (f : Fewer c k). absurd (omega (arith, f .count))) (nexts k c w .comes)
+
+    -- or fewer
+    is-fewer : (k : ℕ) → length (next-results s us c k) < k → Fewer c k
+    is-fewer k h = ⊎-elim (λ (f : Full c k). absurd (omega (arith, f .count))) (λ (f : Fewer c k). f) (nexts k c w .comes)
+
     -- k models: every call brought one
     pub next-full : (k : ℕ) → length (next-results s us c k) ≡ k → Every (λ r. r .kind ≡ says-model) (walk-calls s us c (ample-budgets k))
-    next-full k h = at (nexts k c w .comes)
-      where
-        at : Full c k ⊎ Fewer c k → Every (λ r. r .kind ≡ says-model) (walk-calls s us c (ample-budgets k))
-        at (inl f) = f .every
-        at (inr f) = absurd (omega (arith, f .count))
+    next-full k h = is-full k h .every
 
     -- and mode 1 is behind the last
     pub next-behind : (k : ℕ) → 0 < k → length (next-results s us c k) ≡ k → next-checkpoint s us c k .mode ≡ 1
-    next-behind k some h = at (nexts k c w .comes)
-      where
-        at : Full c k ⊎ Fewer c k → next-checkpoint s us c k .mode ≡ 1
-        at (inl f) = f .mode some
-        at (inr f) = absurd (omega (arith, f .count))
+    next-behind k some h = is-full k h .mode some
 
     -- fewer: the end is behind
-    pub next-fewer : (k : ℕ) → length (next-results s us c k) < k → next-checkpoint s us c k ≡ over
-    next-fewer k h = at (nexts k c w .comes)
-      where
-        at : Full c k ⊎ Fewer c k → next-checkpoint s us c k ≡ over
-        at (inl f) = absurd (omega (arith, f .count))
-        at (inr f) = f .checkpoint
+    pub next-fewer : (k : ℕ) → length (next-results s us c k) < k → next-checkpoint s us c k ≡ at-end
+    next-fewer k h = is-fewer k h .checkpoint
 
     -- mode 4 is then, and only then
     pub next-mode : (k : ℕ) → 0 < k → (next-checkpoint s us c k .mode ≡ 4) ↔ (length (next-results s us c k) < k)
     unfolding checkpoint-of
-    next-mode k some = (at (nexts k c w .comes), λ h. ap (λ (d : Checkpoint). d .mode) (next-fewer k h))
-      where
-        at : Full c k ⊎ Fewer c k → next-checkpoint s us c k .mode ≡ 4 → length (next-results s us c k) < k
-        at (inl f) e = absurd (omega (arith, f .mode some))
-        at (inr f) e = f .count
+    next-mode k some = (
+      λ e. ⊎-elim (λ (f : Full c k). absurd (omega (arith, e, f .mode some))) (λ (f : Fewer c k). f .count) (nexts k c w .comes),
+      λ h. ap (λ (d : Checkpoint). d .mode) (next-fewer k h),
+    )
 
     -- the first j results of more calls are those of j calls,
     pub next-take : (j k : ℕ) → take j (next-results s us c (j + k)) ≡ next-results s us c j

@@ -21,7 +21,7 @@ use Rattle.walk.specs.Results.{AnswerKind, says-model, says-spent, says-ended, 
 use Rattle.walk.specs.WalkCall.{walk-call}
 use Rattle.walk.proofs.RefusalLaws.{accepted-posed, call-number}
 use Rattle.page.specs.PageLines.{page-lines, line-size, page-size}
-use Rattle.page.specs.Pages.{next-results, line-at, joined, PageCall, unfilled, refusing-page, unless-refused, accepted-variables, max-serial, filling-page, page-call}
+use Rattle.page.specs.Pages.{next-results, joined, PageCall, unfilled, refusing-page, unless-refused, accepted-variables, max-serial, line-of-page, filling-page, page-call}
 use Rattle.page.proofs.JoinedLaws.{Sixty, joined-length, joined-part}
 use Rattle.page.proofs.LineAtLaws.{line-length}
 use Rattle.page.proofs.NextLaws.{next-steps}
@@ -40,35 +40,31 @@ variables-most s us = by (acceptance s us) refl
     by (declined r row) e = omega arith
 
 module _ (s : List ℕ) (us : List Assumption) (c : Checkpoint) (serial : ℕ) where
-  -- line i of a page
-  abbrev line : ℕ → List ℕ
-  line i = line-at (accepted-variables (acceptance s us)) serial (next-results s us c page-lines) i
-
   -- a page that is written
   module _ (most : serial ≤ max-serial) where
     -- every line has 60 bytes
-    pub lines-sixty : Sixty line
+    pub lines-sixty : Sixty (line-of-page s us c serial)
     lines-sixty i l = line-length (accepted-variables (acceptance s us)) (variables-most s us) serial (next-results s us c page-lines) (next-steps s us c page-lines) i (omega arith)
 
-    lines-length : length (joined line page-lines) ≡ page-size
-    lines-length = joined-length line lines-sixty page-lines (omega arith)
+    lines-length : length (joined (line-of-page s us c serial) page-lines) ≡ page-size
+    lines-length = joined-length (line-of-page s us c serial) lines-sixty page-lines (omega arith)
 
     -- line i stands in its place,
-    pub filled-line : (before : List ℕ) (i : ℕ) → i < page-lines → take line-size (drop (line-size * i) (filling-page s us c serial before .page)) ≡ line i
-    filled-line before i l = joined-part line lines-sixty page-lines i (drop (length (joined line page-lines)) before) (omega arith) l
+    pub filled-line : (before : List ℕ) (i : ℕ) → i < page-lines → take line-size (drop (line-size * i) (filling-page s us c serial before .page)) ≡ line-of-page s us c serial i
+    filled-line before i l = joined-part (line-of-page s us c serial) lines-sixty page-lines i (drop (length (joined (line-of-page s us c serial) page-lines)) before) (omega arith) l
 
     -- the lines are its beginning,
-    pub filled-lines : (before : List ℕ) → take page-size (filling-page s us c serial before .page) ≡ joined line page-lines
-    filled-lines before = take-at (joined line page-lines) (drop (length (joined line page-lines)) before) page-size lines-length
+    pub filled-lines : (before : List ℕ) → take page-size (filling-page s us c serial before .page) ≡ joined (line-of-page s us c serial) page-lines
+    filled-lines before = take-at (joined (line-of-page s us c serial) page-lines) (drop (length (joined (line-of-page s us c serial) page-lines)) before) page-size lines-length
 
     -- and all else stays
-    pub filled-remains : (before : List ℕ) → drop page-size (filling-page s us c serial before .page) ≡ drop page-size before
+    filled-remains : (before : List ℕ) → drop page-size (filling-page s us c serial before .page) ≡ drop page-size before
     filled-remains before =
-        drop-at (joined line page-lines) (drop (length (joined line page-lines)) before) page-size lines-length
+        drop-at (joined (line-of-page s us c serial) page-lines) (drop (length (joined (line-of-page s us c serial) page-lines)) before) page-size lines-length
         ∙ ap (λ (k : ℕ). drop k before) lines-length
 
-    pub filled-length : (before : List ℕ) → page-size ≤ length before → length (filling-page s us c serial before .page) ≡ length before
-    filled-length before room = over-length (joined line page-lines) before (omega (arith, lines-length))
+    filled-length : (before : List ℕ) → page-size ≤ length before → length (filling-page s us c serial before .page) ≡ length before
+    filled-length before room = over-length (joined (line-of-page s us c serial) page-lines) before (omega (arith, lines-length))
 
   -- What holds of each of the four answers holds of the page call.
   module _ (before : List ℕ) (P : PageCall → Type 0)
@@ -101,21 +97,21 @@ module _ (s : List ℕ) (us : List Assumption) (c : Checkpoint) (serial : ℕ) w
     lengths true e = short (ltb-true (length before) page-size e)
     lengths false e = serials (ltb-false (length before) page-size e) (eqb serial 0 || ltb max-serial serial) refl
 
-    pub page-cases : P (page-call s us c serial before)
+    pub by-answer : P (page-call s us c serial before)
     unfolding page-call
-    page-cases = lengths (ltb (length before) page-size) refl
+    by-answer = lengths (ltb (length before) page-size) refl
 
 module _ (s : List ℕ) (us : List Assumption) (c : Checkpoint) (serial : ℕ) (before : List ℕ) where
   -- a short page is refused,
   pub short-refused : length before < page-size → page-call s us c serial before ≡ refusing-page (ShortPage 0) c before
   short-refused h =
-      page-cases s us c serial before (λ p. p ≡ refusing-page (ShortPage 0) c before)
+      by-answer s us c serial before (λ p. p ≡ refusing-page (ShortPage 0) c before)
       (λ l. refl) (λ room b. absurd (omega arith)) (λ room some most q. absurd (omega arith)) (λ room some most q. absurd (omega arith))
 
   -- then a bad serial,
   pub bad-refused : page-size ≤ length before → (serial ≡ 0) ⊎ (max-serial < serial) → page-call s us c serial before ≡ refusing-page (BadSerial 0) c before
   bad-refused h b =
-      page-cases s us c serial before (λ p. p ≡ refusing-page (BadSerial 0) c before)
+      by-answer s us c serial before (λ p. p ≡ refusing-page (BadSerial 0) c before)
       (λ l. absurd (omega arith)) (λ room b. refl) (λ room some most q. serial-clash b some most) (λ room some most q. serial-clash b some most)
 
   module _ (room : page-size ≤ length before) (some : 0 < serial) (most : serial ≤ max-serial) where
@@ -123,19 +119,19 @@ module _ (s : List ℕ) (us : List Assumption) (c : Checkpoint) (serial : ℕ) (
     pub walk-refused : walk-call s us c ample-budget .kind ≡ says-refused
         → page-call s us c serial before ≡ unfilled (walk-call s us c ample-budget .number) (walk-call s us c ample-budget .place) c before
     walk-refused h =
-        page-cases s us c serial before (λ p. p ≡ unfilled (walk-call s us c ample-budget .number) (walk-call s us c ample-budget .place) c before)
+        by-answer s us c serial before (λ p. p ≡ unfilled (walk-call s us c ample-budget .number) (walk-call s us c ample-budget .place) c before)
         (λ l. absurd (omega arith)) (λ r b. serial-clash b some most) (λ r n m q. refl) (λ r n m q. absurd (q h))
 
     -- and all else is written
     pub unrefused-filled : (walk-call s us c ample-budget .kind ≡ says-refused → ⊥) → page-call s us c serial before ≡ filling-page s us c serial before
     unrefused-filled h =
-        page-cases s us c serial before (λ p. p ≡ filling-page s us c serial before)
+        by-answer s us c serial before (λ p. p ≡ filling-page s us c serial before)
         (λ l. absurd (omega arith)) (λ r b. serial-clash b some most) (λ r n m q. absurd (h q)) (λ r n m q. refl)
 
   -- 17 and 18 are given for nothing else
   pub numbered-short : page-call s us c serial before .answer .number ≡ 17 → length before < page-size
   numbered-short =
-      page-cases s us c serial before (λ p. p .answer .number ≡ 17 → length before < page-size)
+      by-answer s us c serial before (λ p. p .answer .number ≡ 17 → length before < page-size)
       (λ h e. h)
       (λ room b e. absurd (omega arith))
       (λ room some most q e. absurd (omega (arith, call-number s us c ample-budget .1)))
@@ -143,7 +139,7 @@ module _ (s : List ℕ) (us : List Assumption) (c : Checkpoint) (serial : ℕ) (
 
   pub numbered-serial : page-call s us c serial before .answer .number ≡ 18 → (page-size ≤ length before) × ((serial ≡ 0) ⊎ (max-serial < serial))
   numbered-serial =
-      page-cases s us c serial before (λ p. p .answer .number ≡ 18 → (page-size ≤ length before) × ((serial ≡ 0) ⊎ (max-serial < serial)))
+      by-answer s us c serial before (λ p. p .answer .number ≡ 18 → (page-size ≤ length before) × ((serial ≡ 0) ⊎ (max-serial < serial)))
       (λ h e. absurd (omega arith))
       (λ room b e. (room, b))
       (λ room some most q e. absurd (omega (arith, call-number s us c ample-budget .1)))
@@ -153,24 +149,24 @@ module _ (s : List ℕ) (us : List Assumption) (c : Checkpoint) (serial : ℕ) (
   pub numbered-unfilled : (page-call s us c serial before .answer .number ≡ 0 → ⊥)
       → (let p = page-call s us c serial before in p ≡ unfilled (p .answer .number) (p .answer .place) c before)
   numbered-unfilled =
-      page-cases s us c serial before (λ p. (p .answer .number ≡ 0 → ⊥) → p ≡ unfilled (p .answer .number) (p .answer .place) c before)
+      by-answer s us c serial before (λ p. (p .answer .number ≡ 0 → ⊥) → p ≡ unfilled (p .answer .number) (p .answer .place) c before)
       (λ h n. refl) (λ h b n. refl) (λ room some most q n. refl) (λ room some most q n. absurd (n refl))
 
   -- whatever the answer, what is behind the page stays, and its length
   pub call-remains : drop page-size (page-call s us c serial before .page) ≡ drop page-size before
   call-remains =
-      page-cases s us c serial before (λ p. drop page-size (p .page) ≡ drop page-size before)
+      by-answer s us c serial before (λ p. drop page-size (p .page) ≡ drop page-size before)
       (λ h. refl) (λ h b. refl) (λ room some most q. refl) (λ room some most q. filled-remains s us c serial most before)
 
   pub call-length : length (page-call s us c serial before .page) ≡ length before
   call-length =
-      page-cases s us c serial before (λ p. length (p .page) ≡ length before)
+      by-answer s us c serial before (λ p. length (p .page) ≡ length before)
       (λ h. refl) (λ h b. refl) (λ room some most q. refl) (λ room some most q. filled-length s us c serial most before room)
 
   -- an answer without a number is that of a page that is written
   pub numberless-filled : page-call s us c serial before .answer .number ≡ 0 → (serial ≤ max-serial) × (page-call s us c serial before ≡ filling-page s us c serial before)
   numberless-filled =
-      page-cases s us c serial before (λ p. p .answer .number ≡ 0 → (serial ≤ max-serial) × (p ≡ filling-page s us c serial before))
+      by-answer s us c serial before (λ p. p .answer .number ≡ 0 → (serial ≤ max-serial) × (p ≡ filling-page s us c serial before))
       (λ h e. absurd (omega arith))
       (λ room b e. absurd (omega arith))
       (λ room some most q e. absurd (omega (arith, call-number s us c ample-budget .0 q)))
@@ -180,7 +176,7 @@ module _ (s : List ℕ) (us : List Assumption) (c : Checkpoint) (serial : ℕ) (
 pub serials-alike : (s : List ℕ) (us : List Assumption) (c : Checkpoint) (serial other : ℕ) (before : List ℕ) → 0 < serial → serial ≤ max-serial → 0 < other → other ≤ max-serial
     → (page-call s us c serial before .answer ≡ page-call s us c other before .answer) × (page-call s us c serial before .checkpoint ≡ page-call s us c other before .checkpoint)
 serials-alike s us c serial other before a b d e =
-    page-cases s us c serial before
+    by-answer s us c serial before
     (λ p. (p .answer ≡ page-call s us c other before .answer) × (p .checkpoint ≡ page-call s us c other before .checkpoint))
     (λ h. rw (short-refused s us c other before h) (refl, refl))
     (λ room q. serial-clash q a b)
@@ -191,7 +187,7 @@ serials-alike s us c serial other before a b d e =
 pub lent-alike : (s : List ℕ) (us : List Assumption) (c : Checkpoint) (serial : ℕ) (before other : List ℕ) → page-size ≤ length before → page-size ≤ length other
     → (page-call s us c serial before .answer ≡ page-call s us c serial other .answer) × (page-call s us c serial before .checkpoint ≡ page-call s us c serial other .checkpoint)
 lent-alike s us c serial before other l k =
-    page-cases s us c serial before
+    by-answer s us c serial before
     (λ p. (p .answer ≡ page-call s us c serial other .answer) × (p .checkpoint ≡ page-call s us c serial other .checkpoint))
     (λ h. absurd (omega arith))
     (λ room q. rw (bad-refused s us c serial other k q) (refl, refl))
@@ -200,7 +196,7 @@ lent-alike s us c serial before other l k =
 
 -- and if it is just 3,000 bytes, the lines are all of it
 pub lent-whole : (s : List ℕ) (us : List Assumption) (c : Checkpoint) (serial : ℕ) (before : List ℕ) → length before ≡ page-size → page-call s us c serial before .answer .number ≡ 0
-    → page-call s us c serial before .page ≡ joined (line s us c serial) page-lines
+    → page-call s us c serial before .page ≡ joined (line-of-page s us c serial) page-lines
 lent-whole s us c serial before l h =
     let w = numberless-filled s us c serial before h in
     sym (take-all page-size (page-call s us c serial before .page) (omega (arith, call-length s us c serial before)))

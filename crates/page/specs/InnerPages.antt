@@ -51,9 +51,13 @@ module _ (K : Tree) where
       let r = resume K ample-budget p in
       stop-of (answer-kind (r .answer)) (r .position) (stopped-from k (r .position))
 
+-- lines i to j - 1 of the page are blank
+abbrev pub blanked-to : ℕ → ℕ → List ℕ → List ℕ
+blanked-to i j page = placed (line-size * i) (joined (λ k. blank-line) (j - i)) page
+
 -- the page from line i on is blank
 abbrev pub blanked : ℕ → List ℕ → List ℕ
-blanked i page = placed (line-size * i) (joined (λ j. blank-line) (page-lines - i)) page
+blanked i = blanked-to i page-lines
 
 -- a state of a walk, and room for a page of serials up to 999,999
 pub record Fillable (f : Formula) (z : Scope) (s : State) (serial : ℕ) (page : List ℕ) : Type 0 where

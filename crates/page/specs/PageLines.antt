@@ -4,7 +4,7 @@ use mathlib.Core.List.{List, [], _∷_, _++_}
 use Rattle.limits.specs.Limits.{max-variables}
 use Rattle.writing.specs.Text.{decimal, digits, line-of, blanks, right}
 
--- a page has 50 lines of 60 bytes: 3,000
+-- how many lines a page has, how many bytes a line, and so the page: 3,000
 abbrev pub page-lines : ℕ
 page-lines = 50
 

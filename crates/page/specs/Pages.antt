@@ -49,7 +49,8 @@ next-checkpoint s us c k = last-checkpoint s us c (ample-budgets k)
 
 -- ---- the page
 
--- S19.1: line i, from 0: that of result i, whose steps are its own call's; serials rise by one a line; blank if there is no such result
+-- S19.1: line i, from 0: that of result i, whose steps are its own call's, with a serial one above that of the line before; blank if there
+-- is no such result
 abbrev pub line-at : ℕ → ℕ → List Result → ℕ → List ℕ
 line-at n serial [] i = blank-line
 line-at n serial (r ∷ rs) zero = page-line serial n (r .model) (r .steps)
@@ -112,14 +113,17 @@ accepted-variables (declined r row) = 0
 abbrev pub max-serial : ℕ
 max-serial = 999950
 
+-- S19.2: line i of the page from c
+abbrev pub line-of-page : List ℕ → List Assumption → Checkpoint → ℕ → ℕ → List ℕ
+line-of-page s us c serial = line-at (accepted-variables (acceptance s us)) serial (next-results s us c page-lines)
+
 -- S19.2: the page of the next 50 models from c: its lines over the first 3,000 bytes of what was lent
 abbrev pub filling-page : List ℕ → List Assumption → Checkpoint → ℕ → List ℕ → PageCall
 filling-page s us c serial before =
-    let rs = next-results s us c page-lines in
     record {
-      answer = filled-values (length rs);
+      answer = filled-values (length (next-results s us c page-lines));
       checkpoint = next-checkpoint s us c page-lines;
-      page = over (joined (line-at (accepted-variables (acceptance s us)) serial rs) page-lines) before;
+      page = over (joined (line-of-page s us c serial) page-lines) before;
     }
 
 -- The act page: the input, the assumptions, the checkpoint, the first serial, and the page as it is lent. S19.3: first 17, then 18, then

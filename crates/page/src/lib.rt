@@ -16,6 +16,7 @@ use assumptions::Assumptions;
 use enumeration::Checkpoint;
 use formula::Outcome;
 use formula::Refusal;
+pub use lines::LINE_SIZE;
 pub use lines::PAGE_LINES;
 pub use lines::PAGE_SIZE;
 

@@ -10,7 +10,7 @@ ghost use Rattle.page.specs.PageLines.{page-lines, line-size, page-size,
 pub const PAGE_LINES: usize = 50;
 
 // A line has so many bytes.
-const LINE_SIZE: usize = 60;
+pub const LINE_SIZE: usize = 60;
 
 // A page has so many bytes.
 pub const PAGE_SIZE: usize = PAGE_LINES * LINE_SIZE;

@@ -1,19 +1,18 @@
--- `page::filling::blank_rest` meets its contract. The loop's invariant: the lines from i to j are blank.
+-- `page::filling::blank_rest` meets its contract. The loop's invariant: lines i to j - 1 are blank.
 use borrow.Author.Needs.{needs}
-use Prim.Native.Nat.{_*_, _-_, _≤_}
+use Prim.Native.Nat.{_-_, _≤_}
 use native.Mathlib.Omega.{arith}
 use mathlib.Core.Path.{_≡_, refl, _∙_}
 use lib.ListN.{length}
-use Rattle.writing.specs.Placed.{placed}
-use Rattle.page.specs.PageLines.{page-lines, line-size, blank-line}
-use Rattle.page.specs.Pages.{joined}
+use Rattle.page.specs.PageLines.{page-lines}
+use Rattle.page.specs.InnerPages.{blanked-to}
 use Rattle.page.proofs.JoinedLaws.{blanked-none, blanked-next}
 use Rattle.page.proofs.filling.blank_rest.Statement.{statement}
 use Rattle.page.proofs.filling.blank_rest.Tie as tie
 
 abbrev Inv-loop : tie.InvT-loop
 Inv-loop page₀ i j₀ page j =
-    (i ≤ j) × (j ≤ page-lines) × (length page ≡ length page₀) × (page ≡ placed (line-size * i) (joined (λ k. blank-line) (j - i)) page₀)
+    (i ≤ j) × (j ≤ page-lines) × (length page ≡ length page₀) × (page ≡ blanked-to i j page₀)
 
 abbrev μ-loop : tie.MeasureT-loop
 μ-loop page₀ i j₀ page j = page-lines - j
