@@ -244,8 +244,8 @@ uint32_t norwythai_list(const uint8_t *input, size_t input_length, const uint8_t
                         uint64_t *results, size_t results_length);
 
 /*
- * The next models of an accepted formula as a page, under serials that rise by one a line: what NORWYTHAI_PAGE_LINES walk calls of budget
- * 96 give, as text.
+ * The next models of an accepted formula as a page, each line's serial one above that of the line before: what NORWYTHAI_PAGE_LINES walk
+ * calls of budget 96 give, as text.
  * Reads the input, the assumptions, the checkpoint and the serial of the first line; writes the page, the results, and over the
  * checkpoint the one to go on from. results[4] is how many lines, from the top, have a model: NORWYTHAI_PAGE_LINES of them
  * (NORWYTHAI_FULL), and the checkpoint is then that behind the last one; or fewer, all that are left (NORWYTHAI_ENDED), and the checkpoint

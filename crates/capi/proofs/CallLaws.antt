@@ -87,7 +87,7 @@ module _ (checkpoint : List ℕ) where
 
 -- the lengths that walk, list and page ask for: one of them is wrong, or all are right
 module _ {A : Type 0} (assumptions checkpoint results : List ℕ) (written unwritten : A) where
-  abbrev pub asked : A
+  abbrev asked : A
   asked = cond (assumptions-sized assumptions && (checkpoint-sized checkpoint && results-sized results)) written unwritten
 
   pub asked-assumptions : (length assumptions % assumption-size ≡ 0 → ⊥) → asked ≡ unwritten
@@ -101,7 +101,7 @@ module _ {A : Type 0} (assumptions checkpoint results : List ℕ) (written unwri
       pub asked-results : (length results ≡ results-size → ⊥) → asked ≡ unwritten
       asked-results k = rw (eq-eqb _ _ g, eq-eqb _ _ h, ne-eqb _ _ k)
 
-      pub asked-rightly : length results ≡ results-size → asked ≡ written
+      asked-rightly : length results ≡ results-size → asked ≡ written
       asked-rightly k = rw (eq-eqb _ _ g, eq-eqb _ _ h, eq-eqb _ _ k)
 
 module _ (s assumptions checkpoint results : List ℕ) (budget : ℕ) where

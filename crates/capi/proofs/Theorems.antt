@@ -1,6 +1,6 @@
 -- What holds of the interface: no byte of a checkpoint is lost, a refused call leaves it as it was and brings no model and no line, a
--- refused conversion leaves its buffer, and calls from the start checkpoint make the walk of demand 3 (S10).
-use Prim.Native.Nat.{ℕ, zero, suc, _%_, _≤_}
+-- refused conversion leaves its buffer, and calls from the start checkpoint make the walk of demand 3 (S10) and the pages of S19.5.
+use Prim.Native.Nat.{ℕ, zero, suc, _+_, _%_, _≤_}
 use mathlib.Core.Bool.{Bool, true, false, cond}
 use mathlib.Core.List.{List, [], _∷_, map}
 use mathlib.Core.Logic.{⊎-elim}
@@ -22,16 +22,17 @@ use Rattle.dimacs.specs.Convert.{Conversion, to-encoded, to-text}
 use Rattle.dimacs.proofs.Demands.{read-untouched, write-untouched}
 use Rattle.walk.specs.Task.{under}
 use Rattle.walk.specs.Checkpoints.{Checkpoint, checkpoint-of, start}
-use Rattle.walk.specs.WalkCall.{walk-call, walk-calls}
+use Rattle.walk.specs.WalkCall.{walk-call, walk-calls, last-checkpoint}
 use Rattle.walk.specs.Results.{AnswerKind, says-model, says-spent, says-ended, says-refused, Result}
 use Rattle.walk.proofs.RefusalLaws.{call-bytes}
 use Rattle.walk.proofs.Demands.{Dealt, demand-3}
 use Rattle.enumeration.proofs.RefusedLaws.{refuses-or-goes}
 use Rattle.enumeration.proofs.ListTheorems.{next-refused}
 use Rattle.page.specs.PageLines.{page-lines}
-use Rattle.page.specs.Pages.{PageCall, page-call}
+use Rattle.page.specs.Pages.{ample-budgets, PageCall, page-call, page-calls}
+use Rattle.page.proofs.PageCallLaws.{by-answer}
 use Rattle.page.proofs.Demands.{refused-keeps}
-use Rattle.capi.specs.Interface.{results-size, checkpoint-size, assumption-size, kind-code, walk-results, checkpoint-bytes, checkpoint-in, conversion-called, from-dimacs-called, to-dimacs-called, start-called, walk-told, walk-called, walks-called, list-called, page-called}
+use Rattle.capi.specs.Interface.{results-size, checkpoint-size, assumption-size, kind-code, walk-results, page-results, checkpoint-bytes, checkpoint-in, conversion-called, from-dimacs-called, to-dimacs-called, start-called, walk-told, walk-called, walks-called, list-called, page-shown, page-called, pages-called}
 use Rattle.capi.proofs.CallLaws.{start-written, walk-called-is, list-called-is, page-called-is}
 
 -- ---- the bytes of a checkpoint
@@ -129,6 +130,19 @@ module _ (s buffer results : List ℕ) (k : length results ≡ results-size) whe
 
 -- ---- lists of calls
 
+-- walk calls, and a page call, from a checkpoint of 48 bytes return one of 48 bytes
+module _ (s : List ℕ) (us : List Assumption) where
+  last-bytes : (c : Checkpoint) (bs : List ℕ) → length (c .bytes) ≡ max-variables → length (last-checkpoint s us c bs .bytes) ≡ max-variables
+  unfolding last-checkpoint
+  last-bytes c [] h = h
+  last-bytes c (b ∷ bs) h = last-bytes (walk-call s us c b .checkpoint) bs (call-bytes s us c b h)
+
+  page-bytes : (c : Checkpoint) (serial : ℕ) (before : List ℕ) → length (c .bytes) ≡ max-variables
+      → length (page-call s us c serial before .checkpoint .bytes) ≡ max-variables
+  page-bytes c serial before h =
+      by-answer s us c serial before (λ p. length (p .checkpoint .bytes) ≡ max-variables)
+      (λ l. h) (λ room b. h) (λ room some most q. h) (λ room some most q. last-bytes c (ample-budgets page-lines) h)
+
 module _ (s assumptions : List ℕ) (g : length assumptions % assumption-size ≡ 0) where
   -- from a checkpoint of 48 bytes they are the walk calls
   calls-walked :
@@ -144,6 +158,21 @@ module _ (s assumptions : List ℕ) (g : length assumptions % assumption-size �
       rw (walk-called-is s assumptions (checkpoint-bytes c) results b g l k)
       (ap (λ (t : List (ℕ × List ℕ × List ℕ)). walk-told r ∷ t)
       (calls-walked (r .checkpoint) (walk-results r) bs (call-bytes s (of-bytes assumptions) c b h) refl))
+
+  -- from a checkpoint of 48 bytes they are the page calls
+  calls-paged :
+      (c : Checkpoint) (serial : ℕ) (results : List ℕ) (bs : List (List ℕ)) →
+      length (c .bytes) ≡ max-variables →
+      length results ≡ results-size →
+      pages-called s assumptions (checkpoint-bytes c) serial results bs ≡ map page-shown (page-calls s (of-bytes assumptions) c serial bs)
+  unfolding pages-called page-calls
+  calls-paged c serial results [] h k = refl
+  calls-paged c serial results (b ∷ bs) h k =
+      let l : length (checkpoint-bytes c) ≡ checkpoint-size = omega arith in
+      let p = page-call s (of-bytes assumptions) c serial b in
+      rw (page-called-is s assumptions (checkpoint-bytes c) b results serial g l k)
+      (ap (λ (t : List (ℕ × List ℕ × List ℕ × List ℕ)). page-shown p ∷ t)
+      (calls-paged (p .checkpoint) (serial + page-lines) (page-results (p .answer)) bs (page-bytes s (of-bytes assumptions) c serial b h) refl))
 
   module _ (checkpoint results : List ℕ) (h : length checkpoint ≡ checkpoint-size) (k : length results ≡ results-size) where
     -- S10, demand 3, in the interface: after norwythai_start, each norwythai_walk of a list, all with the same assumptions, returns 0 and
@@ -170,3 +199,14 @@ module _ (s assumptions : List ℕ) (g : length assumptions % assumption-size �
         × Dealt s (of-bytes assumptions) (under n (map literal-of (of-bytes assumptions)) cs) bs
     demand-3-called n cs encodes good vs pairs bs =
         (walked-from-start bs, demand-3 s (of-bytes assumptions) n cs encodes good vs pairs bs)
+
+    -- S19.5 in the interface: after norwythai_start, each norwythai_page of a list, all with the same assumptions and each with a serial 50
+    -- higher, returns 0 and leaves in the results, in the page that it is lent, and as the checkpoint's 50 bytes what the page call of S19.5
+    -- gives, whatever the serial, the pages lent and what stood in the buffers before; a refused one, too.
+    pub paged-from-start :
+        (serial : ℕ) (bs : List (List ℕ)) →
+        pages-called s assumptions (start-called checkpoint .1) serial results bs ≡ map page-shown (page-calls s (of-bytes assumptions) start serial bs)
+    unfolding start checkpoint-of
+    paged-from-start serial bs =
+        rw (start-written checkpoint start (checkpoint-bytes start) h refl refl)
+        (calls-paged start serial results bs (ap length (padded-none max-variables 0)) k)

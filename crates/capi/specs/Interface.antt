@@ -154,3 +154,11 @@ page-called s assumptions checkpoint serial page results =
     cond (assumptions-sized assumptions && (checkpoint-sized checkpoint && results-sized results))
     (page-shown (page-call s (of-bytes assumptions) (checkpoint-in checkpoint) serial page))
     (1, checkpoint, page, results)
+
+-- What a list of such calls returns and writes, page by page: each is lent bytes of its own, and the serial is 50 higher each time. All get
+-- the same input and the same assumptions, and nobody else writes the checkpoint or the results between them.
+unfoldable pub pages-called : List ℕ → List ℕ → List ℕ → ℕ → List ℕ → List (List ℕ) → List (ℕ × List ℕ × List ℕ × List ℕ)
+pages-called s assumptions checkpoint serial results [] = []
+pages-called s assumptions checkpoint serial results (b ∷ bs) =
+    let r = page-called s assumptions checkpoint serial b results in
+    r ∷ pages-called s assumptions (r .1) (serial + page-lines) (r .3) bs

@@ -31,8 +31,6 @@ use vectors::corpus::four_bytes;
 use vectors::corpus::two_bytes;
 use vectors::report;
 
-const LINE_SIZE: usize = 60;
-
 // The number of lines that are filled stands as the place.
 fn answer_of(a: PageAnswer) -> Answer
     ensures { λ r. ⌜ r ≡ page-written (page-values a) ⌝ }
@@ -66,7 +64,7 @@ fn byte_behind(size: usize, fill: u8, i: usize) -> u8
     if size <= i {
         return fill;
     }
-    if i % LINE_SIZE == LINE_SIZE - 1 {
+    if i % page::LINE_SIZE == page::LINE_SIZE - 1 {
         return b'\n';
     }
     b' '
