@@ -982,7 +982,6 @@ LIST_EDGES = [
 ]
 
 
-
 def page_line(serial, n, model, steps):
     return '%6d %-48s %3d\n' % (serial, ''.join('01'[model >> v & 1] for v in range(n)), steps)
 

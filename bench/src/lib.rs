@@ -7,6 +7,7 @@ pub mod growth;
 pub mod listers;
 pub mod measure;
 pub mod once;
+pub mod pages;
 #[allow(unsafe_code)]
 pub mod stack;
 pub mod table;

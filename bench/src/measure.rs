@@ -2,8 +2,9 @@
 
 use crate::families::{fullest_input, longest_text_input, Case, Family, FAMILIES};
 use crate::listers::{Bytes, Lister, Plain, Proved, Refused, Tuned};
+use crate::pages::{page_rows, page_times};
 use crate::table::{count_text, print_table, row, time_text};
-use norwythai::{FORMULA_BUFFER, PAGE_SIZE, TEXT_BUFFER};
+use norwythai::{FORMULA_BUFFER, TEXT_BUFFER};
 use std::fmt::Debug;
 use std::hint::black_box;
 use std::time::Instant;
@@ -112,15 +113,6 @@ pub fn list(lister: &dyn Lister, case: &Case, models: &mut [u64]) {
     black_box((&checkpoint, &*models));
 }
 
-/// A page from a checkpoint. The page is not cleared before.
-pub fn page(lister: &dyn Lister, case: &Case, from: &Bytes, page: &mut [u8]) {
-    let mut checkpoint = *black_box(from);
-    let (input, assumptions) = black_box((&case.input, &case.assumptions));
-    let lines = lister.page(input, assumptions, &mut checkpoint, 1, page);
-    assert!(black_box(lines).is_ok());
-    black_box((&checkpoint, &*page));
-}
-
 /// One walk call from a checkpoint.
 pub fn walk(lister: &dyn Lister, case: &Case, from: &Bytes) {
     let mut checkpoint = *black_box(from);
@@ -140,11 +132,6 @@ pub fn judge(lister: &dyn Lister, case: &Case, buffer: &mut [u8; 96]) {
 
 pub fn list_times(case: &Case, models: &mut [u64]) -> Times {
     times(|lister| list(lister, case, models))
-}
-
-fn page_times(case: &Case, from: &Bytes) -> Times {
-    let mut lent = [0; PAGE_SIZE];
-    times(|lister| page(lister, case, from, &mut lent))
 }
 
 pub fn walk_times(case: &Case, from: &Bytes) -> Times {
@@ -191,7 +178,11 @@ fn to_dimacs_times(input: &[u8]) -> Times {
 }
 
 /// What all three give, once it is the same.
-fn same<T: PartialEq + Debug>(what: &str, name: &str, act: impl Fn(&dyn Lister) -> T) -> T {
+pub(crate) fn same<T: PartialEq + Debug>(
+    what: &str,
+    name: &str,
+    act: impl Fn(&dyn Lister) -> T,
+) -> T {
     let [proved, plain, tuned] = LISTERS.map(act);
     assert!(plain == proved, "{name}: {what}: proved and plain");
     assert!(tuned == proved, "{name}: {what}: proved and tuned");
@@ -241,23 +232,6 @@ pub fn deep_checkpoint(case: &Case) -> Bytes {
     checkpoint
 }
 
-fn require_same_page(case: &Case, from: &Bytes) {
-    same("page", &case.name, |lister| {
-        let mut page = vec![0; PAGE_SIZE];
-        let mut checkpoint = *from;
-        let lines = lister.page(
-            &case.input,
-            &case.assumptions,
-            &mut checkpoint,
-            1,
-            &mut page,
-        );
-        (lines, checkpoint, page)
-    })
-    .0
-    .expect("a checkpoint of the walk");
-}
-
 fn require_same_judge(case: &Case) {
     same("judge", &case.name, |lister| {
         let mut buffer = [0; 96];
@@ -269,10 +243,10 @@ fn require_same_judge(case: &Case) {
 }
 
 /// A row of the table: the times of some formulas for one act.
-struct Row {
-    family: String,
-    act: String,
-    times: Vec<Times>,
+pub(crate) struct Row {
+    pub family: String,
+    pub act: String,
+    pub times: Vec<Times>,
 }
 
 impl Row {
@@ -342,23 +316,6 @@ fn list_row(family: &str, cases: &[Case], wanted: usize) -> Row {
         act: list_name(wanted, least),
         times,
     }
-}
-
-/// The rows of a page from the start, and of one from deep in the walk.
-fn page_rows(family: &str, cases: &[Case]) -> [Row; 2] {
-    let row = |act: &str, from: fn(&Case) -> Bytes| {
-        let times = |case: &Case| {
-            let from = from(case);
-            require_same_page(case, &from);
-            page_times(case, &from)
-        };
-        Row {
-            family: family.to_string(),
-            act: act.to_string(),
-            times: cases.iter().map(times).collect(),
-        }
-    };
-    [row("page", |_| START), row("page, deep", deep_checkpoint)]
 }
 
 fn walk_row(family: &str, cases: &[Case]) -> Row {

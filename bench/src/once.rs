@@ -2,7 +2,8 @@
 
 use crate::families::{Case, FAMILIES};
 use crate::listers::Lister;
-use crate::measure::{deep_checkpoint, judge, list, page, walk, LISTERS, SHORT};
+use crate::measure::{deep_checkpoint, judge, list, walk, LISTERS, SHORT};
+use crate::pages::page;
 use norwythai::PAGE_SIZE;
 
 /// The names of the implementations, in the order of [`LISTERS`].

@@ -318,8 +318,8 @@ impl Paged {
 /// Writes the next models of an accepted formula as a page for the notice board: [`PAGE_LINES`] lines of text in the first
 /// [`PAGE_SIZE`](crate::PAGE_SIZE) bytes of the slice, of which it must have that many. A line has the model's serial, a digit for each
 /// variable in 48 columns, and the steps from the line before to it, on the first line from the checkpoint; a blank stands between two
-/// of these, and a line feed at the end. Serials rise by one a line from the given one, which is 1 to [`MAX_SERIAL`](crate::MAX_SERIAL).
-/// Lines without a model are blank.
+/// of these, and a line feed at the end. The first line has the given serial, which is 1 to [`MAX_SERIAL`](crate::MAX_SERIAL), and each
+/// other one a serial that is one above that of the line before. Lines without a model are blank.
 ///
 /// The checkpoint becomes the one to go on from, under the same assumptions, as after [`walk`] calls with a budget of 96. The bytes
 /// behind the page stay as they are; at a refusal all do, and the checkpoint, too.

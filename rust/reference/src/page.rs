@@ -87,9 +87,9 @@ fn put_right(bytes: &mut [u8], number: u32) {
     }
 }
 
-/// The act page: writes the next 50 models of the walk from the checkpoint, or all that are left, into the lent page, under serials that
-/// rise by one from the given one. A line's steps are those of the walk call, with a budget of 96, that brings its model. The bytes
-/// behind the page stay, and at a refusal all do.
+/// The act page: writes the next 50 models of the walk from the checkpoint, or all that are left, into the lent page: the first
+/// under the given serial, each other one under a serial that is one above that of the line before. A line's steps are those of the walk
+/// call, with a budget of 96, that brings its model. The bytes behind the page stay, and at a refusal all do.
 pub fn page(
     input: &[u8],
     assumptions: &[Assumption],

@@ -1,17 +1,18 @@
 //! Each act, through the crate and through its C function, compared with the reference.
 
 use crate::assumed::Assumed;
+use crate::counts::Outcomes;
 use crate::raw;
-use crate::tally::{Outcomes, Tally};
+use crate::tally::Tally;
 use norwythai::{Answer, Checkpoint, JudgeError, Refusal, PAGE_SIZE};
 use norwythai_reference as reference;
 use norwythai_samples::{some_budget, some_length, Random};
 
 /// What results have before a call; no act writes it.
-const UNWRITTEN: u64 = 0xa5a5_a5a5_a5a5_a5a5;
+pub const UNWRITTEN: u64 = 0xa5a5_a5a5_a5a5_a5a5;
 
 /// The reference's refusal as the crate has it.
-fn refusal_of(refusal: reference::Refusal) -> Refusal {
+pub fn refusal_of(refusal: reference::Refusal) -> Refusal {
     let expected = Refusal::from_parts(refusal.number.into(), refusal.place).unwrap();
     assert_eq!(expected.number(), refusal.number);
     assert_eq!(expected.place(), refusal.place);
@@ -27,7 +28,7 @@ pub fn answer_of(answer: reference::Answer) -> Answer {
 }
 
 /// The results that the C functions write for a refusal, and for an answer of a walk.
-fn refused_results(refusal: reference::Refusal) -> [u64; 6] {
+pub fn refused_results(refusal: reference::Refusal) -> [u64; 6] {
     [3, 0, refusal.number.into(), refusal.place as u64, 0, 0]
 }
 
@@ -291,66 +292,6 @@ pub fn compare_list(
             None
         }
     }
-}
-
-/// A page call, with the lent page as it is before.
-pub struct PageCall<'a> {
-    pub input: &'a [u8],
-    pub assumed: &'a Assumed,
-    pub given: reference::Checkpoint,
-    pub serial: u32,
-    pub before: Vec<u8>,
-}
-
-/// Compares a page call, and gives the checkpoint that it returns if it is not refused.
-pub fn compare_page(tally: &mut Tally, call: &PageCall) -> Option<reference::Checkpoint> {
-    let PageCall {
-        input,
-        assumed,
-        given,
-        serial,
-        ref before,
-    } = *call;
-    let context = || {
-        let (assumed, length) = (&assumed.bytes, before.len());
-        format!("{input:02x?} {assumed:?} {given:02x?} {serial} {length}")
-    };
-    let mut expected_page = before.clone();
-    let list = &assumed.reference;
-    let expected = reference::page(input, list, &given, serial, &mut expected_page);
-    let returned = expected.map_or(given, |paged| paged.checkpoint);
-
-    let mut checkpoint = Checkpoint::from_bytes(given);
-    let mut page = before.clone();
-    let found = norwythai::page(input, &assumed.list, &mut checkpoint, serial, &mut page);
-    assert_eq!(
-        found.map(|paged| paged.lines),
-        expected.map(|paged| paged.lines).map_err(refusal_of),
-        "{}",
-        context()
-    );
-    assert_eq!(page, expected_page, "{}", context());
-    assert_eq!(checkpoint.as_bytes(), &returned, "{}", context());
-
-    let mut bytes = given;
-    let mut page = before.clone();
-    let mut results = [UNWRITTEN; 6];
-    let list = &assumed.bytes;
-    assert_eq!(
-        raw::page(input, list, &mut bytes, serial, &mut page, &mut results),
-        0
-    );
-    assert_eq!(page, expected_page, "{}", context());
-    assert_eq!(bytes, returned, "{}", context());
-    let expected_results = match expected {
-        Ok(paged) if paged.lines == 50 => [0, 0, 0, 0, 50, 0],
-        Ok(paged) => [2, 0, 0, 0, paged.lines as u64, 0],
-        Err(refusal) => refused_results(refusal),
-    };
-    assert_eq!(results, expected_results, "{}", context());
-
-    tally.pages.called(call, expected);
-    expected.ok().map(|paged| paged.checkpoint)
 }
 
 pub fn compare_start(tally: &mut Tally, random: &mut Random) {

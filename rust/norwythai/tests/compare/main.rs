@@ -4,21 +4,23 @@
 
 mod acts;
 mod assumed;
+mod counts;
+mod pages;
 mod raw;
 mod tally;
 
 use acts::{
-    answer_of, compare_chain, compare_check, compare_judge, compare_list, compare_page,
-    compare_round_trip, compare_start, compare_walk, compare_wrong_lengths, PageCall, FROM_DIMACS,
-    TO_DIMACS,
+    answer_of, compare_chain, compare_check, compare_judge, compare_list, compare_round_trip,
+    compare_start, compare_walk, compare_wrong_lengths, FROM_DIMACS, TO_DIMACS,
 };
 use assumed::Assumed;
 use norwythai::{Answer, Assumption, Checkpoint, Models, Refusal, LINE_SIZE, PAGE_SIZE};
 use norwythai_reference as reference;
 use norwythai_samples::{
     encode, longest_path, some_accepted_formula, some_assignment, some_budget, some_checkpoint,
-    some_input, some_length, some_serial, some_text, Random,
+    some_input, some_text, Random,
 };
+use pages::compare_pages;
 use tally::Tally;
 
 const FEWEST_CALLS: usize = 100_000;
@@ -29,42 +31,6 @@ fn is_accepted_under(input: &[u8], assumptions: &[reference::Assumption]) -> boo
 
 fn is_accepted(input: &[u8]) -> bool {
     is_accepted_under(input, &[])
-}
-
-/// Pages one after the other from the start, under serials that go on past the highest, and then pages from any checkpoints, with any
-/// serials and lent pages of any lengths.
-fn compare_pages(
-    tally: &mut Tally,
-    random: &mut Random,
-    input: &[u8],
-    assumed: &Assumed,
-    pool: &mut Vec<reference::Checkpoint>,
-) {
-    let mut given = reference::start_checkpoint();
-    for serial in [999_900, 999_950, 1_000_000] {
-        let call = PageCall {
-            input,
-            assumed,
-            given,
-            serial,
-            before: vec![random.byte(); PAGE_SIZE + 5],
-        };
-        match compare_page(tally, &call) {
-            Some(next) => given = next,
-            None => break,
-        }
-        pool.push(given);
-    }
-    for _ in 0..3 {
-        let call = PageCall {
-            input,
-            assumed,
-            given: some_checkpoint(random, pool),
-            serial: some_serial(random),
-            before: vec![random.byte(); some_length(random, PAGE_SIZE)],
-        };
-        pool.extend(compare_page(tally, &call));
-    }
 }
 
 /// Judge, walk, list and page on one input under assumptions, with checkpoints of their own walk and, at times, those of a walk of another
@@ -252,48 +218,65 @@ fn list_and_models_give_exactly_all_models() {
     assert!(assuming > 200 && full > 50 && stripped > 50);
 }
 
+/// A formula of exactly 50 models, as many as a page has lines.
+const FULL_PAGE: &[u8] = &[1, 6, 3, 1, 2, 2, 2, 6, 4, 3, 1, 3, 4, 3, 5, 4, 5];
+
+/// Walks a formula page by page to its end, with each line under the next serial and with the iterator's next model. Gives how many lines
+/// each page has.
+fn page_by_page(input: &[u8], assumed: &Assumed, first: u32) -> Vec<usize> {
+    let mut models = Models::under(input, &assumed.list);
+    let mut checkpoint = Checkpoint::start();
+    let mut serial = first;
+    let mut lines = Vec::new();
+    loop {
+        let mut page = [0; PAGE_SIZE];
+        let paged =
+            norwythai::page(input, &assumed.list, &mut checkpoint, serial, &mut page).unwrap();
+        for line in page.chunks(LINE_SIZE).take(paged.lines) {
+            let model = models.next().unwrap().unwrap();
+            let digits = model.digits(input[1]).to_string();
+            let start = format!("{serial:>6} {digits:<48} ");
+            assert!(line.starts_with(start.as_bytes()), "{input:02x?}");
+            serial += 1;
+        }
+        lines.push(paged.lines);
+        if paged.is_last() {
+            break;
+        }
+    }
+    assert_eq!(models.next(), None, "{input:02x?}");
+    assert_eq!(checkpoint, models.checkpoint());
+    lines
+}
+
 #[test]
 fn pages_have_all_models_under_rising_serials() {
     let mut random = Random::new(4);
-    let (mut formulas, mut lines, mut last_blank) = (0, 0, 0);
+    let (mut formulas, mut lines) = (0, 0);
     while formulas < 300 {
         let input = some_accepted_formula(&mut random, is_accepted);
-        let variables = input[1];
-        if !(4..=10).contains(&variables) {
+        if !(4..=10).contains(&input[1]) {
             continue;
         }
         let assumed = some_accepted(&mut random, &input);
-        let mut models = Models::under(&input, &assumed.list);
-        let mut checkpoint = Checkpoint::start();
         let first = random.between(1, 990_000) as u32;
-        let mut serial = first;
-        loop {
-            let mut page = [0; PAGE_SIZE];
-            let paged =
-                norwythai::page(&input, &assumed.list, &mut checkpoint, serial, &mut page).unwrap();
-            for line in page.chunks(LINE_SIZE).take(paged.lines) {
-                let digits = models
-                    .next()
-                    .unwrap()
-                    .unwrap()
-                    .digits(variables)
-                    .to_string();
-                let start = format!("{serial:>6} {digits:<48} ");
-                assert!(line.starts_with(start.as_bytes()), "{input:02x?}");
-                serial += 1;
-            }
-            if paged.is_last() {
-                last_blank += usize::from(paged.lines == 0);
-                break;
-            }
-        }
-        assert_eq!(models.next(), None, "{input:02x?}");
-        assert_eq!(checkpoint, models.checkpoint());
+        lines += page_by_page(&input, &assumed, first).iter().sum::<usize>();
         formulas += 1;
-        lines += serial - first;
     }
-    println!("{lines} lines, {last_blank} blank pages at the end");
+    println!("{lines} lines");
     assert!(lines > 5_000);
+}
+
+#[test]
+fn behind_a_full_page_the_last_one_is_blank() {
+    for first in [1, 9_990, 999_900] {
+        let lines = page_by_page(FULL_PAGE, &Assumed::default(), first);
+        assert_eq!(lines, [50, 0]);
+    }
+    // Two more variables that are free: four full pages, and a blank one.
+    let free = [&[1, 8], &FULL_PAGE[2..]].concat();
+    let lines = page_by_page(&free, &Assumed::default(), 1);
+    assert_eq!(lines, [50, 50, 50, 50, 0]);
 }
 
 #[test]

@@ -1,94 +1,11 @@
 //! What a run has seen.
 
-use crate::acts::PageCall;
 use crate::assumed::Assumed;
-use crate::{is_accepted, is_accepted_under};
-use norwythai_reference::{decode, Answer, Checkpoint, Listed, Paged, Progress, Refusal, Size};
-use std::collections::BTreeMap;
+use crate::counts::{write_refusals, Outcomes, Refusals, Seen};
+use crate::is_accepted;
+use crate::pages::Pages;
+use norwythai_reference::{decode, Answer, Checkpoint, Listed, Progress, Refusal, Size};
 use std::fmt;
-
-/// Refusals by their numbers.
-type Refusals = [usize; 19];
-
-/// What the calls of an act came to.
-#[derive(Default)]
-pub struct Outcomes {
-    /// Calls that were not refused.
-    done: usize,
-    refusals: Refusals,
-}
-
-impl Outcomes {
-    pub fn count<T>(&mut self, answer: Result<T, Refusal>) {
-        match answer {
-            Ok(_) => self.done += 1,
-            Err(refusal) => self.refusals[usize::from(refusal.number)] += 1,
-        }
-    }
-
-    fn calls(&self) -> usize {
-        self.done + self.refusals.iter().sum::<usize>()
-    }
-
-    /// Fails if an answer was seen too seldom, or a refusal came that the act doesn't give.
-    fn require_enough(&self, act: &str, given: &[usize]) {
-        let calls = self.calls();
-        assert!(self.done >= calls / 4, "{act}: only {}", self.done);
-        for (number, seen) in self.refusals.iter().enumerate() {
-            if given.contains(&number) {
-                assert!(
-                    *seen >= calls / 1000,
-                    "{act}: refusal {number}: only {seen}"
-                );
-            } else {
-                assert_eq!(*seen, 0, "{act}: refusal {number}");
-            }
-        }
-    }
-}
-
-impl fmt::Display for Outcomes {
-    fn fmt(&self, f: &mut fmt::Formatter) -> fmt::Result {
-        write!(f, "{} (done {}, refused", self.calls(), self.done)?;
-        write_refusals(f, &self.refusals)?;
-        write!(f, ")")
-    }
-}
-
-/// Those that came, by number.
-fn write_refusals(f: &mut fmt::Formatter, refusals: &Refusals) -> fmt::Result {
-    let seen = refusals.iter().enumerate().filter(|(_, seen)| **seen > 0);
-    for (number, seen) in seen {
-        write!(f, " {number}: {seen}")?;
-    }
-    Ok(())
-}
-
-/// How often what was seen, in words.
-#[derive(Default)]
-struct Seen(BTreeMap<&'static str, usize>);
-
-impl Seen {
-    fn see(&mut self, what: &'static str, seen: bool) {
-        *self.0.entry(what).or_default() += usize::from(seen);
-    }
-
-    /// Fails if something is not seen once of so many calls at least, or something else is seen.
-    fn require_enough(&self, wanted: &[(&str, usize)], calls: usize) {
-        for (what, of) in wanted {
-            let seen = self.0.get(what).copied().unwrap_or(0);
-            assert!(seen > calls / of, "{what}: only {seen}");
-        }
-        assert_eq!(self.0.len(), wanted.len());
-    }
-}
-
-impl fmt::Display for Seen {
-    fn fmt(&self, f: &mut fmt::Formatter) -> fmt::Result {
-        let mut seen = self.0.iter();
-        seen.try_for_each(|(what, seen)| write!(f, "\n  {what}: {seen}"))
-    }
-}
 
 /// What must be seen under assumptions, and of how many calls under them once at least.
 const WANTED: [(&str, usize); 27] = [
@@ -377,106 +294,6 @@ impl fmt::Display for Stripped {
     }
 }
 
-/// What must be seen of page calls, and of how many once at least.
-const PAGES: [(&str, usize); 17] = [
-    ("full", 10),
-    ("with fewer lines", 20),
-    ("blank", 20),
-    ("from the start", 10),
-    ("from behind a model", 20),
-    ("from between two models", 50),
-    ("from the end", 50),
-    ("under assumptions", 10),
-    ("of a formula that is accepted by stripping", 50),
-    ("with a digit more in the last serial", 50),
-    ("with the highest serial", 20),
-    ("with bytes behind it", 10),
-    ("refused: serial 0", 100),
-    ("refused: a serial that is too high", 20),
-    ("refused: short, before a bad serial", 200),
-    ("refused: short, before what is wrong with the input", 50),
-    (
-        "refused: a bad serial, before what is wrong with the input",
-        50,
-    ),
-];
-
-/// What was seen of page calls.
-#[derive(Default)]
-pub struct Pages {
-    outcomes: Outcomes,
-    /// By the words of [`PAGES`].
-    seen: Seen,
-}
-
-impl Pages {
-    pub fn called(&mut self, call: &PageCall, paged: Result<Paged, Refusal>) {
-        self.outcomes.count(paged);
-        match paged {
-            Ok(paged) => self.filled(call, paged),
-            Err(refusal) => self.refused(call, refusal.number),
-        }
-    }
-
-    fn filled(&mut self, call: &PageCall, paged: Paged) {
-        let seen = &mut self.seen;
-        seen.see("full", paged.lines == 50);
-        seen.see("with fewer lines", (1..50).contains(&paged.lines));
-        seen.see("blank", paged.lines == 0);
-
-        let [mode, length, ..] = call.given;
-        let left = call.assumed.left_to_assign(call.input);
-        let behind_model = mode == 1 && left == Some(length.into());
-        let within = (1..=3).contains(&mode);
-        seen.see("from the start", mode == 0);
-        seen.see("from behind a model", behind_model);
-        seen.see("from between two models", within && !behind_model);
-        seen.see("from the end", mode == 4);
-        seen.see("under assumptions", !call.assumed.is_empty());
-        let stripped = call.assumed.drops_clauses(call.input);
-        seen.see("of a formula that is accepted by stripping", stripped);
-
-        let digits = |serial: u32| serial.to_string().len();
-        let more = digits(call.serial) < digits(call.serial + 49);
-        let full = paged.lines == 50;
-        seen.see("with a digit more in the last serial", full && more);
-        seen.see("with the highest serial", call.serial == 999_950);
-        seen.see("with bytes behind it", call.before.len() > 3_000);
-    }
-
-    fn refused(&mut self, call: &PageCall, number: u8) {
-        let seen = &mut self.seen;
-        let (short, bad) = (number == 17, number == 18);
-        let wrong = !is_accepted_under(call.input, &call.assumed.reference);
-        let bad_too = !(1..=999_950).contains(&call.serial);
-        seen.see("refused: serial 0", bad && call.serial == 0);
-        let high = bad && call.serial > 0;
-        seen.see("refused: a serial that is too high", high);
-        seen.see("refused: short, before a bad serial", short && bad_too);
-        seen.see(
-            "refused: short, before what is wrong with the input",
-            short && wrong,
-        );
-        seen.see(
-            "refused: a bad serial, before what is wrong with the input",
-            bad && wrong,
-        );
-    }
-
-    /// Fails if something was seen too seldom.
-    fn require_enough(&self) {
-        let given = [2, 3, 4, 5, 6, 7, 8, 9, 10, 11, 16, 17, 18];
-        self.outcomes.require_enough("page", &given);
-        self.seen.require_enough(&PAGES, self.outcomes.calls());
-    }
-}
-
-impl fmt::Display for Pages {
-    fn fmt(&self, f: &mut fmt::Formatter) -> fmt::Result {
-        write!(f, "{}{}", self.outcomes, self.seen)
-    }
-}
-
 /// The checkpoint of this mode at length 0.
 fn checkpoint(mode: u8) -> Checkpoint {
     let mut checkpoint = [0; 50];
@@ -532,7 +349,7 @@ impl Tally {
             + self.walks
             + self.chain_calls
             + self.lists
-            + self.pages.outcomes.calls()
+            + self.pages.calls()
             + self.from_dimacs.calls()
             + self.to_dimacs.calls()
             + self.wrong_lengths
@@ -577,7 +394,7 @@ impl Tally {
             ("walk", self.walks, calls / 5),
             ("chains", self.chain_calls, calls / 20),
             ("list", self.lists, calls / 20),
-            ("page", self.pages.outcomes.calls(), calls / 20),
+            ("page", self.pages.calls(), calls / 20),
             ("from_dimacs", self.from_dimacs.calls(), calls / 25),
             ("to_dimacs", self.to_dimacs.calls(), calls / 50),
             ("round trips", self.round_trips, calls / 100),

@@ -8,6 +8,7 @@
 //! calls. A comparison fails if some vector differs, or if there are none.
 
 mod compare;
+mod pages;
 mod values;
 mod write;
 

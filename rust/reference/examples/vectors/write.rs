@@ -1,14 +1,15 @@
 //! Writing vectors: what is given to an act, and what the reference answers.
 
+use crate::pages::some_page_lines;
 use crate::values::to_hex;
 use norwythai_reference::{
-    check, decode, from_dimacs, judge, page, print, start_checkpoint, to_dimacs, walk, write_text,
-    Answer, Assumption, Checkpoint, Paged, Progress, Refusal, Walker, FORMULA_BUFFER, LINE_SIZE,
-    LIST_BUDGET, PAGE_LINES, PAGE_SIZE, TEXT_BUFFER,
+    check, decode, from_dimacs, judge, print, start_checkpoint, to_dimacs, walk, write_text,
+    Answer, Assumption, Checkpoint, Progress, Refusal, Walker, FORMULA_BUFFER, LIST_BUDGET,
+    TEXT_BUFFER,
 };
 use norwythai_samples::{
     some_assignment, some_assumptions, some_budget, some_checkpoint, some_input, some_length,
-    some_serial, some_text, Random,
+    some_text, Random,
 };
 
 /// A longer input or printed walk takes much of a file of the corpus. Such an input is given to fewer calls, and such a walk is
@@ -19,16 +20,12 @@ const ONE_LONG_OF: usize = 16;
 /// A listing of more models is not written.
 const MOST_LISTED: usize = 32;
 
-/// Pages take much of a file, too: so many of a hundred walks are written page after page, and at most so many pages of one.
-const IN_PAGES: usize = 4;
-const MOST_PAGES: u32 = 3;
-
 /// A line of an act, with the fields that follow.
-fn line(act: &str, from: &str, fields: &str) -> String {
+pub fn line(act: &str, from: &str, fields: &str) -> String {
     format!("{{\"act\": \"{act}\", \"from\": \"{from}\", {fields}}}")
 }
 
-fn refusal_text(refusal: Option<Refusal>) -> String {
+pub fn refusal_text(refusal: Option<Refusal>) -> String {
     match refusal {
         None => "null".to_string(),
         Some(Refusal { number, place }) => format!("[{number}, {place}]"),
@@ -56,7 +53,7 @@ fn check_line(from: &str, input: &[u8], assignment: u64) -> String {
 }
 
 /// The first fields of an act on a formula with assumptions.
-fn given_text(input: &[u8], assumptions: &[Assumption]) -> String {
+pub fn given_text(input: &[u8], assumptions: &[Assumption]) -> String {
     let pairs: Vec<String> = assumptions
         .iter()
         .map(|assumption| format!("[{}, {}]", assumption.variable, u8::from(assumption.value)))
@@ -182,91 +179,6 @@ fn listing_line(from: &str, input: &[u8], assumptions: &[Assumption]) -> Option<
     }
 }
 
-/// What a page call gets beside the formula: the checkpoint, the first serial, and the length and the fill of the lent page.
-struct PageRequest {
-    given: Checkpoint,
-    serial: u32,
-    length: usize,
-    fill: u8,
-}
-
-/// A page call: the line, and what the call gives.
-fn page_line(
-    from: &str,
-    input: &[u8],
-    assumptions: &[Assumption],
-    request: PageRequest,
-) -> (String, Result<Paged, Refusal>) {
-    let PageRequest {
-        given,
-        serial,
-        length,
-        fill,
-    } = request;
-    let mut lent = vec![fill; length];
-    let found = page(input, assumptions, &given, serial, &mut lent);
-    let (lines, returned) = found.map_or((0, given), |paged| (paged.lines, paged.checkpoint));
-    let written: Vec<String> = lent
-        .chunks(LINE_SIZE)
-        .take(lines)
-        .map(|line| format!("\"{}\"", String::from_utf8_lossy(&line[..LINE_SIZE - 1])))
-        .collect();
-    let fields = format!(
-        "{}, \"marker\": \"{}\", \"serial\": {serial}, \"page_len\": {length}, \"page_fill\": {fill}, \
-         \"refusal\": {}, \"marker_out\": \"{}\", \"lines\": {lines}, \"page\": [{}]",
-        given_text(input, assumptions),
-        to_hex(&given),
-        refusal_text(found.err()),
-        to_hex(&returned),
-        written.join(", "),
-    );
-    (line("page", from, &fields), found)
-}
-
-/// A page call from a checkpoint, with some serial and a lent page of some length.
-fn some_page_line(
-    from: &str,
-    random: &mut Random,
-    input: &[u8],
-    assumptions: &[Assumption],
-    given: Checkpoint,
-) -> String {
-    let request = PageRequest {
-        given,
-        serial: some_serial(random),
-        length: some_length(random, PAGE_SIZE),
-        fill: random.byte(),
-    };
-    page_line(from, input, assumptions, request).0
-}
-
-/// Pages one after the other from the start, with serials that go on, to the end or to a serial that is too high.
-fn page_lines(
-    from: &str,
-    random: &mut Random,
-    input: &[u8],
-    assumptions: &[Assumption],
-) -> Vec<String> {
-    let mut lines = Vec::new();
-    let mut given = start_checkpoint();
-    let first = random.pick(&[1, 9_951, 999_900]);
-    for pages in 0..MOST_PAGES {
-        let request = PageRequest {
-            given,
-            serial: first + pages * PAGE_LINES as u32,
-            length: PAGE_SIZE + random.below(6),
-            fill: random.byte(),
-        };
-        let (line, found) = page_line(from, input, assumptions, request);
-        lines.push(line);
-        match found {
-            Ok(paged) if paged.lines == PAGE_LINES => given = paged.checkpoint,
-            _ => break,
-        }
-    }
-    lines
-}
-
 fn printed_line(from: &str, input: &[u8], text: &str) -> String {
     let fields = format!(
         "\"stdin\": \"{}\", \"stdout\": \"{}\"",
@@ -361,15 +273,7 @@ fn assuming_lines(
         let budget = some_budget(random);
         lines.push(walk_line(from, input, assumptions, &given, budget));
     }
-    let given = if random.percent(40) {
-        start_checkpoint()
-    } else {
-        some_checkpoint(random, known)
-    };
-    lines.push(some_page_line(from, random, input, assumptions, given));
-    if random.percent(IN_PAGES) {
-        lines.extend(page_lines(from, random, input, assumptions));
-    }
+    lines.extend(some_page_lines(from, random, input, assumptions, known));
     lines
 }
 
@@ -431,13 +335,13 @@ pub fn generated_vectors(seed: u64, count: usize) -> Vec<String> {
 }
 
 #[cfg(test)]
-mod tests {
+pub mod tests {
     use super::*;
     use crate::compare::{compare_line, field};
     use crate::values::{from_hex, number};
 
     /// The specification's example, S12.3: clauses (1, 2) and (not 1, not 2).
-    const EXAMPLE: &[u8] = &[1, 2, 2, 1, 2, 2, 4, 3, 1, 3, 2, 4, 5];
+    pub const EXAMPLE: &[u8] = &[1, 2, 2, 1, 2, 2, 4, 3, 1, 3, 2, 4, 5];
 
     #[test]
     fn lines_of_the_example() {
@@ -498,76 +402,9 @@ mod tests {
     }
 
     /// The lines that have all these words.
-    fn count_with(lines: &[String], words: &[&str]) -> usize {
+    pub fn count_with(lines: &[String], words: &[&str]) -> usize {
         let has_all = |line: &&String| words.iter().all(|word| line.contains(word));
         lines.iter().filter(has_all).count()
-    }
-
-    /// A page call on the example from the start.
-    fn example_page(serial: u32, length: usize) -> String {
-        let request = PageRequest {
-            given: start_checkpoint(),
-            serial,
-            length,
-            fill: 9,
-        };
-        page_line("edge", EXAMPLE, &[], request).0
-    }
-
-    #[test]
-    fn lines_of_pages() {
-        let start = to_hex(&start_checkpoint());
-        let given = format!(
-            "{{\"act\": \"page\", \"from\": \"edge\", \"sheet\": \"01020201020204030103020405\", \"fixings\": [], \
-             \"marker\": \"{start}\""
-        );
-        let columns = " ".repeat(46);
-        assert_eq!(
-            example_page(9, 3_005),
-            format!(
-                "{given}, \"serial\": 9, \"page_len\": 3005, \"page_fill\": 9, \"refusal\": null, \
-                 \"marker_out\": \"04{}\", \"lines\": 2, \
-                 \"page\": [\"     9 01{columns}   2\", \"    10 10{columns}   4\"]}}",
-                &start[2..]
-            )
-        );
-        assert_eq!(
-            example_page(0, 3_000),
-            format!(
-                "{given}, \"serial\": 0, \"page_len\": 3000, \"page_fill\": 9, \"refusal\": [18, 0], \
-                 \"marker_out\": \"{start}\", \"lines\": 0, \"page\": []}}"
-            )
-        );
-    }
-
-    #[test]
-    fn pages_of_all_kinds_are_written() {
-        let lines = generated_vectors(1, 300);
-        let count = |words: &[&str]| count_with(&lines, words);
-        let page = "\"act\": \"page\"";
-        for refusal in [2, 10, 11, 16, 17, 18] {
-            let refusal = format!("\"refusal\": [{refusal}, ");
-            assert!(count(&[page, &refusal]) >= 5, "{refusal}");
-        }
-        let wanted = [
-            // full, and with fewer lines
-            "\"lines\": 50,",
-            "\"lines\": 1,",
-            // serials and lengths at their limits
-            "\"serial\": 0,",
-            "\"serial\": 999950,",
-            "\"serial\": 999951,",
-            "\"page_len\": 2999,",
-            "\"page_len\": 3005,",
-            // from within the walk, and the second page of one from the start
-            "\"marker\": \"02",
-            "\"serial\": 51,",
-        ];
-        for words in wanted {
-            assert!(count(&[page, words]) > 0, "{words}");
-        }
-        let blank = [page, "\"refusal\": null", "\"lines\": 0,"];
-        assert!(count(&blank) > 0);
     }
 
     #[test]
@@ -674,29 +511,5 @@ mod tests {
         assert_eq!(compare_line(&right), Ok(()));
         assert!(compare_line(&right.replace("010205", "010204")).is_err());
         assert!(compare_line(&right.replace("null", "[15, 8]")).is_err());
-    }
-
-    #[test]
-    fn a_wrong_page_is_found() {
-        let (filled, refused) = (example_page(9, 3_000), example_page(0, 3_000));
-        for right in [&filled, &refused] {
-            assert_eq!(compare_line(right), Ok(()));
-        }
-        for (right, part, wrong) in [
-            (&filled, "9 01", "9 10"),
-            (&filled, "    10", "    11"),
-            (&filled, "   4\"", "   2\""),
-            (&filled, "\"     9", "\"    9"),
-            (&filled, "\"lines\": 2", "\"lines\": 1"),
-            (&filled, "\"marker_out\": \"04", "\"marker_out\": \"01"),
-            (&filled, "\"page_len\": 3000", "\"page_len\": 2999"),
-            (&filled, "null", "[18, 0]"),
-            (&refused, "[18, 0]", "[17, 0]"),
-            (&refused, "[18, 0]", "null"),
-            (&refused, "\"marker_out\": \"00", "\"marker_out\": \"04"),
-        ] {
-            let line = right.replace(part, wrong);
-            assert!(line != *right && compare_line(&line).is_err(), "{line}");
-        }
     }
 }
