@@ -1,14 +1,16 @@
--- S19.1: every line of a page has 60 bytes.
-use Prim.Native.Nat.{ℕ, _+_, _-_, _≤_, _<_}
+-- S19.1: every line of a page has 60 bytes, and is the part that was lent for it.
+use Prim.Native.Nat.{ℕ, _+_, _*_, _-_, _≤_, _<_}
 use mathlib.Core.List.{List, [], _∷_, _++_, append-assoc}
-use mathlib.Core.Path.{_≡_, _∙_}
+use mathlib.Core.Path.{_≡_, ap, _∙_}
 use native.Mathlib.Omega.{arith}
-use lib.ListN.{length, length-append}
+use lib.ListN.{length, take, drop, length-append}
 use Rattle.limits.specs.Limits.{max-variables}
 use Rattle.lists.proofs.TabulatedLaws.{length-tabulated}
+use Rattle.writing.specs.Placed.{placed}
 use Rattle.writing.specs.Text.{line-feed, blank, decimal, digit, digits, line-of, blanks, right}
 use Rattle.writing.proofs.BlankLaws.{blanks-length, right-length}
 use Rattle.writing.proofs.DecimalLaws.{decimal-length}
+use Rattle.writing.proofs.PlacedLaws.{placed-part}
 use Rattle.page.specs.PageLines.{line-size, serial-width, steps-width, columns, page-line, blank-line}
 
 -- the words of a line are as wide as their columns
@@ -45,3 +47,11 @@ page-line-length serial n a steps hs hn ht =
 pub blank-length : length blank-line ≡ line-size
 unfolding blank-line
 blank-length = length-append (blanks (line-size - 1)) (line-feed ∷ []) ∙ (let b = blanks-length (line-size - 1) in omega arith)
+
+-- the part of a page that is lent for line i, and comes back as t
+pub line-lent : (i : ℕ) (page t line : List ℕ) → t ≡ line → length line ≡ line-size
+    → (let from = line-size * i in take from page ++ (t ++ drop (from + line-size - from) (drop from page)) ≡ placed from line page)
+line-lent i page t line e l =
+    let from = line-size * i in
+    let k : length t ≡ from + line-size - from = ap length e ∙ l ∙ omega arith in
+    placed-part from (from + line-size - from) t page k ∙ ap (λ (x : List ℕ). placed from x page) e

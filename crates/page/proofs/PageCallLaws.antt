@@ -172,27 +172,34 @@ module _ (s : List ℕ) (us : List Assumption) (c : Checkpoint) (serial : ℕ) (
       (λ room some most q e. absurd (omega (arith, call-number s us c ample-budget .0 q)))
       (λ room some most q e. (most, refl))
 
+-- the same answer, and the same checkpoint
+abbrev Alike : PageCall → PageCall → Type 0
+Alike p q = (p .answer ≡ q .answer) × (p .checkpoint ≡ q .checkpoint)
+
+-- of two pages one is short, or has a bad serial, if the other is and has
+calls-alike : (s : List ℕ) (us : List Assumption) (c : Checkpoint) (serial other : ℕ) (before lent : List ℕ)
+    → (length before < page-size → length lent < page-size)
+    → (page-size ≤ length before → (serial ≡ 0) ⊎ (max-serial < serial) → (page-size ≤ length lent) × ((other ≡ 0) ⊎ (max-serial < other)))
+    → (page-size ≤ length before → 0 < serial → serial ≤ max-serial → (page-size ≤ length lent) × (0 < other) × (other ≤ max-serial))
+    → Alike (page-call s us c serial before) (page-call s us c other lent)
+calls-alike s us c serial other before lent f g h =
+    by-answer s us c serial before (λ p. Alike p (page-call s us c other lent))
+    (λ l. rw (short-refused s us c other lent (f l)) (refl, refl))
+    (λ room q. let w = g room q in rw (bad-refused s us c other lent (w .0) (w .1)) (refl, refl))
+    (λ room some most q. let w = h room some most in rw (walk-refused s us c other lent (w .0) (w .1) (w .2) q) (refl, refl))
+    (λ room some most q. let w = h room some most in rw (unrefused-filled s us c other lent (w .0) (w .1) (w .2) q) (refl, refl))
+
 -- the answer and the checkpoint are the same for all serials that are not bad
 pub serials-alike : (s : List ℕ) (us : List Assumption) (c : Checkpoint) (serial other : ℕ) (before : List ℕ) → 0 < serial → serial ≤ max-serial → 0 < other → other ≤ max-serial
-    → (page-call s us c serial before .answer ≡ page-call s us c other before .answer) × (page-call s us c serial before .checkpoint ≡ page-call s us c other before .checkpoint)
+    → Alike (page-call s us c serial before) (page-call s us c other before)
 serials-alike s us c serial other before a b d e =
-    by-answer s us c serial before
-    (λ p. (p .answer ≡ page-call s us c other before .answer) × (p .checkpoint ≡ page-call s us c other before .checkpoint))
-    (λ h. rw (short-refused s us c other before h) (refl, refl))
-    (λ room q. serial-clash q a b)
-    (λ room some most q. rw (walk-refused s us c other before room d e q) (refl, refl))
-    (λ room some most q. rw (unrefused-filled s us c other before room d e q) (refl, refl))
+    calls-alike s us c serial other before before (λ l. l) (λ room q. serial-clash q a b) (λ room some most. (room, d, e))
 
 -- what was lent says nothing of the answer and of the checkpoint, if it is not short;
 pub lent-alike : (s : List ℕ) (us : List Assumption) (c : Checkpoint) (serial : ℕ) (before other : List ℕ) → page-size ≤ length before → page-size ≤ length other
-    → (page-call s us c serial before .answer ≡ page-call s us c serial other .answer) × (page-call s us c serial before .checkpoint ≡ page-call s us c serial other .checkpoint)
+    → Alike (page-call s us c serial before) (page-call s us c serial other)
 lent-alike s us c serial before other l k =
-    by-answer s us c serial before
-    (λ p. (p .answer ≡ page-call s us c serial other .answer) × (p .checkpoint ≡ page-call s us c serial other .checkpoint))
-    (λ h. absurd (omega arith))
-    (λ room q. rw (bad-refused s us c serial other k q) (refl, refl))
-    (λ room some most q. rw (walk-refused s us c serial other k some most q) (refl, refl))
-    (λ room some most q. rw (unrefused-filled s us c serial other k some most q) (refl, refl))
+    calls-alike s us c serial serial before other (λ h. absurd (omega arith)) (λ room q. (k, q)) (λ room some most. (k, some, most))
 
 -- and if it is just 3,000 bytes, the lines are all of it
 pub lent-whole : (s : List ℕ) (us : List Assumption) (c : Checkpoint) (serial : ℕ) (before : List ℕ) → length before ≡ page-size → page-call s us c serial before .answer .number ≡ 0

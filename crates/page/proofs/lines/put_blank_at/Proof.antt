@@ -1,14 +1,6 @@
 -- `page::lines::put_blank_at` meets its contract: the part that is lent comes back as a blank line.
 use borrow.Author.Needs.{needs}
-use native.Mathlib.Omega.{arith}
-use Prim.Native.Nat.{ℕ, _+_, _*_, _-_}
-use mathlib.Core.List.{List}
-use mathlib.Core.Path.{_≡_, ap, _∙_}
-use lib.ListN.{length}
-use Rattle.writing.specs.Placed.{placed}
-use Rattle.writing.proofs.PlacedLaws.{placed-part}
-use Rattle.page.specs.PageLines.{line-size}
-use Rattle.page.proofs.LineLaws.{blank-length}
+use Rattle.page.proofs.LineLaws.{blank-length, line-lent}
 use Rattle.page.proofs.lines.put_blank_at.Statement.{statement}
 use Rattle.page.proofs.lines.put_blank_at.Tie as tie
 
@@ -37,12 +29,7 @@ returns : tie.Need-returns
 returns c =
     let blank = c .before .before in
     let s = blank .before .before .before in
-    let start = line-size * s .args .i in
-    let e = blank .put-blank .ensures in
-    let t = blank .put-blank .last .0 in
-    let k : length t ≡ start + line-size - start = ap length e ∙ blank-length ∙ omega arith in
-    placed-part start (start + line-size - start) t (s .args .page .now) k
-    ∙ ap (λ (l : List ℕ). placed start l (s .args .page .now)) e
+    line-lent (s .args .i) (s .args .page .now) (blank .put-blank .last .0) _ (blank .put-blank .ensures) blank-length
 
 pub put-blank-at-spec : {M : Type 1} → statement M
 put-blank-at-spec =
