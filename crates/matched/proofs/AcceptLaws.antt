@@ -56,9 +56,10 @@ use Rattle.matched.specs.Acceptance.{Acceptance, accepted, declined, Dro
 use Rattle.matched.specs.InnerAccept.{outcome-of, row-of, HasClauses, raised, assigned-by, refused-row, Represents, Takes, Decides}
 use Rattle.matched.specs.InnerSpread.{bytes-at, NotesFit, first-in, told-byte, told-bytes}
 use Rattle.matched.specs.Pairing.{noted-of, left-of}
-use Rattle.matched.proofs.AcceptanceLaws.{remaining-sized, accepted-is, bad-declined, unreadable-declined}
+use Rattle.matched.proofs.AcceptanceLaws.{accepted-is, bad-declined, unreadable-declined}
 use Rattle.matched.proofs.PairingLaws.{masks-words}
 use Rattle.matched.proofs.DroppedLaws.{drops, first-dropped, same-asks, whole-zeros, trail-drops, stripped-zeros}
+use Rattle.matched.proofs.SizedLaws.{remaining-sized}
 use Rattle.matched.proofs.SpreadLaws.{answered, asking, asking-same, array-at, spread-length, spread-byte, spread-bytes}
 
 -- ---- what the contract says

@@ -4,11 +4,8 @@ use Prim.Native.Nat.{ℕ, suc, _≤_}
 use mathlib.Core.List.{List, [], map}
 use mathlib.Core.Path.{_≡_, refl, ap, _∙_}
 use native.Mathlib.Omega.{arith}
-use lib.ListN.{length, length-map}
+use lib.ListN.{length}
 use Rattle.limits.specs.Limits.{max-clauses}
-use Rattle.lists.proofs.EveryLaws.{every-element, every-of}
-use Rattle.lists.proofs.SublistLaws.{sub-length, sub-within}
-use Rattle.masks.specs.Mask.{size}
 use Rattle.formula.specs.declared.Refusal.{Refusal}
 use Rattle.formula.specs.declared.Refusal.the-variants.{Unmatched, BadAssumption}
 use Rattle.formula.specs.InnerDecode.{decode}
@@ -21,42 +18,19 @@ use Rattle.assumptions.specs.declared.Assumption.{Assumption}
 use Rattle.assumptions.specs.Assumed.{Assumed, literals, bad, literal-of, assumed}
 use Rattle.assumptions.specs.FirstBad.{NoneBad, FirstBad}
 use Rattle.assumptions.proofs.Demands.{bad-exactly, literals-exactly, none-bad-literals, literals-are, literals-over}
-use Rattle.matching.specs.Sets.{union}
-use Rattle.matching.specs.Search.{Outcome, success, failure, outcome, marks}
-use Rattle.matching.proofs.MatchedLaws.{length-marks, marks-le}
-use Rattle.matching.proofs.Theorems.{success-matches, failure-unmatched, failure-tight, failure-marked}
+use Rattle.matching.specs.Search.{Outcome, success, failure, outcome}
+use Rattle.matching.proofs.Theorems.{success-matches, failure-unmatched}
 use Rattle.splitting.specs.Nodes.{remaining}
 use Rattle.splitting.specs.Stripping.{stripped}
 use Rattle.splitting.specs.Terms.{Sound}
-use Rattle.splitting.proofs.NodeLaws.{length-remaining}
-use Rattle.splitting.proofs.SatisfiedLaws.{remaining-over}
-use Rattle.splitting.proofs.Theorems.{left-sub-list, matched-sound}
-use Rattle.matched.specs.Acceptance.{Acceptance, accepted, declined, whole-byte, marked-byte, stripped-byte, spread, by-left-outcome, by-outcome, formula-acceptance, by-assumed, by-decoding, acceptance}
+use Rattle.splitting.proofs.Theorems.{matched-sound}
+use Rattle.matched.specs.Acceptance.{Acceptance, accepted, declined, whole-byte, stripped-byte, spread, by-left-outcome, by-outcome, formula-acceptance, by-assumed, by-decoding, acceptance}
 use Rattle.matched.specs.InnerAccept.{row-of}
 use Rattle.matched.specs.Pairing.{Pairs, noted-of, left-of, Pairable, Walkable, Violator, marked}
 use Rattle.matched.proofs.PairingLaws.{masks-words, matches-pairs, pairs-matches}
+use Rattle.matched.proofs.SizedLaws.{remaining-sized, left-sized}
 use Rattle.matched.proofs.SpreadLaws.{spread-length}
-
--- what remains of a formula's clauses is as small,
-pub remaining-sized : {n : ℕ} {cs : List (List Literal)} (t : List Literal) → Sized n cs → Sized n (remaining t cs)
-remaining-sized {n} {cs} t z = record {
-  some = z .some;
-  most = z .most;
-  few = omega (arith, length-remaining t cs, z .few);
-  clauses = remaining-over n t cs (z .clauses);
-}
-
--- and so is what stripping leaves of it
-pub left-sized : {n : ℕ} {cs : List (List Literal)} (t : List Literal) → Sized n cs → Sized n (left-of n t cs)
-left-sized {n} {cs} t z =
-    let r = remaining-sized t z in
-    let s = left-sub-list n (remaining t cs) in
-    record {
-      some = z .some;
-      most = z .most;
-      few = omega (arith, sub-length s, r .few);
-      clauses = every-of (ClauseOver n) (left-of n t cs) (λ c m. every-element (ClauseOver n) (remaining t cs) c (r .clauses) (sub-within s c m));
-    }
+use Rattle.matched.proofs.ViolatorLaws.{clauses-strip, taken-row, taken-violator, taken-many}
 
 -- a pairing of what remains pairs what stripping leaves,
 pairs-left : (n : ℕ) (t : List Literal) (cs : List (List Literal)) (vs : List ℕ) → Pairs (remaining t cs) vs → (ws : List ℕ) × Pairs (left-of n t cs) ws
@@ -74,30 +48,21 @@ left-sound n t cs vs p = (vs, pairs-matches (left-of n t cs) vs p)
 paired-by : {n : ℕ} {cs : List (List Literal)} (z : Sized n cs) (vs : List ℕ) (e : ℕ) → outcome (map variables cs) ≡ success vs e → Pairs cs vs
 paired-by {n} {cs} z vs e p = matches-pairs cs vs (success-matches (map variables cs) vs e (masks-words z) p)
 
--- or none, and the taken ones are a violator
+-- or none
 pub none-by : {n : ℕ} {cs : List (List Literal)} (z : Sized n cs) (taken : List ℕ) (e : ℕ) → outcome (map variables cs) ≡ failure taken e → (vs : List ℕ) → Pairs cs vs → ⊥
 none-by {n} {cs} z taken e p vs w = failure-unmatched (map variables cs) taken e (masks-words z) p (vs, pairs-matches cs vs w)
 
-marked-by : {n : ℕ} {cs : List (List Literal)} (z : Sized n cs) (taken : List ℕ) (e : ℕ) → outcome (map variables cs) ≡ failure taken e
-    → Violator cs (marks (length cs) taken) × (length (marked (marks (length cs) taken) cs) ≡ length taken)
-marked-by {n} {cs} z taken e p =
-    let m : length (map variables cs) ≡ length cs = length-map cs variables in
-    let ms = marks (length cs) taken in
-    let count : length (marked ms cs) ≡ length taken = rw m at (failure-marked (map variables cs) taken e (masks-words z) p) in
-    let tight : suc (size (union (marked ms cs))) ≡ length (marked ms cs) = rw m at (failure-tight (map variables cs) taken e (masks-words z) p) in
-    (record { one-each = length-marks (length cs) taken; low = λ i h. marks-le (length cs) taken i h; fewer = tight }, count)
-
 -- ---- a formula under assumptions
 
--- The cases of what comes of it: a pairing of what remains; one of what stripping leaves of it; or the marks of a violator of that.
+-- The cases of what comes of it: a pairing of what remains; one of what stripping leaves of it; or the marks of a violator.
 pub data FormulaComes (n : ℕ) (t : List Literal) (cs : List (List Literal)) : Acceptance → Type 0 where
   paired : (vs : List ℕ) → Pairs (remaining t cs) vs → FormulaComes n t cs (accepted n t cs (spread (whole-byte t) cs (map suc vs)))
   strips : (vs : List ℕ) → ((ws : List ℕ) → Pairs (remaining t cs) ws → ⊥) → Pairs (left-of n t cs) vs
       → FormulaComes n t cs (accepted n t cs (spread (stripped-byte t (noted-of n t cs)) cs (map suc vs)))
-  unpaired : (ms : List ℕ) → Violator (left-of n t cs) ms → ((vs : List ℕ) → Pairs (left-of n t cs) vs → ⊥)
-      → FormulaComes n t cs (declined (Unmatched (length (marked ms (left-of n t cs)))) (spread (marked-byte t (noted-of n t cs)) cs ms))
+  unpaired : (ms : List ℕ) → Violator n t cs ms → ((vs : List ℕ) → Pairs (left-of n t cs) vs → ⊥)
+      → FormulaComes n t cs (declined (Unmatched (length (marked ms cs))) ms)
 
-module _ (n : ℕ) (t : List Literal) (cs : List (List Literal)) (z : Sized n cs) where
+module _ (n : ℕ) (t : List Literal) (cs : List (List Literal)) (z : Sized n cs) (over : ClauseOver n t) where
   formula-comes : FormulaComes n t cs (formula-acceptance n t cs)
   formula-comes = at (outcome (map variables (remaining t cs))) refl
     where
@@ -105,8 +70,8 @@ module _ (n : ℕ) (t : List Literal) (cs : List (List Literal)) (z : Sized n cs
           → FormulaComes n t cs (by-left-outcome n t cs (stripped n (remaining t cs)) o)
       strip none (success vs e) p = strips vs none (paired-by (left-sized t z) vs e p)
       strip none (failure taken e) p =
-          let v = marked-by (left-sized t z) taken e p in
-          rw (← (v .1)) (unpaired (marks (length (left-of n t cs)) taken) (v .0) (none-by (left-sized t z) taken e p))
+          let w = clauses-strip z over in
+          rw (← (taken-many z w taken e p)) (unpaired (taken-row n t cs taken) (taken-violator z w taken e p) (none-by (left-sized t z) taken e p))
 
       at : (o : Outcome) → outcome (map variables (remaining t cs)) ≡ o → FormulaComes n t cs (by-outcome n t cs o)
       at (success vs e) p = paired vs (paired-by (remaining-sized t z) vs e p)
@@ -135,7 +100,7 @@ module _ (s : List ℕ) (us : List Assumption) where
   comes = by (decode s) refl
     where
       under : (n : ℕ) (cs : List (List Literal)) → decode s ≡ readable n cs → (x : Assumed) → assumed n us ≡ x → Comes s us (by-assumed n cs x)
-      under n cs reads (literals t) assumes = of-formula n t cs reads assumes (formula-comes n t cs (accepted-fits s n cs reads))
+      under n cs reads (literals t) assumes = of-formula n t cs reads assumes (formula-comes n t cs (accepted-fits s n cs reads) (literals-over n us t assumes))
       under n cs reads (bad i) assumes = bad-assumed n cs i reads assumes
 
       by : (d : Decoding) → decode s ≡ d → Comes s us (by-decoding d us)
@@ -168,7 +133,7 @@ module _ (s : List ℕ) (us : List Assumption) where
     read-acceptance = rw (reads, assumes)
 
     formula-case : FormulaComes n t cs (formula-acceptance n t cs)
-    formula-case = formula-comes n t cs (accepted-fits s n cs reads)
+    formula-case = formula-comes n t cs (accepted-fits s n cs reads) (literals-over n us t assumes)
 
     -- what remains can be paired: accepted, with such a pairing
     pub whole-accepted : (vs : List ℕ) → Pairs (remaining t cs) vs
@@ -203,13 +168,11 @@ module _ (s : List ℕ) (us : List Assumption) where
 
     -- what stripping leaves can't be paired: declined by 10, and the marks are a violator
     pub unpaired-declined : ((vs : List ℕ) → Pairs (left-of n t cs) vs → ⊥)
-        → (ms : List ℕ) × Violator (left-of n t cs) ms
-        × (acceptance s us ≡ declined (Unmatched (length (marked ms (left-of n t cs)))) (spread (marked-byte t (noted-of n t cs)) cs ms))
+        → (ms : List ℕ) × Violator n t cs ms × (acceptance s us ≡ declined (Unmatched (length (marked ms cs))) ms)
     unpaired-declined none = by formula-case read-acceptance
       where
         by : {a : Acceptance} → FormulaComes n t cs a → acceptance s us ≡ a
-            → (ms : List ℕ) × Violator (left-of n t cs) ms
-            × (acceptance s us ≡ declined (Unmatched (length (marked ms (left-of n t cs)))) (spread (marked-byte t (noted-of n t cs)) cs ms))
+            → (ms : List ℕ) × Violator n t cs ms × (acceptance s us ≡ declined (Unmatched (length (marked ms cs))) ms)
         by (paired vs w) e = let x = pairs-left n t cs vs w in absurd (none (x .0) (x .1))
         by (strips vs _ w) e = absurd (none vs w)
         by (unpaired ms v _) e = (ms, v, e)
@@ -255,7 +218,7 @@ module _ (s : List ℕ) (us : List Assumption) where
       by : {a : Acceptance} → Comes s us a → a ≡ declined r row → (2 ≤ table-row r .number) × (table-row r .number ≤ 16)
       by (of-formula n t cs reads assumes (paired vs w)) q = let z : _≡_ {A = ℕ} 0 1 = cc in absurd (omega arith)
       by (of-formula n t cs reads assumes (strips vs none w)) q = let z : _≡_ {A = ℕ} 0 1 = cc in absurd (omega arith)
-      by (of-formula n t cs reads assumes (unpaired ms v none)) q = let e : Unmatched (length (marked ms (left-of n t cs))) ≡ r = cc in rw (← e) (omega arith)
+      by (of-formula n t cs reads assumes (unpaired ms v none)) q = let e : Unmatched (length (marked ms cs)) ≡ r = cc in rw (← e) (omega arith)
       by (bad-assumed n cs i reads assumes) q = let e : BadAssumption i ≡ r = cc in rw (← e) (omega arith)
       by (unreadable t reads) q = let e : t ≡ r = cc in rw (← e) (omega (arith, numbers s t reads))
 
@@ -282,7 +245,7 @@ module _ (s : List ℕ) (us : List Assumption) where
       by (of-formula n t cs reads assumes (paired vs w)) e = let z : _≡_ {A = ℕ} 0 1 = cc in absurd (omega arith)
       by (of-formula n t cs reads assumes (strips vs none w)) e = let z : _≡_ {A = ℕ} 0 1 = cc in absurd (omega arith)
       by (of-formula n t cs reads assumes (unpaired ms v none)) e =
-          let z : Unmatched (length (marked ms (left-of n t cs))) ≡ r = cc in absurd (omega (arith, rw (← z) at q))
+          let z : Unmatched (length (marked ms cs)) ≡ r = cc in absurd (omega (arith, rw (← z) at q))
       by (bad-assumed n cs j reads assumes) e =
           let z : BadAssumption j ≡ r = cc in (n, cs, accepted-only s n cs reads, bad-exactly n us i .0 (assumes ∙ ap bad (rw (← z) at p)))
       by (unreadable k reads) e = let z : k ≡ r = cc in absurd (omega (arith, numbers s k reads .1, rw (← z) at q))
@@ -296,6 +259,6 @@ module _ (s : List ℕ) (us : List Assumption) where
       by (of-formula n t cs reads assumes (strips vs none w)) =
           omega (arith, spread-length (stripped-byte t (noted-of n t cs)) cs (map suc vs), accepted-fits s n cs reads .few)
       by (of-formula n t cs reads assumes (unpaired ms v none)) =
-          omega (arith, spread-length (marked-byte t (noted-of n t cs)) cs ms, accepted-fits s n cs reads .few)
+          omega (arith, v .one-each, accepted-fits s n cs reads .few)
       by (bad-assumed n cs i reads assumes) = omega arith
       by (unreadable r e) = omega arith

@@ -1,9 +1,9 @@
--- What judge owes to the demands (S10), under assumptions (S17), with stripping (S18). Demand 1: a short buffer is refused first, a bad
--- assumption behind the reader's refusals, and every byte of the buffer is fixed. Demand 2: a formula is accepted exactly if what stripping
--- leaves of what remains is matched; if it is not, a violator is shown.
-use Prim.Native.Nat.{ℕ, suc, _≤_, _<_}
+-- What judge owes to the demands (S10), under assumptions (S17), with stripping (S18), and of its marks (S20). Demand 1: a short buffer is
+-- refused first, a bad assumption behind the reader's refusals, and every byte of the buffer is fixed. Demand 2: a formula is accepted
+-- exactly if what stripping leaves of what remains is matched; if it is not, a violator is shown, none of whose clauses could be spared.
+use Prim.Native.Nat.{ℕ, suc, _-_, _≤_, _<_}
 use mathlib.Core.Bool.{true, false, cond, not, _&&_}
-use mathlib.Core.List.{List, [], _∷_, _++_, map, List·Memᴰ}
+use mathlib.Core.List.{List, [], _∷_, _++_, map, List·Memᴰ, Sublistᴰ}
 use mathlib.Core.Logic.{_↔_}
 use mathlib.Core.Path.{_≡_, ap, _∙_}
 use native.Mathlib.Omega.{arith}
@@ -11,6 +11,7 @@ use lib.Dec.{ltb}
 use lib.ListN.{length}
 use Rattle.limits.specs.Limits.{max-clauses}
 use Rattle.lists.specs.Over.{over}
+use Rattle.masks.specs.Mask.{size}
 use Rattle.formula.specs.declared.Refusal.{Refusal}
 use Rattle.formula.specs.declared.Refusal.the-variants.{ShortBuffer, Unmatched, BadAssumption}
 use Rattle.formula.specs.Format.{Literal, names, Sized, Encodes}
@@ -24,21 +25,24 @@ use Rattle.splitting.specs.Nodes.{remaining, satisfied-by, lowest-with}
 use Rattle.splitting.specs.Stripping.{pure}
 use Rattle.splitting.specs.Choosing.{among}
 use Rattle.splitting.specs.Terms.{left-after}
-use Rattle.splitting.proofs.MaskChoiceLaws.{StripsTo, strips-to}
+use Rattle.splitting.proofs.MaskChoiceLaws.{StripsTo}
 use Rattle.splitting.proofs.SatisfiedLaws.{less-all, less-all-named, remaining-in}
-use Rattle.splitting.proofs.Theorems.{noted-pure, still-there, formula-below}
-use Rattle.matched.specs.Acceptance.{accepted, by, dropped-by, whole-byte, marked-byte, stripped-byte, spread, acceptance}
+use Rattle.splitting.proofs.Theorems.{noted-pure, still-there}
+use Rattle.matched.specs.Acceptance.{accepted, by, dropped-by, whole-byte, stripped-byte, spread, acceptance}
 use Rattle.matched.specs.Judge.{Judged, accepted-values, refused-values, judgement-of, judge}
-use Rattle.matched.specs.Pairing.{Pairs, PairsUnder, noted-of, left-of, Pairable, Walkable, PairsStripped, Violator, marked, ViolatorUnder}
+use Rattle.matched.specs.Pairing.{Pairs, PairsUnder, noted-of, left-of, Pairable, Walkable, PairsStripped, PairsBut, marked, named-but, Violator}
+use Rattle.matched.specs.Weigh.{counted-values, unweighed-values, weighed}
 use Rattle.matched.specs.WithoutAssumptions.{plain-acceptance}
 use Rattle.matched.specs.WithoutStripping.{whole-acceptance}
-use Rattle.matched.proofs.AcceptanceLaws.{left-sized, whole-accepted, stripped-accepted, unpaired-declined, accepted-walkable, walkable-accepted, pairable-walkable, bad-declined, unreadable-declined}
+use Rattle.matched.proofs.AcceptanceLaws.{whole-accepted, stripped-accepted, unpaired-declined, accepted-walkable, walkable-accepted, pairable-walkable, bad-declined, unreadable-declined}
 use Rattle.matched.proofs.DroppedLaws.{dropped-first}
-use Rattle.matched.proofs.JudgeLaws.{judge-short, judge-accepted, judge-declined, judged-bad, judged-unmatched, numberless-walkable, walkable-numberless}
+use Rattle.matched.proofs.JudgeLaws.{judge-short, judge-accepted, judge-declined, judged-bad, judged-unmatched, unmatched-long, numberless-walkable, walkable-numberless}
 use Rattle.matched.proofs.KeptLaws.{kept}
-use Rattle.matched.proofs.PairingLaws.{no-pairs}
 use Rattle.matched.proofs.UnassumedLaws.{unassumed}
 use Rattle.matched.proofs.UnderLaws as unders
+use Rattle.matched.proofs.ViolatorLaws as violators
+use Rattle.matched.proofs.ViolatorLaws.{clauses-strip}
+use Rattle.matched.proofs.WeighLaws.{weigh-short, weigh-refused, weigh-bad, weigh-under, weigh-violator}
 
 -- S10, demand 1: a buffer of fewer than 96 bytes gets 1 at 0, whatever the input and the assumptions, and is untouched
 pub short-buffer : (s : List ℕ) (us : List Assumption) (b : List ℕ) → length b < max-clauses
@@ -120,7 +124,7 @@ module _ (s : List ℕ) (us : List Assumption) (n : ℕ) (cs : List (List Litera
   fits = accepted-fits s n cs (accepted-all s n cs encodes)
 
   strips : StripsTo n cs t
-  strips = strips-to n cs (omega (arith, fits .most)) (formula-below n cs (fits .clauses)) t (literals-over n us t (none-bad-literals n us good))
+  strips = clauses-strip fits (literals-over n us t (none-bad-literals n us good))
 
   -- S18.2: what remains is not matched, but what stripping leaves of it is. Judge gives the numbers of variables and of clauses, and the
   -- first bytes of the buffer are spread from a matching of what is left; no other byte changes,
@@ -154,20 +158,36 @@ module _ (s : List ℕ) (us : List Assumption) (n : ℕ) (cs : List (List Litera
       (w .before, w .after, w .order, w .named, p .0, p .1, p .2, w .none, d, there, less-all-named t c)
 
   -- S10, demand 2: what stripping leaves is not matched. Judge gives 10, at the number of marked clauses; the first bytes of the buffer are
-  -- spread from the marks of a violator of what is left; no other byte changes,
+  -- the marks of a violator, one for each clause; no other byte changes,
   pub refused-buffer : (b : List ℕ) → max-clauses ≤ length b → ((vs : List ℕ) → Pairs (left-of n t cs) vs → ⊥)
-      → (ms : List ℕ) × Violator (left-of n t cs) ms
-      × (judge s us b ≡ record { answer = refused-values (Unmatched (length (marked ms (left-of n t cs)))); buffer = over (spread (marked-byte t (noted-of n t cs)) cs ms) b })
+      → (ms : List ℕ) × Violator n t cs ms × (judge s us b ≡ record { answer = refused-values (Unmatched (length (marked ms cs))); buffer = over ms b })
   refused-buffer b long none =
       let x = unpaired-declined s us n t cs (accepted-all s n cs encodes) (none-bad-literals n us good) none in
       (x .0, x .1, judge-declined s us b long _ _ (x .2))
 
-  -- and these bytes, told clause by clause: as many are marked, only left ones, and they name one variable fewer, the assumed ones not
-  -- counted
-  pub refused-bytes : (ms : List ℕ) → Violator (left-of n t cs) ms
-      → (let row = spread (marked-byte t (noted-of n t cs)) cs ms in
-      ViolatorUnder n t cs row × (length (marked row cs) ≡ length (marked ms (left-of n t cs))))
-  refused-bytes ms v = (unders.violator-under fits strips ms v, unders.marked-many fits strips ms v)
+  -- S20.1: what a violator shows,
+  module _ (ms : List ℕ) (violates : Violator n t cs ms) where
+    -- for the marked clauses alone: they are not matched, without the assumed variables;
+    pub marked-unpaired : (vs : List ℕ) → PairsBut t (marked ms cs) vs → ⊥
+    marked-unpaired = violators.marked-unpaired fits violates
+
+    -- for the formula: what stripping leaves is not matched;
+    pub violator-unpaired : (vs : List ℕ) → Pairs (left-of n t cs) vs → ⊥
+    violator-unpaired = violators.left-unpaired fits strips violates
+
+    -- that no clause is marked without need: every proper part of the marked clauses is matched, without the assumed variables;
+    pub part-paired : (ds : List (List Literal)) → Sublistᴰ ds (marked ms cs) → length ds < length (marked ms cs) → (vs : List ℕ) × PairsBut t ds vs
+    part-paired = violators.part-paired fits violates
+
+    -- that some are marked,
+    pub some-marked : 1 ≤ length (marked ms cs)
+    some-marked = omega (arith, violates .fewer)
+
+    -- and one alone exactly if it is one of which nothing remains, the empty clause.
+    pub one-alone : (length (marked ms cs) ≡ 1) ↔ ((c : List Literal) × List·Memᴰ c (marked ms cs) × (remaining t (c ∷ []) ≡ [] ∷ []))
+    one-alone =
+        let once = literals-over n us t (none-bad-literals n us good) .once in
+        (violators.one-empty fits violates once, λ e. violators.empty-one fits violates once (e .0) (e .1) (e .2))
 
 -- S10, demand 2: the number is 10 exactly if the input is readable, none of the assumptions is bad, and what stripping leaves is not
 -- matched
@@ -179,10 +199,30 @@ unmatched-exactly s us b l = (
   λ w. let x = refused-buffer s us (w .0) (w .1) (w .2) (w .3) b l (w .4) in ap (λ (j : Judged). j .answer .number) (x .2),
 )
 
--- where there is a violator of what is left there is no matching of it
-pub violator-unpaired : (n : ℕ) (t : List Literal) (cs : List (List Literal)) (ms : List ℕ) → Sized n cs → Violator (left-of n t cs) ms
-    → (vs : List ℕ) → Pairs (left-of n t cs) vs → ⊥
-violator-unpaired n t cs ms z = no-pairs n (left-of n t cs) ms (left-sized t z)
+-- S20.2: what is weighed. A short buffer, an unreadable input and a bad assumption are refused as by judge,
+pub weighed-short : (s : List ℕ) (us : List Assumption) (b : List ℕ) → length b < max-clauses → weighed s us b ≡ unweighed-values (ShortBuffer 0)
+weighed-short = weigh-short
+
+pub weighed-unreadable : (s : List ℕ) (us : List Assumption) (b : List ℕ) (r : Refusal) → max-clauses ≤ length b → Refuses s r → weighed s us b ≡ unweighed-values r
+weighed-unreadable s us b r l w = weigh-refused s us b l r (refused-all s r w)
+
+pub weighed-bad : (s : List ℕ) (us : List Assumption) (b : List ℕ) (n : ℕ) (cs : List (List Literal)) (i : ℕ) → max-clauses ≤ length b → Encodes s n cs → FirstBad n us i
+    → weighed s us b ≡ unweighed-values (BadAssumption i)
+weighed-bad s us b n cs i l w f = weigh-bad s us b l n cs (accepted-all s n cs w) i (bad-exactly n us i .1 f)
+
+-- else the marked clauses are counted and the variables that they name, the assumed ones not counted, be the formula accepted or not.
+pub weighed-counts : (s : List ℕ) (us : List Assumption) (b : List ℕ) (n : ℕ) (cs : List (List Literal)) → max-clauses ≤ length b → Encodes s n cs → NoneBad n us
+    → weighed s us b ≡ counted-values (length (marked b cs)) (size (named-but (map literal-of us) (marked b cs)))
+weighed-counts s us b n cs l w good = weigh-under s us b l n cs (accepted-all s n cs w) (map literal-of us) (none-bad-literals n us good)
+
+-- After judge refused by 10 at the place k, what it left in the buffer weighs k clauses and k - 1 variables.
+pub weighed-violator : (s : List ℕ) (us : List Assumption) (b : List ℕ) → judge s us b .answer .number ≡ 10
+    → (let k = judge s us b .answer .place in weighed s us (judge s us b .buffer) ≡ counted-values k (k - 1))
+weighed-violator s us b e =
+    let long = unmatched-long s us b e in
+    let w = judged-unmatched s us b long e in
+    let x = refused-buffer s us (w .0) (w .1) (w .2) (w .3) b long (w .4) in
+    rw (x .2) (weigh-violator s us b long (w .0) (w .1) (accepted-all s (w .0) (w .1) (w .2)) (map literal-of us) (none-bad-literals (w .0) us (w .3)) (x .0) (x .1))
 
 -- S17.6: an empty list of assumptions changes nothing: what comes of an input, and judge by it, are what they are without any
 pub acceptance-unassumed : (s : List ℕ) → acceptance s [] ≡ plain-acceptance s

@@ -2,6 +2,7 @@
 use Prim.Native.Nat.{ℕ, _≤_, _<_}
 use mathlib.Core.List.{List, map}
 use mathlib.Core.Path.{_≡_, refl, sym, ap, _∙_}
+use native.Mathlib.Decide.{decLt}
 use native.Mathlib.Omega.{arith}
 use lib.ListN.{length, take}
 use borrow.Author.Tests.{le-ltb, lt-ltb}
@@ -30,6 +31,14 @@ told e w = (ap (λ (j : Judged). j .answer) (sym e), w ∙ ap (λ (j : Judged). 
 pub judge-short : (s : List ℕ) (us : List Assumption) (b : List ℕ) → length b < max-clauses → judge s us b ≡ record { answer = refused-values (ShortBuffer 0); buffer = b }
 unfolding judge
 judge-short s us b l = rw (lt-ltb (length b) max-clauses l)
+
+-- a buffer that is left with marks is not short
+pub unmatched-long : (s : List ℕ) (us : List Assumption) (b : List ℕ) → judge s us b .answer .number ≡ 10 → max-clauses ≤ length b
+unmatched-long s us b e = by (decLt (length b) max-clauses)
+  where
+    by : Dec (length b < max-clauses) → max-clauses ≤ length b
+    by (yes h) = let z : _≡_ {A = ℕ} 1 10 = ap (λ (j : Judged). j .answer .number) (sym (judge-short s us b h)) ∙ e in absurd (omega arith)
+    by (no h) = omega arith
 
 module _ (s : List ℕ) (us : List Assumption) (b : List ℕ) (l : max-clauses ≤ length b) where
   judge-long : judge s us b ≡ judgement-of (acceptance s us) b

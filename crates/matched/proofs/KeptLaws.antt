@@ -15,7 +15,8 @@ use Rattle.splitting.specs.Nodes.{remaining, satisfied-by}
 use Rattle.matched.specs.Acceptance.{accepted, dropped-by, known, asked, row-byte, whole-byte, spread, by-outcome, acceptance}
 use Rattle.matched.specs.Pairing.{Pairs, Pairable}
 use Rattle.matched.specs.WithoutStripping.{whole-spread, whole-by-outcome, whole-acceptance}
-use Rattle.matched.proofs.AcceptanceLaws.{remaining-sized, none-by, read-acceptance}
+use Rattle.matched.proofs.AcceptanceLaws.{none-by, read-acceptance}
+use Rattle.matched.proofs.SizedLaws.{remaining-sized}
 
 -- with no variable noted, the bytes go to the clauses that t does not satisfy
 spread-whole : (t : List Literal) (cs : List (List Literal)) (bytes : List ℕ) → spread (whole-byte t) cs bytes ≡ whole-spread t cs bytes

@@ -1,11 +1,14 @@
 pub mod PairingLaws
+pub mod SizedLaws
 pub mod SpreadLaws
 pub mod DroppedLaws
 pub mod TellLaws
 pub mod UnderLaws
+pub mod ViolatorLaws
 pub mod AcceptanceLaws
 pub mod AcceptLaws
 pub mod JudgeLaws
 pub mod KeptLaws
+pub mod WeighLaws
 pub mod UnassumedLaws
 pub mod Demands

@@ -1,20 +1,24 @@
--- Pairings of clauses told as lists are matchings of their masks.
+-- Pairings of clauses told as lists are matchings of their masks, with all variables or without those of t.
 use Prim.Native.Nat.{ℕ, _^_, _≤_, _<_}
-use mathlib.Core.List.{List, [], map}
-use mathlib.Core.Path.{_≡_, sym, ap, _∙_}
+use mathlib.Core.Bool.{Bool, true, false, not, _&&_, _||_}
+use mathlib.Core.List.{List, [], _∷_, map}
+use mathlib.Core.Path.{_≡_, refl, sym, ap, ap₂, _∙_}
 use native.Mathlib.Omega.{arith}
+use lib.Bits.{bitOr}
 use lib.ListN.{length, getD, length-map, List·getD-map}
 use lib.Pow.{pow-mono}
 use Rattle.lists.proofs.EveryLaws.{every-getD}
-use Rattle.masks.specs.Mask.{bit}
-use Rattle.formula.specs.Format.{Literal, ClauseOver, Sized}
+use Rattle.lists.proofs.MapLaws.{getD-map-in}
+use Rattle.lists.proofs.TestLaws.{and-left, and-right}
+use Rattle.masks.specs.Mask.{bit, minus}
+use Rattle.masks.proofs.BitLaws.{bit-minus, bit-none, bit-or, minus-lt}
+use Rattle.masks.proofs.MembersLaws.{mask-same}
+use Rattle.formula.specs.Format.{Literal, names, ClauseOver, Sized}
 use Rattle.formula.specs.Masked.{variables}
 use Rattle.formula.proofs.ClauseLaws.{variables-bit, variables-lt}
-use Rattle.matching.specs.Sets.{Words}
+use Rattle.matching.specs.Sets.{Words, union}
 use Rattle.matching.specs.InnerMatched.{Matches}
-use Rattle.matching.proofs.OutcomeLaws.{words-selected}
-use Rattle.matching.proofs.Theorems.{pigeonhole, sub-list-matched}
-use Rattle.matched.specs.Pairing.{Pairs, Violator, marked}
+use Rattle.matched.specs.Pairing.{Pairs, PairsBut, named-but}
 
 -- the mask of the i-th clause
 mask-at : (cs : List (List Literal)) (i : ℕ) → getD (map variables cs) i 0 ≡ variables (getD cs i [])
@@ -49,8 +53,76 @@ pairs-matches cs vs w =
       distinct = λ i j l k e. w .distinct i j (rw m at l) (rw m at k) e;
     }
 
--- the pigeonhole principle
-pub no-pairs : (n : ℕ) (cs : List (List Literal)) (ms : List ℕ) → Sized n cs → Violator cs ms → (vs : List ℕ) → Pairs cs vs → ⊥
-no-pairs n cs ms z v vs w =
-    let m = sub-list-matched ms (map variables cs) (vs, pairs-matches cs vs w) in
-    omega (arith, v .fewer, pigeonhole (marked ms cs) (words-selected ms (map variables cs) (masks-words z)) m)
+-- ---- without the variables of t
+
+-- the variables that a clause names and t does not, as a mask
+abbrev pub but : List Literal → List Literal → ℕ
+but t c = minus (variables c) (variables t)
+
+module _ (t : List Literal) where
+  pub bit-but : (c : List Literal) (v : ℕ) → bit (but t c) v ≡ names c v && not (names t v)
+  bit-but c v = bit-minus (variables c) (variables t) v ∙ ap₂ (λ (x y : Bool). x && not y) (variables-bit c v) (variables-bit t v)
+
+  but-at : (cs : List (List Literal)) (i v : ℕ) → i < length cs → bit (getD (map (but t) cs) i 0) v ≡ names (getD cs i []) v && not (names t v)
+  but-at cs i v h = ap (λ (m : ℕ). bit m v) (getD-map-in (but t) cs i [] 0 h) ∙ bit-but (getD cs i []) v
+
+  -- what clauses together name, those not counted
+  pub named-union : (cs : List (List Literal)) → named-but t cs ≡ union (map (but t) cs)
+  unfolding union
+  named-union [] = mask-same (minus 0 (variables t)) 0 (λ v. bit-minus 0 (variables t) v ∙ rw (bit-none v))
+  named-union (c ∷ cs) =
+      mask-same (minus (bitOr (variables c) (union (map variables cs))) (variables t)) (bitOr (but t c) (named-but t cs)) same
+      ∙ ap (bitOr (but t c)) (named-union cs)
+    where
+      and-or : (x y z : Bool) → (x || y) && z ≡ (x && z) || (y && z)
+      and-or true true true = refl
+      and-or true true false = refl
+      and-or true false true = refl
+      and-or true false false = refl
+      and-or false y z = refl
+
+      same : (v : ℕ) → bit (minus (bitOr (variables c) (union (map variables cs))) (variables t)) v ≡ bit (bitOr (but t c) (named-but t cs)) v
+      same v =
+          let a = variables c in
+          let b = union (map variables cs) in
+          let k = variables t in
+          bit-minus (bitOr a b) k v
+          ∙ ap (λ (x : Bool). x && not (bit k v)) (bit-or a b v)
+          ∙ and-or (bit a v) (bit b v) (not (bit k v))
+          ∙ sym (bit-or (minus a k) (minus b k) v ∙ ap₂ (λ (x y : Bool). x || y) (bit-minus a k v) (bit-minus b k v))
+
+  -- the masks are words
+  pub but-words : {n : ℕ} {cs : List (List Literal)} → Sized n cs → Words (map (but t) cs)
+  but-words {n} {cs} z i l =
+      let m : i < length cs = rw (length-map cs (but t)) at l in
+      let w = masks-words z i (rw (length-map cs variables) m) in
+      rw (getD-map-in (but t) cs i [] 0 m) (minus-lt 64 (variables (getD cs i [])) (variables t) (rw (mask-at cs i) at w))
+
+  -- a matching of these masks pairs the clauses without the variables of t,
+  pub matches-but : (cs : List (List Literal)) (vs : List ℕ) → Matches (map (but t) cs) vs → PairsBut t cs vs
+  matches-but cs vs w =
+      let m : length (map (but t) cs) ≡ length cs = length-map cs (but t) in
+      let both : (i : ℕ) → i < length cs → names (getD cs i []) (getD vs i 0) && not (names t (getD vs i 0)) ≡ true =
+      λ i l. sym (but-at cs i (getD vs i 0) l) ∙ w .named i (rw m l) in
+      record {
+        pairs = record {
+          one-each = w .one-each ∙ m;
+          named = λ i l. and-left (names (getD cs i []) (getD vs i 0)) (not (names t (getD vs i 0))) (both i l);
+          distinct = λ i j l k e. w .distinct i j (rw m l) (rw m k) e;
+        };
+        unassumed = λ i l. not-true (names t (getD vs i 0)) (and-right (names (getD cs i []) (getD vs i 0)) (not (names t (getD vs i 0))) (both i l));
+      }
+    where
+      not-true : (x : Bool) → not x ≡ true → x ≡ false
+      not-true true e = sym e
+      not-true false e = refl
+
+  -- and the other way round
+  pub but-matches : (cs : List (List Literal)) (vs : List ℕ) → PairsBut t cs vs → Matches (map (but t) cs) vs
+  but-matches cs vs w =
+      let m : length (map (but t) cs) ≡ length cs = length-map cs (but t) in
+      record {
+        one-each = w .pairs .one-each ∙ sym m;
+        named = λ i l. let h : i < length cs = rw m at l in but-at cs i (getD vs i 0) h ∙ rw (w .pairs .named i h, w .unassumed i h);
+        distinct = λ i j l k e. w .pairs .distinct i j (rw m at l) (rw m at k) e;
+      }

@@ -145,6 +145,30 @@ module _ (f : List Literal → RowByte) where
       at (known x) p q = p
       at asked p q = let z : 1 + k ≡ suc k = omega arith in q ∙ rw (getD-drop 1 answers k 0, z)
 
+  -- another answer for a clause that asks is another byte of it
+  pub spread-set : (cs : List (List Literal)) (answers : List ℕ) (i x : ℕ) → i < length cs → f (getD cs i []) ≡ asked → asking cs i < length answers
+      → spread f cs (set answers (asking cs i) x) ≡ set (spread f cs answers) i x
+  unfolding asking
+  spread-set [] answers i x h e l = absurd (omega arith)
+  spread-set (c ∷ cs) [] i x h e l = absurd (omega arith)
+  spread-set (c ∷ cs) (a ∷ answers) zero x h e l = spread-asked c cs (x ∷ answers) e ∙ ap (λ (b : List ℕ). set b 0 x) (sym (spread-asked c cs (a ∷ answers) e))
+  spread-set (c ∷ cs) (a ∷ answers) (suc i) x h e l =
+      at (f c) refl l (spread-set cs (a ∷ answers) i x (omega arith) e) (spread-set cs answers i x (omega arith) e)
+    where
+      k : ℕ
+      k = asking cs i
+
+      at : (b : RowByte) → f c ≡ b → cond (asks (f c)) (suc k) k < suc (length answers)
+          → (k < suc (length answers) → spread f cs (set (a ∷ answers) k x) ≡ set (spread f cs (a ∷ answers)) i x)
+          → (k < length answers → spread f cs (set answers k x) ≡ set (spread f cs answers) i x)
+          → spread f (c ∷ cs) (set (a ∷ answers) (cond (asks (f c)) (suc k) k) x) ≡ set (spread f (c ∷ cs) (a ∷ answers)) (suc i) x
+      at (known y) q l p r =
+          let z : cond (asks (f c)) (suc k) k ≡ k = rw q in
+          rw (z, spread-known c cs (set (a ∷ answers) k x) y q, spread-known c cs (a ∷ answers) y q) (ap (λ (b : List ℕ). y ∷ b) (p (rw z at l)))
+      at asked q l p r =
+          let z : cond (asks (f c)) (suc k) k ≡ suc k = rw q in
+          rw (z, spread-asked c cs (a ∷ set answers k x) q, spread-asked c cs (a ∷ answers) q) (ap (λ (b : List ℕ). a ∷ b) (r (let j : suc k < suc (length answers) = rw z at l in omega arith)))
+
 -- whether clauses ask is all that places depend on
 pub asking-same : (f g : List Literal → RowByte) → ((c : List Literal) → asks (f c) ≡ asks (g c)) → (cs : List (List Literal)) (i : ℕ) → asking f cs i ≡ asking g cs i
 unfolding asking

@@ -1,48 +1,26 @@
--- The bytes of a formula under assumptions, told clause by clause: those of an accepted one, matched whole or after stripping, and the
--- marks of a refused one.
-use Prim.Native.Nat.{ℕ, suc, _≤_, _<_}
-use mathlib.Core.Bool.{Bool, true, false, not, cond, _&&_, _||_}
-use mathlib.Core.List.{List, [], _∷_, map}
+-- The bytes of an accepted formula under assumptions, told clause by clause: matched whole or after stripping.
+use Prim.Native.Nat.{ℕ, suc, _<_}
+use mathlib.Core.Bool.{Bool, true, false}
+use mathlib.Core.List.{List, [], map}
 use mathlib.Core.Logic.{⊎-elim}
-use mathlib.Core.Path.{_≡_, refl, sym, ap, ap₂, _∙_, subst}
+use mathlib.Core.Path.{_≡_, refl, sym, ap, _∙_, subst}
 use native.Mathlib.Decide.{decLt}
 use native.Mathlib.Omega.{arith}
-use lib.Bits.{bitOr}
-use lib.Dec.{eqb}
-use lib.ListN.{length, getD, drop}
-use Rattle.lists.specs.Every.{Every}
-use Rattle.lists.proofs.EveryLaws.{every-getD}
+use lib.ListN.{length, getD}
 use Rattle.lists.proofs.MapLaws.{getD-map-in}
 use Rattle.lists.proofs.SublistLaws.{getD-element}
 use Rattle.lists.proofs.TestLaws.{bool-cases, bool-clash}
-use Rattle.masks.specs.Mask.{bit, minus, size}
-use Rattle.masks.proofs.BitLaws.{bit-minus, bit-none, bit-or}
-use Rattle.masks.proofs.MembersLaws.{mask-same}
 use Rattle.formula.specs.Format.{Literal, names, Sized}
 use Rattle.formula.specs.Format as format
-use Rattle.formula.specs.Masked.{variables}
-use Rattle.formula.proofs.ClauseLaws.{variables-bit}
-use Rattle.matching.specs.Sets.{union, selected}
 use Rattle.splitting.specs.Nodes.{remaining, satisfied-by}
 use Rattle.splitting.proofs.ClauseLaws.{named-by}
 use Rattle.splitting.proofs.MaskChoiceLaws.{StripsTo}
-use Rattle.splitting.proofs.SatisfiedLaws.{less-all, less-all-names, less-all-named, remaining-cons}
+use Rattle.splitting.proofs.SatisfiedLaws.{less-all-names}
 use Rattle.splitting.proofs.Theorems.{formula-below, noted-unassigned}
-use Rattle.matched.specs.Acceptance.{Dropped, by, by-none, dropped-by, RowByte, known, asked, whole-byte, marked-byte, stripped-byte, dropped-byte, spread}
-use Rattle.matched.specs.Pairing.{Pairs, PairsUnder, PairsStripped, noted-of, left-of, Violator, ViolatorUnder, marked}
-use Rattle.matched.proofs.DroppedLaws.{dropped-first, dropped-noted, left-names, satisfied-byte, dropped-known, left-asked, asked-left, whole-zeros, stripped-sieves, stripped-zeros}
-use Rattle.matched.proofs.SpreadLaws.{asks, asking, asking-less, asking-place, remaining-at, spread-length, spread-known, spread-asked, spread-byte, Sieves, zeros-sieve, remaining-none}
-
-known-zero : (b : Bool) (x : ℕ) → known x ≡ cond b (known 0) asked → x ≡ 0
-known-zero true x e = cc
-known-zero false x e = let z : _≡_ {A = ℕ} 0 1 = cc in absurd (omega arith)
-
-and-or : (x y z : Bool) → (x || y) && z ≡ (x && z) || (y && z)
-and-or true true true = refl
-and-or true true false = refl
-and-or true false true = refl
-and-or true false false = refl
-and-or false y z = refl
+use Rattle.matched.specs.Acceptance.{Dropped, by, by-none, dropped-by, RowByte, known, asked, whole-byte, stripped-byte, dropped-byte, spread}
+use Rattle.matched.specs.Pairing.{Pairs, PairsUnder, PairsStripped, noted-of, left-of}
+use Rattle.matched.proofs.DroppedLaws.{dropped-first, dropped-noted, satisfied-byte, dropped-known, left-asked, whole-zeros, stripped-sieves}
+use Rattle.matched.proofs.SpreadLaws.{asks, asking, asking-less, asking-place, remaining-at, spread-length, spread-byte, Sieves, zeros-sieve}
 
 -- ---- the clauses that ask have a matching of what remains under u
 
@@ -171,110 +149,3 @@ module _ {n : ℕ} {t : List Literal} {cs : List (List Literal)} (z : Sized n cs
             let m = left-byte i h e in
             absurd (omega (arith, m .1, m .2, z .most, known-byte left-answers j (dropped-byte v) k (dropped-known t noted dropped-byte (getD cs j []) v f g)))
         own i j h k e q false by-none f g = asked-own left-answers i j h k e (left-asked t noted dropped-byte (getD cs j []) f g) q
-
-  -- ---- the marks
-
-  -- the clause less the trail's variables is, for one that is left, the clause less those of t
-  left-less : (c : List Literal) → dropped-by noted c ≡ by-none → (v : ℕ) → bit (variables (less-all (w .trail) c)) v ≡ bit (variables c) v && not (bit (variables t) v)
-  left-less c e v =
-      variables-bit (less-all (w .trail) c) v
-      ∙ less-all-named (w .trail) c v
-      ∙ at (names c v) (names (w .trail) v) (names t v) refl refl refl
-      ∙ sym (ap₂ (λ (x y : Bool). x && not y) (variables-bit c v) (variables-bit t v))
-    where
-      at : (x y z : Bool) → names c v ≡ x → names (w .trail) v ≡ y → names t v ≡ z → x && not y ≡ x && not z
-      at false y z f g h = refl
-      at true true true f g h = refl
-      at true false false f g h = refl
-      at true false true f g h = bool-clash (w .keeps v h) g
-      at true true false f g h = bool-clash f (left-names noted c v e (w .adds v g h))
-
-  -- the marked clauses are as many as the marked ones of what is left, and name the same variables but those of t
-  abbrev all-marked : List (List Literal) → List ℕ → List ℕ
-  all-marked ds ms = marked (spread (marked-byte t noted) ds ms) ds
-
-  abbrev left-marked : List (List Literal) → List ℕ → List ℕ
-  left-marked ds ms = marked ms (remaining (w .trail) ds)
-
-  abbrev SameMarked : List (List Literal) → List ℕ → Type 0
-  SameMarked ds ms =
-      (length (all-marked ds ms) ≡ length (left-marked ds ms))
-      × ((v : ℕ) → bit (minus (union (all-marked ds ms)) (variables t)) v ≡ bit (union (left-marked ds ms)) v)
-
-  same-marked : (ds : List (List Literal)) → Every (λ c. marked-byte t noted c ≡ cond (satisfied-by (w .trail) c) (known 0) asked) ds
-      → (ms : List ℕ) → length ms ≡ length (remaining (w .trail) ds) → SameMarked ds ms
-  unfolding spread selected union
-  same-marked [] zeros [] e = (refl, λ v. bit-minus 0 (variables t) v ∙ rw (bit-none v))
-  same-marked [] zeros (m ∷ ms) e = let z = ap (length {A = List Literal}) (remaining-none (w .trail)) in absurd (omega arith)
-  same-marked (d ∷ ds) zeros ms e = at (satisfied-by (w .trail) d) refl ms e (same-marked ds (zeros .1))
-    where
-      marks : (b : Bool) (m : ℕ) (ms : List ℕ) → eqb m 0 ≡ b → dropped-by noted d ≡ by-none → SameMarked ds ms
-          → (length (cond b (all-marked ds ms) (variables d ∷ all-marked ds ms)) ≡ length (cond b (left-marked ds ms) (variables (less-all (w .trail) d) ∷ left-marked ds ms)))
-          × ((v : ℕ) → bit (minus (union (cond b (all-marked ds ms) (variables d ∷ all-marked ds ms))) (variables t)) v
-          ≡ bit (union (cond b (left-marked ds ms) (variables (less-all (w .trail) d) ∷ left-marked ds ms))) v)
-      marks true m ms q e h = h
-      marks false m ms q e h = (
-        ap suc (h .0),
-        λ v.
-            bit-minus (bitOr (variables d) (union (all-marked ds ms))) (variables t) v
-            ∙ ap (λ (x : Bool). x && not (bit (variables t) v)) (bit-or (variables d) (union (all-marked ds ms)) v)
-            ∙ and-or (bit (variables d) v) (bit (union (all-marked ds ms)) v) (not (bit (variables t) v))
-            ∙ ap₂ (λ (x y : Bool). x || y) (sym (left-less d e v)) (sym (bit-minus (union (all-marked ds ms)) (variables t) v) ∙ h .1 v)
-            ∙ sym (bit-or (variables (less-all (w .trail) d)) (union (left-marked ds ms)) v),
-      )
-
-      next : (ms : List ℕ) → length ms ≡ suc (length (remaining (w .trail) ds)) → dropped-by noted d ≡ by-none
-          → ((ns : List ℕ) → length ns ≡ length (remaining (w .trail) ds) → SameMarked ds ns)
-          → (length (selected (getD ms 0 0 ∷ spread (marked-byte t noted) ds (drop 1 ms)) (variables d ∷ map variables ds)) ≡ length (marked ms (less-all (w .trail) d ∷ remaining (w .trail) ds)))
-          × ((v : ℕ) → bit (minus (union (selected (getD ms 0 0 ∷ spread (marked-byte t noted) ds (drop 1 ms)) (variables d ∷ map variables ds))) (variables t)) v
-          ≡ bit (union (marked ms (less-all (w .trail) d ∷ remaining (w .trail) ds))) v)
-      next [] e q ih = absurd (omega arith)
-      next (m ∷ ms) e q ih = marks (eqb m 0) m ms refl q (ih ms (omega arith))
-
-      at : (b : Bool) → satisfied-by (w .trail) d ≡ b → (ms : List ℕ) → length ms ≡ length (remaining (w .trail) (d ∷ ds))
-          → ((ns : List ℕ) → length ns ≡ length (remaining (w .trail) ds) → SameMarked ds ns) → SameMarked (d ∷ ds) ms
-      at true q ms e ih =
-          let c : remaining (w .trail) (d ∷ ds) ≡ remaining (w .trail) ds = remaining-cons (w .trail) d ds (w .is-trail .once) ∙ rw q in
-          let k : marked-byte t noted d ≡ known 0 = zeros .0 ∙ rw q in
-          rw (c, spread-known (marked-byte t noted) d ds ms 0 k) (ih ms (e ∙ ap (length {A = List Literal}) c))
-      at false q ms e ih =
-          let c : remaining (w .trail) (d ∷ ds) ≡ less-all (w .trail) d ∷ remaining (w .trail) ds = remaining-cons (w .trail) d ds (w .is-trail .once) ∙ rw q in
-          let k : marked-byte t noted d ≡ asked = zeros .0 ∙ rw q in
-          rw (c, spread-asked (marked-byte t noted) d ds ms k) (next ms (e ∙ ap (length {A = List Literal}) c) (asked-left t noted (λ v. 0) d k .1) ih)
-
-  module _ (ms : List ℕ) (violates : Violator (left-of n t cs) ms) where
-    abbrev marks-row : List ℕ
-    marks-row = spread (marked-byte t noted) cs ms
-
-    as-many : length ms ≡ length (remaining (w .trail) cs)
-    as-many = violates .one-each ∙ ap (length {A = List Literal}) (sym (w .left))
-
-    same : SameMarked cs ms
-    same = same-marked cs (stripped-zeros w) ms as-many
-
-    -- as many are marked
-    pub marked-many : length (marked marks-row cs) ≡ length (marked ms (left-of n t cs))
-    marked-many = same .0 ∙ ap (λ (l : List (List Literal)). length (marked ms l)) (w .left)
-
-    mark-at : (i : ℕ) → i < length cs → (b : RowByte) → marked-byte t noted (getD cs i []) ≡ b
-        → (getD marks-row i 0 ≤ 1) × (getD marks-row i 0 ≡ 1 → marked-byte t noted (getD cs i []) ≡ asked)
-    mark-at i h (known x) e =
-        let z : x ≡ 0 = known-zero (satisfied-by (w .trail) (getD cs i [])) x (sym e ∙ every-getD (λ c. marked-byte t noted c ≡ cond (satisfied-by (w .trail) c) (known 0) asked) cs i [] h (stripped-zeros w)) in
-        let q : getD marks-row i 0 ≡ x = spread-byte (marked-byte t noted) cs ms i h ∙ rw e in
-        (omega arith, λ k. absurd (omega arith))
-    mark-at i h asked e =
-        let q : getD marks-row i 0 ≡ getD ms (asking (marked-byte t noted) cs i) 0 = spread-byte (marked-byte t noted) cs ms i h ∙ rw e in
-        let p = asking-place (w .trail) (w .is-trail .once) (marked-byte t noted) cs (stripped-sieves w (λ v. 0)) i h (ap asks e) in
-        (omega (arith, violates .low (asking (marked-byte t noted) cs i) (rw (w .left) at p)), λ k. e)
-
-    pub violator-under : ViolatorUnder n t cs marks-row
-    violator-under = record {
-      one-each = spread-length (marked-byte t noted) cs ms;
-      low = λ i h. mark-at i h _ refl .0;
-      left-only = λ i h q. asked-left t noted (λ v. 0) (getD cs i []) (mark-at i h _ refl .1 q);
-      fewer =
-          ap (λ (m : ℕ). suc (size m)) (mask-same (minus (union (marked marks-row cs)) (variables t)) (union (left-marked cs ms)) (same .1))
-          ∙ ap (λ (l : List (List Literal)). suc (size (union (marked ms l)))) (w .left)
-          ∙ violates .fewer
-          ∙ sym marked-many;
-    }

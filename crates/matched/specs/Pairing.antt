@@ -1,10 +1,10 @@
--- S5.1, S5.5, S18: a matched formula and a pure literal matched one as the source defines them, over clauses as lists of literals; and the
--- violator that is shown where what stripping leaves is not matched.
+-- S5.1, S5.5, S18, S20: a matched formula and a pure literal matched one as the source defines them, over clauses as lists of literals; and
+-- the violator that is shown where what stripping leaves is not matched.
 use Prim.Native.Nat.{ℕ, suc, _+_, _≤_, _<_}
 use mathlib.Core.Bool.{true, false}
 use mathlib.Core.List.{List, [], map}
 use mathlib.Core.Path.{_≡_}
-use lib.ListN.{length, getD}
+use lib.ListN.{length, getD, set}
 use Rattle.formula.specs.Format.{Literal, names, Encodes}
 use Rattle.formula.specs.Masked.{variables}
 use Rattle.masks.specs.Mask.{minus, size}
@@ -72,22 +72,26 @@ pub record PairsStripped (n : ℕ) (t : List Literal) (cs : List (List Literal))
   pub distinct : (i j : ℕ) → i < length cs → j < length cs → satisfied-by t (getD cs i []) ≡ false → dropped-by (noted-of n t cs) (getD cs i []) ≡ by-none
       → getD row i 0 ≡ getD row j 0 → i ≡ j
 
--- the masks of the clauses of cs that are marked
-abbrev pub marked : List ℕ → List (List Literal) → List ℕ
-marked marks cs = selected marks (map variables cs)
+-- S20.1: a matching without the variables of t
+pub record PairsBut (t : List Literal) (cs : List (List Literal)) (vs : List ℕ) : Type 0 where
+  pub pairs : Pairs cs vs
+  pub unassumed : (i : ℕ) → i < length cs → names t (getD vs i 0) ≡ false
 
--- a violator (request: marked rules): marks of 1 and 0, one for each clause; the marked clauses together name one variable fewer than
--- they are
-pub record Violator (cs : List (List Literal)) (marks : List ℕ) : Type 0 where
+-- the clauses of cs that are marked: those whose byte is not 0
+abbrev pub marked : List ℕ → List (List Literal) → List (List Literal)
+marked marks cs = selected marks cs
+
+-- S17.2: the variables that clauses name, those of t not counted, as a mask
+abbrev pub named-but : List Literal → List (List Literal) → ℕ
+named-but t cs = minus (union (map variables cs)) (variables t)
+
+-- S5.5, S18.3, S20.1: a violator (request: marked rules) of a formula under the literals t: marks of 1 and 0, one for each clause. A clause
+-- that t satisfies is not marked, and a marked one is left: no noted variable drops it. The marked clauses name, the variables of t not
+-- counted, exactly one variable fewer than they are; and without any single one of them the others are matched, without those variables
+pub record Violator (n : ℕ) (t : List Literal) (cs : List (List Literal)) (marks : List ℕ) : Type 0 where
   pub one-each : length marks ≡ length cs
   pub low : (i : ℕ) → i < length cs → getD marks i 0 ≤ 1
-  pub fewer : suc (size (union (marked marks cs))) ≡ length (marked marks cs)
-
--- S18.3: the bytes of a refused formula: marks of 1 and 0, one for each clause; a marked clause is left, so t does not satisfy it and no
--- noted variable drops it; the marked clauses together name, the variables of t not counted, one variable fewer than they are
-pub record ViolatorUnder (n : ℕ) (t : List Literal) (cs : List (List Literal)) (row : List ℕ) : Type 0 where
-  pub one-each : length row ≡ length cs
-  pub low : (i : ℕ) → i < length cs → getD row i 0 ≤ 1
-  pub left-only : (i : ℕ) → i < length cs → getD row i 0 ≡ 1
-      → (satisfied-by t (getD cs i []) ≡ false) × (dropped-by (noted-of n t cs) (getD cs i []) ≡ by-none)
-  pub fewer : suc (size (minus (union (marked row cs)) (variables t))) ≡ length (marked row cs)
+  pub satisfied : (i : ℕ) → i < length cs → satisfied-by t (getD cs i []) ≡ true → getD marks i 0 ≡ 0
+  pub left : (i : ℕ) → i < length cs → getD marks i 0 ≡ 1 → dropped-by (noted-of n t cs) (getD cs i []) ≡ by-none
+  pub fewer : suc (size (named-but t (marked marks cs))) ≡ length (marked marks cs)
+  pub critical : (i : ℕ) → i < length cs → getD marks i 0 ≡ 1 → (vs : List ℕ) × PairsBut t (marked (set marks i 0) cs) vs

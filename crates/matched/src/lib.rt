@@ -1,8 +1,8 @@
-// Which inputs are accepted, each with its matching or a violator, and the act judge (S5.6, S5.7, S17.2, S18).
+// Which inputs are accepted, each with its matching or a violator, and the act judge (S5.6, S5.7, S17.2, S18, S20).
 //
 // `accept` says what comes of an input (`acceptance`) to judge, walk, list, page and print, which have read it; judge writes it into a
-// lent buffer.
-ghost use mathlib.Core.List.{List};
+// lent buffer. `weigh_marks` counts the clauses that a buffer marks and the variables that they name.
+ghost use mathlib.Core.List.{List, map};
 ghost use mathlib.Core.Path.{_≡_};
 ghost use Prim.Native.Nat.{ℕ, _+_, _<_, _≤_};
 ghost use lib.ListN.{length, getD, take};
@@ -11,9 +11,10 @@ ghost use Rattle.lists.specs.Over.{over};
 ghost use Rattle.lists.specs.Padded.{padded};
 ghost use Rattle.formula.specs.Format.{Literal, Sized, ClauseOver};
 ghost use Rattle.formula.specs.InnerMasked.{formula-of};
-ghost use Rattle.formula.specs.InnerFits.{FormulaFits};
+ghost use Rattle.formula.specs.InnerFits.{clause-variables, FormulaFits};
 ghost use Rattle.assumptions.specs.declared.Assumption.{Assumption};
 ghost use Rattle.assumptions.specs.InnerAssumed.{MasksOf};
+ghost use Rattle.matching.specs.Sets.{union, selected};
 ghost use Rattle.splitting.specs.InnerChoose.{assignment-of};
 ghost use Rattle.splitting.specs.Nodes.{remaining};
 ghost use Rattle.splitting.specs.Stripping.{stripped};
@@ -21,6 +22,7 @@ ghost use Rattle.matched.specs.Acceptance.{acceptance, by-stripped, form
 ghost use Rattle.matched.specs.InnerAccept.{ReaderGives, assigned-by, refused-row, Represents};
 ghost use Rattle.matched.specs.InnerSpread.{bytes-at, NotesFit, first-noted, told-byte, told-bytes};
 ghost use Rattle.matched.specs.Judge.{judgement-values, judge};
+ghost use Rattle.matched.specs.Weigh.{weighed-values, weighed};
 use assumptions::Assumption;
 use assumptions::Assumptions;
 use formula::Clause;
@@ -43,6 +45,12 @@ pub struct Row {
 // The answer: the numbers of variables and of clauses, or the refusal.
 pub enum Judgement {
     Accepted(usize, usize),
+    Refused(Refusal),
+}
+
+// How much marks weigh: the numbers of marked clauses and of the variables that they name, or the refusal.
+pub enum Weighed {
+    Counted(usize, u32),
     Refused(Refusal),
 }
 
@@ -242,4 +250,72 @@ pub fn find_matching(input: &[u8], list: &[Assumption], buffer: &mut [u8]) -> Ju
     let n = assumptions::stated(input);
     let u = assumptions::read_assumptions(list, n);
     find_matching_under(input, u, buffer)
+}
+
+// How many of the first marks are not 0.
+fn count_marked(count: usize, marks: &[u8]) -> usize
+    requires { ⌜ count ≤ length (now marks) ⌝ }
+    ensures { λ r. ⌜ r ≡ length (selected (now (marks .entry)) (take count (now (marks .entry)))) ⌝ }
+{
+    let mut marked: usize = 0;
+    let mut k: usize = 0;
+    while k < count {
+        if marks[k] != 0 {
+            marked += 1;
+        }
+        k += 1;
+    }
+    marked
+}
+
+// The variables that the marked clauses name, gathered in one mask (S20.2; request: named switches of marked rules).
+fn named_by(f: Formula, marks: &[u8]) -> u64
+    requires { ⌜ (f .count ≤ max-clauses) × (f .count ≤ length (now marks)) ⌝ }
+    ensures { λ r. ⌜ r ≡ union (selected (now (marks .entry)) (map clause-variables (take (f .count) (f .clauses)))) ⌝ }
+{
+    let mut named: u64 = 0;
+    let mut i: usize = 0;
+    while i < f.count {
+        if marks[i] != 0 {
+            let c = f.clauses[i];
+            named = named | (c.positive | c.negative);
+        }
+        i += 1;
+    }
+    named
+}
+
+// S20.2: how much the marks of a buffer weigh, over the masks of the assumptions.
+pub fn weigh_marks_under(input: &[u8], u: Assumptions, buffer: &[u8]) -> Weighed
+    requires { ⌜ ((us : List Assumption) × MasksOf (now input) us u) ⌝ }
+    ensures { λ r. ⌜ ((us : List Assumption) → MasksOf (now (input .entry)) us u
+        → weighed-values r ≡ weighed (now (input .entry)) us (now (buffer .entry))) ⌝ }
+{
+    if buffer.len() < limits::MAX_CLAUSES {
+        return Weighed::Refused(Refusal::ShortBuffer(0));
+    }
+    let d = formula::decode(input);
+    let read = d.outcome;
+    let f = d.formula;
+    match read {
+        Outcome::Refused(refusal) => Weighed::Refused(refusal),
+        Outcome::Accepted => {
+            if u.bad {
+                return Weighed::Refused(Refusal::BadAssumption(u.place));
+            }
+            let assumed = u.trues | u.falses;
+            let named = masks::minus(named_by(f, buffer), assumed);
+            Weighed::Counted(count_marked(f.count, buffer), masks::size(named))
+        }
+    }
+}
+
+// S20.2: how many clauses the buffer marks, and how many variables, the assumed ones not counted, these name: of the marks that judge
+// leaves at refusal 10, one fewer. A slice of structs: proved by hand.
+pub fn weigh_marks(input: &[u8], list: &[Assumption], buffer: &[u8]) -> Weighed
+    ensures { λ r. ⌜ weighed-values r ≡ weighed (now (input .entry)) (now (list .entry)) (now (buffer .entry)) ⌝ }
+{
+    let n = assumptions::stated(input);
+    let u = assumptions::read_assumptions(list, n);
+    weigh_marks_under(input, u, buffer)
 }

@@ -15,8 +15,8 @@ unfoldable pub union : List ℕ → ℕ
 union [] = 0
 union (set ∷ sets) = bitOr set (union sets)
 
--- the clauses whose mark is not 0
-unfoldable pub selected : List ℕ → List ℕ → List ℕ
-selected [] sets = []
+-- the elements of a list whose mark is not 0
+unfoldable pub selected : {A : Type 0} → List ℕ → List A → List A
+selected [] l = []
 selected (mark ∷ marks) [] = []
-selected (mark ∷ marks) (set ∷ sets) = cond (eqb mark 0) (selected marks sets) (set ∷ selected marks sets)
+selected (mark ∷ marks) (x ∷ l) = cond (eqb mark 0) (selected marks l) (x ∷ selected marks l)

@@ -7,16 +7,18 @@ use mathlib.Core.Path.{_≡_, sym, ap, _∙_}
 use native.Mathlib.Omega.{arith}
 use lib.ListN.{length, getD, take, drop, length-append, length-take, length-map, take-append-drop}
 use lib.Seq.{take-all, getD-take}
+use Rattle.limits.specs.Limits.{max-clauses}
 use Rattle.lists.specs.Over.{over}
 use Rattle.lists.specs.Distinct.{Distinct}
 use Rattle.lists.specs.Every.{Every}
 use Rattle.lists.proofs.DistinctLaws.{distinct-first}
-use Rattle.formula.specs.declared.Refusal.the-variants.{ShortPage, BadSerial}
+use Rattle.formula.specs.declared.Refusal.the-variants.{Unmatched, ShortPage, BadSerial}
 use Rattle.formula.specs.Format.{Literal, Encodes}
 use Rattle.assumptions.specs.declared.Assumption.{Assumption}
 use Rattle.assumptions.specs.Assumed.{literal-of}
 use Rattle.assumptions.specs.FirstBad.{NoneBad}
 use Rattle.matched.specs.Acceptance.{acceptance}
+use Rattle.matched.specs.Judge.{refused-values, judge}
 use Rattle.matched.specs.Pairing.{Pairs, left-of}
 use Rattle.walk.specs.Task.{Task, under, Posed}
 use Rattle.walk.specs.Plain.{plain-walk, models-of, listing}
@@ -92,6 +94,15 @@ module _ (s : List ℕ) (us : List Assumption) (c : Checkpoint) (serial : ℕ) w
       pub page-refused : walk-call s us c ample-budget .kind ≡ says-refused
           → page-call s us c serial before ≡ unfilled (walk-call s us c ample-budget .number) (walk-call s us c ample-budget .place) c before
       page-refused = pages.walk-refused s us c serial before room some most
+
+      -- S20.1: among these 10 for an input of which what stripping leaves is not matched, with the number of marks that judge gives;
+      pub page-unmatched : (buffer : List ℕ) (n : ℕ) (cs : List (List Literal)) → max-clauses ≤ length buffer → Encodes s n cs → NoneBad n us
+          → ((vs : List ℕ) → Pairs (left-of n (map literal-of us) cs) vs → ⊥)
+          → (k : ℕ) × (judge s us buffer .answer ≡ refused-values (Unmatched k)) × (page-call s us c serial before ≡ refusing-page (Unmatched k) c before)
+      page-unmatched buffer n cs l w good none =
+          let x = walk.unmatched s us buffer n cs l w good none in
+          let e = x .2 c ample-budget in
+          (x .0, x .1, page-refused (ap (λ (r : Result). r .kind) e) ∙ ap (λ (r : Result). unfilled (r .number) (r .place) c before) e)
 
       -- and all else is written
       pub page-written : (walk-call s us c ample-budget .kind ≡ says-refused → ⊥) → page-call s us c serial before ≡ filling-page s us c serial before

@@ -61,5 +61,5 @@ pub unmatched-printed : (s buffer : List ℕ) (n : ℕ) (cs : List (List Literal
     → (k : ℕ) × (judge s [] buffer .answer ≡ refused-values (Unmatched k)) × (printed s ≡ refused-line 10 k)
 unmatched-printed s buffer n cs l w none =
     let x = unpaired-declined s [] n [] cs (accepted-all s n cs w) (no-assumptions n) none in
-    let k = length (marked (x .0) (left-of n [] cs)) in
+    let k = length (marked (x .0) cs) in
     (k, ap (λ (j : Judged). j .answer) (judge-declined s [] buffer l (Unmatched k) _ (x .2)), declined-prints s (Unmatched k) _ (x .2))

@@ -5,7 +5,7 @@ use mathlib.Core.Logic.{_⊎_, inl, inr}
 use mathlib.Core.Path.{_≡_, refl, ap, _∙_}
 use native.Mathlib.Nat.{mul-le-mul}
 use native.Mathlib.Omega.{arith}
-use lib.ListN.{length, replicate, length-append, length-map}
+use lib.ListN.{length, replicate, length-append}
 use Rattle.limits.specs.Limits.{max-variables}
 use Rattle.formula.specs.declared.Refusal.{Refusal}
 use Rattle.formula.specs.declared.Refusal.the-variants.{Unmatched}
@@ -18,11 +18,11 @@ use Rattle.formula.specs.Table.{Beginning, written, Given, no-kind, kind-unknow
 use Rattle.formula.proofs.Demands.{accepted-only, accepted-all, accepted-fits, refused-only, numbers}
 use Rattle.assumptions.specs.FirstBad.{NoneBad}
 use Rattle.assumptions.proofs.Demands.{literals-exactly, literals-are, no-assumptions}
-use Rattle.matching.proofs.MatchedLaws.{selected-few}
+use Rattle.matching.proofs.SelectedLaws.{selected-few}
 use Rattle.splitting.specs.Nodes.{remaining}
 use Rattle.matched.specs.Acceptance.{Acceptance, accepted, declined, acceptance}
 use Rattle.matched.specs.Pairing.{Pairs, left-of, marked}
-use Rattle.matched.proofs.AcceptanceLaws.{left-sized, paired, strips, unpaired, AcceptedInput, Comes, of-formula, bad-assumed, unreadable, comes, accepted-is, left-accepted}
+use Rattle.matched.proofs.AcceptanceLaws.{paired, strips, unpaired, AcceptedInput, Comes, of-formula, bad-assumed, unreadable, comes, accepted-is, left-accepted}
 use Rattle.walk.specs.Task.{Task, under, to-assign, Posed}
 use Rattle.walk.specs.Checkpoints.{Checkpoint}
 use Rattle.walk.specs.PlainMachine.{Answer, found, spent, ended, plain-call, plain-calls, state-after}
@@ -131,11 +131,10 @@ declined-short s r row d h = by (comes s []) d
     by (of-formula n t cs reads assumes (paired vs w)) q = let z : _≡_ {A = ℕ} 0 1 = cc in absurd (omega arith)
     by (of-formula n t cs reads assumes (strips vs none w)) q = let z : _≡_ {A = ℕ} 0 1 = cc in absurd (omega arith)
     by (of-formula n t cs reads assumes (unpaired ms v none)) q =
-        let ls = left-of n t cs in
-        let e : Unmatched (length (marked ms ls)) ≡ r = cc in
-        let f = left-sized t (accepted-fits s n cs reads) .few in
-        let k = selected-few ms (map variables ls) in
-        rw (← e) (refused-line-length 10 (length (marked ms ls)) (omega arith) (omega (arith, length-map ls variables)))
+        let e : Unmatched (length (marked ms cs)) ≡ r = cc in
+        let f = accepted-fits s n cs reads .few in
+        let k = selected-few ms cs in
+        rw (← e) (refused-line-length 10 (length (marked ms cs)) (omega arith) (omega arith))
     by (bad-assumed n cs i reads assumes) q = let z : _≡_ {A = ℕ} 0 1 = cc (no-assumptions n) in absurd (omega arith)
     by (unreadable t reads) q = let e : t ≡ r = cc in rw (← e) (refused-short s t reads h)
 

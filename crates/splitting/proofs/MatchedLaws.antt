@@ -34,7 +34,7 @@ marks-of (Sublistᴰ·cons s) = let w = marks-of s in (0 ∷ w .0, w .1)
 marks-of (Sublistᴰ·cons-cons {a = x} {b = y} {l₁ = xs} e s) =
     let w = marks-of s in (1 ∷ w .0, ap (λ (l : List ℕ). y ∷ l) (w .1) ∙ ap (λ (z : ℕ). z ∷ xs) (sym e))
 
-sub-sets-matched : {xs sets : List ℕ} → Sublistᴰ xs sets → Matched sets → Matched xs
+pub sub-sets-matched : {xs sets : List ℕ} → Sublistᴰ xs sets → Matched sets → Matched xs
 sub-sets-matched {sets = sets} s M = let w = marks-of s in subst Matched (w .1) (sub-list-matched (w .0) sets M)
 
 -- a sub-list of matched clauses is matched

@@ -227,12 +227,12 @@ pub call-kept : (s : List ℕ) (us : List Assumption) (c : Checkpoint) (b : ℕ)
 unfolding walk-call
 call-kept s us c b w = ap (λ (a : Acceptance). call-on a c b) (acceptance-kept s us w)
 
--- S3.2: 10 before 11: whatever the checkpoint, a readable input with no bad assumption of which what stripping leaves is not matched is
--- refused by 10 with the number of marks that judge gives.
-pub unmatched : (s : List ℕ) (us : List Assumption) (buffer : List ℕ) (n : ℕ) (cs : List (List Literal)) (c : Checkpoint) (b : ℕ) → max-clauses ≤ length buffer
+-- S3.2: 10 before 11: a readable input with no bad assumption of which what stripping leaves is not matched is refused by 10, whatever the
+-- checkpoint and the budget, each time with the number of marks that judge gives.
+pub unmatched : (s : List ℕ) (us : List Assumption) (buffer : List ℕ) (n : ℕ) (cs : List (List Literal)) → max-clauses ≤ length buffer
     → Encodes s n cs → NoneBad n us → ((vs : List ℕ) → Pairs (left-of n (map literal-of us) cs) vs → ⊥)
-    → (k : ℕ) × (judge s us buffer .answer ≡ refused-values (Unmatched k)) × (walk-call s us c b ≡ refusing (Unmatched k) c)
-unmatched s us buffer n cs c b l w good = refusals.call-unmatched s us buffer n (map literal-of us) cs c b l (accepted-all s n cs w) (none-bad-literals n us good)
+    → (k : ℕ) × (judge s us buffer .answer ≡ refused-values (Unmatched k)) × ((c : Checkpoint) (b : ℕ) → walk-call s us c b ≡ refusing (Unmatched k) c)
+unmatched s us buffer n cs l w good = refusals.call-unmatched s us buffer n (map literal-of us) cs l (accepted-all s n cs w) (none-bad-literals n us good)
 
 -- S18.1: so the number is 10 exactly for such an input, whatever the checkpoint and the budget.
 pub unmatched-exactly : (s : List ℕ) (us : List Assumption) (c : Checkpoint) (b : ℕ)
@@ -241,8 +241,8 @@ pub unmatched-exactly : (s : List ℕ) (us : List Assumption) (c : Checkpoint) (
 unmatched-exactly s us c b = (
   refusals.called-unmatched s us c b,
   λ w.
-      let x = refusals.call-unmatched s us (replicate max-clauses 0) (w .0) (map literal-of us) (w .1) c b (omega arith) (accepted-all s (w .0) (w .1) (w .2)) (none-bad-literals (w .0) us (w .3)) (w .4) in
-      ap (λ (r : Result). r .number) (x .2),
+      let x = unmatched s us (replicate max-clauses 0) (w .0) (w .1) (omega arith) (w .2) (w .3) (w .4) in
+      ap (λ (r : Result). r .number) (x .2 c b),
 )
 
 -- S17.1: a readable input with a bad assumption is refused by 16, at the index of the first; the checkpoint comes back, and all else is 0.

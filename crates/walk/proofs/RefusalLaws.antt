@@ -65,13 +65,13 @@ module _ (s : List ℕ) (us : List Assumption) where
   call-bad n cs i c b e f = call-declined (BadAssumption i) [] c b (bad-declined s us n cs i e f)
 
   -- a readable one of which what stripping leaves is not matched gets 10 with the number of marks that judge gives
-  pub call-unmatched : (buffer : List ℕ) (n : ℕ) (t : List Literal) (cs : List (List Literal)) (c : Checkpoint) (b : ℕ) → max-clauses ≤ length buffer
+  pub call-unmatched : (buffer : List ℕ) (n : ℕ) (t : List Literal) (cs : List (List Literal)) → max-clauses ≤ length buffer
       → decode s ≡ readable n cs → assumed n us ≡ literals t → ((vs : List ℕ) → Pairs (left-of n t cs) vs → ⊥)
-      → (k : ℕ) × (judge s us buffer .answer ≡ refused-values (Unmatched k)) × (walk-call s us c b ≡ refusing (Unmatched k) c)
-  call-unmatched buffer n t cs c b l reads assumes none =
+      → (k : ℕ) × (judge s us buffer .answer ≡ refused-values (Unmatched k)) × ((c : Checkpoint) (b : ℕ) → walk-call s us c b ≡ refusing (Unmatched k) c)
+  call-unmatched buffer n t cs l reads assumes none =
       let w = unpaired-declined s us n t cs reads assumes none in
-      let k = length (marked (w .0) (left-of n t cs)) in
-      (k, ap (λ (j : Judged). j .answer) (judge-declined s us buffer l (Unmatched k) _ (w .2)), call-declined (Unmatched k) _ c b (w .2))
+      let k = length (marked (w .0) cs) in
+      (k, ap (λ (j : Judged). j .answer) (judge-declined s us buffer l (Unmatched k) _ (w .2)), λ c b. call-declined (Unmatched k) _ c b (w .2))
 
   -- a call that is not refused: the input is walkable
   unrefused-walkable : (c : Checkpoint) (b : ℕ) → (walk-call s us c b .kind ≡ says-refused → ⊥) → Walkable s us
