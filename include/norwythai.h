@@ -43,7 +43,7 @@
  * They are applied first: a clause that one of them satisfies is gone, and the others lose the assumed variables. Matching, stripping
  * and walking are of what remains, and the models of a walk are those that have the assumed values, which stand among their bits. A
  * variable stands in the list once at most (refusal 16). Nothing but that refusal's place depends on the order, which is tested and not
- * proved.
+ * proved. weigh takes such a list, too, and leaves the assumed variables uncounted.
  *
  * A TEXT is DIMACS CNF: lines that start with c are comments, anywhere; the first other line is `p cnf` with the numbers of variables
  * and clauses; then come the literals as numbers, a minus before those that are negative, and 0 at the end of each clause. Line feeds (0A)
@@ -52,13 +52,13 @@
  *
  * THE RESULTS are NORWYTHAI_RESULTS numbers:
  *
- *              check        judge          walk             list                          page          from_dimacs, to_dimacs
+ *              check  judge        weigh            walk             list                         page          from_dimacs, to_dimacs
  *   results[0] the answer, 0 to 3 as below
- *   results[1] 0            0              the model, or 0  the last call's model, or 0   0             0
+ *   results[1] 0      0            0                the model, or 0  the last call's model, or 0  0             0
  *   results[2] the refusal's number, or 0 if the answer is no refusal
  *   results[3] the refusal's place, or 0 if the answer is no refusal
- *   results[4] 0            variables n    steps made       how many models were written  lines filled  how many bytes were written
- *   results[5] 0            clauses m      expansions made  0                             0             0
+ *   results[4] 0      variables n  marked clauses   steps made       models written               lines filled  bytes written
+ *   results[5] 0      clauses m    their variables  expansions made  0                            0             0
  *
  *   answer  check               judge               walk                                 list
  *   0       NORWYTHAI_YES       NORWYTHAI_ACCEPTED  NORWYTHAI_MODEL                      NORWYTHAI_MODEL: `models` is full
@@ -66,14 +66,15 @@
  *   2       -                   -                   NORWYTHAI_ENDED: no model is left    NORWYTHAI_ENDED: no model is left
  *   3       NORWYTHAI_REFUSED   NORWYTHAI_REFUSED   NORWYTHAI_REFUSED                    NORWYTHAI_REFUSED
  *
- * page answers 0, NORWYTHAI_FULL, if all lines are filled; 2, NORWYTHAI_ENDED, if fewer are, since no model is left; or 3,
- * NORWYTHAI_REFUSED. from_dimacs and to_dimacs answer 0, NORWYTHAI_WRITTEN, or 3, NORWYTHAI_REFUSED.
+ * weigh answers 0, NORWYTHAI_COUNTED, or 3, NORWYTHAI_REFUSED. page answers 0, NORWYTHAI_FULL, if all lines are filled; 2,
+ * NORWYTHAI_ENDED, if fewer are, since no model is left; or 3, NORWYTHAI_REFUSED. from_dimacs and to_dimacs answer 0, NORWYTHAI_WRITTEN,
+ * or 3, NORWYTHAI_REFUSED.
  *
  * REFUSALS. Places are offsets into the input or the text, counted from 0, except at 10 and 16. In a text the place at 5 to 8 is the
  * word's first byte.
  *
  *   number  trade's word     given if                                            place
- *    1      short slate      the buffer is below 96 bytes (judge), 9,315
+ *    1      short slate      the buffer is below 96 bytes (judge, weigh), 9,315
  *                            (from_dimacs) or 18,636 (to_dimacs)                 0
  *    2      cut short        the input runs out within a record or before kind
  *                            5, or the text within a clause                      length of the input or the text
@@ -100,8 +101,8 @@
  *   18      bad serial       the first serial is 0 or above 999,950              0
  *
  * They are tested in the order 1, 17, 18, then record by record 2 to 8, then 9, 16, 10, 11, 12. check gives 2 to 9 and 12 only; judge 1
- * to 10 and 16; walk and list 2 to 11 and 16; page these and 17 and 18; to_dimacs 1 to 9. from_dimacs tests 1, 13, 5, then word by word
- * 14, 6, 7, 8, and at the end 2 and 15. On a refusal results[1], results[4] and results[5] are 0.
+ * to 10 and 16; weigh 1 to 9 and 16; walk and list 2 to 11 and 16; page these and 17 and 18; to_dimacs 1 to 9. from_dimacs tests 1, 13, 5,
+ * then word by word 14, 6, 7, 8, and at the end 2 and 15. On a refusal results[1], results[4] and results[5] are 0.
  *
  * A CHECKPOINT is NORWYTHAI_CHECKPOINT bytes that say where a walk stands: mode, length, 48 bytes of trail. norwythai_start gives the
  * first, norwythai_walk, norwythai_list and norwythai_page each the next, which any of them takes. It can be kept, copied and sent
@@ -160,6 +161,9 @@
 /* Added to the variable in judge's byte for a clause that stripping drops. */
 #define NORWYTHAI_DROPPED 128
 
+/* The other answer of weigh. */
+#define NORWYTHAI_COUNTED 0
+
 /* The other answer of page. */
 #define NORWYTHAI_FULL 0
 
@@ -197,8 +201,9 @@ uint32_t norwythai_check(const uint8_t *input, size_t input_length, uint64_t ass
  *   NORWYTHAI_DROPPED + v  if stripping drops it: v is the first noted variable that it names.
  * What remains is first matched as a whole, and stripped only if that can't be. So where it is matched no byte is above n, though
  * stripping would drop clauses; where it isn't, the left clauses have their variables, no two the same one.
- * Refusal 10: byte i is 1 if clause i + 1 is marked, and 0 for every other clause, satisfied and dropped ones too. Without the assumed
- * variables the marked clauses name fewer variables than they are, and results[3] is how many they are.
+ * Refusal 10: byte i is 1 if clause i + 1 is marked, and 0 for every other clause, satisfied and dropped ones too. results[3] is how many
+ * are marked. Without the assumed variables the marked clauses name exactly one variable fewer than they are, and none is marked without
+ * need: without any single one of them the others can be matched.
  * The buffer's other bytes never change; on any refusal but 10 none does.
  * With `input_length`, `assumptions_length` or `buffer_length` 0, `input`, `assumptions` or `buffer` is the address of any byte and not
  * null.
@@ -206,6 +211,21 @@ uint32_t norwythai_check(const uint8_t *input, size_t input_length, uint64_t ass
 NORWYTHAI_NODISCARD
 uint32_t norwythai_judge(const uint8_t *input, size_t input_length, const uint8_t *assumptions, size_t assumptions_length,
                          uint8_t *buffer, size_t buffer_length, uint64_t *results, size_t results_length);
+
+/*
+ * How many clauses the bytes of a buffer mark, results[4], and how many variables these clauses name, results[5]: each variable counted
+ * once, and the assumed ones not.
+ * Reads the input, the assumptions and the buffer, of which it needs NORWYTHAI_BUFFER bytes or more (fewer: refusal 1); writes the
+ * results. Byte i of the buffer, i below m, marks clause i + 1 if it is not 0; the bytes behind these do not count.
+ * Of the buffer as norwythai_judge left it at refusal 10, with the same input and the same assumptions, results[4] is judge's results[3],
+ * and results[5] is one fewer (theorem judged-weighed in crates/capi/proofs/Theorems.antt). Any other marks can be weighed as well, such
+ * as these with one of them cleared: it is not asked whether the formula is accepted, nor whether an assumption satisfies a marked clause.
+ * With `input_length`, `assumptions_length` or `buffer_length` 0, `input`, `assumptions` or `buffer` is the address of any byte and not
+ * null.
+ */
+NORWYTHAI_NODISCARD
+uint32_t norwythai_weigh(const uint8_t *input, size_t input_length, const uint8_t *assumptions, size_t assumptions_length,
+                         const uint8_t *buffer, size_t buffer_length, uint64_t *results, size_t results_length);
 
 /*
  * The checkpoint at which every walk starts. Writes the checkpoint: 50 zeros.

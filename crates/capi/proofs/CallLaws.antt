@@ -1,6 +1,6 @@
 -- What each exported function gives, from what its parts ensure: nothing is written, or the results are.
 use Prim.Native.Nat.{ℕ, _%_}
-use mathlib.Core.Bool.{cond, _&&_}
+use mathlib.Core.Bool.{Bool, cond, _&&_}
 use mathlib.Core.List.{List}
 use mathlib.Core.Path.{_≡_, sym, ap, _∙_}
 use lib.ListN.{length}
@@ -11,6 +11,7 @@ use Rattle.assumptions.specs.Bytes.{of-bytes}
 use Rattle.dimacs.specs.Convert.{ConvertedValues, Conversion}
 use Rattle.matched.specs.Judge as judging
 use Rattle.matched.specs.Judge.{judge}
+use Rattle.matched.specs.Weigh.{WeighedValues, weighed}
 use Rattle.walk.specs.Checkpoints.{Checkpoint, start}
 use Rattle.walk.specs.WalkCall.{walk-call}
 use Rattle.walk.specs.Results.{Result}
@@ -20,7 +21,7 @@ use Rattle.enumeration.specs.Values.{checkpoint-values, walked-values, listed-v
 use Rattle.enumeration.specs.Lists.{Delivered, next-models}
 use Rattle.page.specs.declared.Paged.{Paged}
 use Rattle.page.specs.Pages.{page-values, page-told, page-call}
-use Rattle.capi.specs.Interface.{results-size, checkpoint-size, assumption-size, check-results, judge-results, conversion-results, walk-results, list-results, page-results, checkpoint-bytes, checkpoint-in, results-sized, checkpoint-sized, assumptions-sized, check-called, judge-called, conversion-called, start-called, walk-told, walk-called, list-told, list-called, page-shown, page-called}
+use Rattle.capi.specs.Interface.{results-size, checkpoint-size, assumption-size, check-results, judge-results, weigh-results, conversion-results, walk-results, list-results, page-results, checkpoint-bytes, checkpoint-in, results-sized, checkpoint-sized, assumptions-sized, check-called, judge-called, weigh-called, conversion-called, start-called, walk-told, walk-called, list-told, list-called, page-shown, page-called}
 use Rattle.capi.proofs.ResultsLaws.{beside}
 
 module _ (s results : List ℕ) (a : ℕ) where
@@ -34,30 +35,6 @@ module _ (s results : List ℕ) (a : ℕ) where
       r ≡ checked s a → after ≡ check-results r → check-called s a results ≡ (0, after)
   unfolding check-called
   check-written r after h e f = rw (eq-eqb _ _ h, f, e)
-
-module _ (s assumptions buffer results : List ℕ) where
-  pub judge-unwritten :
-      (length assumptions % assumption-size ≡ 0 → ⊥) →
-      judge-called s assumptions buffer results ≡ (1, buffer, results)
-  unfolding judge-called
-  judge-unwritten g = rw (ne-eqb _ _ g)
-
-  pub judge-unwritten-2 :
-      length assumptions % assumption-size ≡ 0 →
-      (length results ≡ results-size → ⊥) →
-      judge-called s assumptions buffer results ≡ (1, buffer, results)
-  unfolding judge-called
-  judge-unwritten-2 g h = rw (eq-eqb _ _ g, ne-eqb _ _ h)
-
-  pub judge-written :
-      (r : judging.JudgementValues) (left after : List ℕ) →
-      length assumptions % assumption-size ≡ 0 →
-      length results ≡ results-size →
-      r ≡ judge s (of-bytes assumptions) buffer .answer →
-      left ≡ judge s (of-bytes assumptions) buffer .buffer →
-      after ≡ judge-results r → judge-called s assumptions buffer results ≡ (0, left, after)
-  unfolding judge-called
-  judge-written r left after g h e l f = rw (eq-eqb _ _ g, eq-eqb _ _ h, f, e, l)
 
 module _ (c : Conversion) (buffer results : List ℕ) where
   pub conversion-unwritten :
@@ -85,24 +62,58 @@ module _ (checkpoint : List ℕ) where
   unfolding start-called
   start-written c after h e f = rw (eq-eqb _ _ h, f, e)
 
--- the lengths that walk, list and page ask for: one of them is wrong, or all are right
-module _ {A : Type 0} (assumptions checkpoint results : List ℕ) (written unwritten : A) where
-  abbrev asked : A
-  asked = cond (assumptions-sized assumptions && (checkpoint-sized checkpoint && results-sized results)) written unwritten
+-- the lengths that a function with assumptions asks for: one of them is wrong, or all are right
+module _ {A : Type 0} (assumptions : List ℕ) (written unwritten : A) where
+  abbrev asked : Bool → A
+  asked others = cond (assumptions-sized assumptions && others) written unwritten
 
-  pub asked-assumptions : (length assumptions % assumption-size ≡ 0 → ⊥) → asked ≡ unwritten
-  asked-assumptions g = rw (ne-eqb _ _ g)
+  pub asked-assumptions : (others : Bool) → (length assumptions % assumption-size ≡ 0 → ⊥) → asked others ≡ unwritten
+  asked-assumptions others g = rw (ne-eqb _ _ g)
 
-  module _ (g : length assumptions % assumption-size ≡ 0) where
-    pub asked-checkpoint : (length checkpoint ≡ checkpoint-size → ⊥) → asked ≡ unwritten
-    asked-checkpoint h = rw (eq-eqb _ _ g, ne-eqb _ _ h)
+  module _ (results : List ℕ) (g : length assumptions % assumption-size ≡ 0) where
+    -- judge and weigh: that of the results, too
+    pub asked-results : (length results ≡ results-size → ⊥) → asked (results-sized results) ≡ unwritten
+    asked-results k = rw (eq-eqb _ _ g, ne-eqb _ _ k)
 
-    module _ (h : length checkpoint ≡ checkpoint-size) where
-      pub asked-results : (length results ≡ results-size → ⊥) → asked ≡ unwritten
-      asked-results k = rw (eq-eqb _ _ g, eq-eqb _ _ h, ne-eqb _ _ k)
+    asked-rightly : length results ≡ results-size → asked (results-sized results) ≡ written
+    asked-rightly k = rw (eq-eqb _ _ g, eq-eqb _ _ k)
 
-      asked-rightly : length results ≡ results-size → asked ≡ written
-      asked-rightly k = rw (eq-eqb _ _ g, eq-eqb _ _ h, eq-eqb _ _ k)
+    -- walk, list and page: before it that of the checkpoint
+    module _ (checkpoint : List ℕ) where
+      pub asked-checkpoint : (length checkpoint ≡ checkpoint-size → ⊥) → asked (checkpoint-sized checkpoint && results-sized results) ≡ unwritten
+      asked-checkpoint h = rw (eq-eqb _ _ g, ne-eqb _ _ h)
+
+      module _ (h : length checkpoint ≡ checkpoint-size) where
+        pub asked-results-behind : (length results ≡ results-size → ⊥) → asked (checkpoint-sized checkpoint && results-sized results) ≡ unwritten
+        asked-results-behind k = rw (eq-eqb _ _ h) (asked-results k)
+
+        asked-rightly-behind : length results ≡ results-size → asked (checkpoint-sized checkpoint && results-sized results) ≡ written
+        asked-rightly-behind k = rw (eq-eqb _ _ h) (asked-rightly k)
+
+module _ (s assumptions buffer results : List ℕ) (g : length assumptions % assumption-size ≡ 0) (k : length results ≡ results-size) where
+  -- all lengths are right
+  pub judge-called-is :
+      (let j = judge s (of-bytes assumptions) buffer in
+      judge-called s assumptions buffer results ≡ (0, j .buffer, judge-results (j .answer)))
+  unfolding judge-called
+  judge-called-is = asked-rightly assumptions _ _ results g k
+
+  pub judge-written :
+      (r : judging.JudgementValues) (left after : List ℕ) →
+      r ≡ judge s (of-bytes assumptions) buffer .answer →
+      left ≡ judge s (of-bytes assumptions) buffer .buffer →
+      after ≡ judge-results r → judge-called s assumptions buffer results ≡ (0, left, after)
+  judge-written r left after e l f = rw (judge-called-is, f, e, l)
+
+  pub weigh-called-is : weigh-called s assumptions buffer results ≡ (0, weigh-results (weighed s (of-bytes assumptions) buffer))
+  unfolding weigh-called
+  weigh-called-is = asked-rightly assumptions _ _ results g k
+
+  pub weigh-written :
+      (r : WeighedValues) (after : List ℕ) →
+      r ≡ weighed s (of-bytes assumptions) buffer →
+      after ≡ weigh-results r → weigh-called s assumptions buffer results ≡ (0, after)
+  weigh-written r after e f = rw (weigh-called-is, f, e)
 
 module _ (s assumptions checkpoint results : List ℕ) (budget : ℕ) where
   -- all lengths are right
@@ -112,7 +123,7 @@ module _ (s assumptions checkpoint results : List ℕ) (budget : ℕ) where
       length results ≡ results-size →
       walk-called s assumptions checkpoint budget results ≡ walk-told (walk-call s (of-bytes assumptions) (checkpoint-in checkpoint) budget)
   unfolding walk-called
-  walk-called-is g h k = asked-rightly assumptions checkpoint results _ _ g h k
+  walk-called-is g h k = asked-rightly-behind assumptions _ _ results g checkpoint h k
 
   pub walk-written :
       (from : Checkpoint) (w : Walked) (left after : List ℕ) →
@@ -136,7 +147,7 @@ module _ (s assumptions checkpoint models results : List ℕ) where
       list-called s assumptions checkpoint models results
       ≡ list-told models (next-models s (of-bytes assumptions) (checkpoint-in checkpoint) (length models))
   unfolding list-called
-  list-called-is g h k = asked-rightly assumptions checkpoint results _ _ g h k
+  list-called-is g h k = asked-rightly-behind assumptions _ _ results g checkpoint h k
 
   pub list-written :
       (from : Checkpoint) (r : Listed) (left brought after : List ℕ) →
@@ -166,7 +177,7 @@ module _ (s assumptions checkpoint page results : List ℕ) (serial : ℕ) where
       page-called s assumptions checkpoint serial page results
       ≡ page-shown (page-call s (of-bytes assumptions) (checkpoint-in checkpoint) serial page)
   unfolding page-called
-  page-called-is g h k = asked-rightly assumptions checkpoint results _ _ g h k
+  page-called-is g h k = asked-rightly-behind assumptions _ _ results g checkpoint h k
 
   pub page-written :
       (from : Checkpoint) (r : Paged) (left filled after : List ℕ) →

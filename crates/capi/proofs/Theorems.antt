@@ -1,6 +1,7 @@
 -- What holds of the interface: no byte of a checkpoint is lost, a refused call leaves it as it was and brings no model and no line, a
--- refused conversion leaves its buffer, and calls from the start checkpoint make the walk of demand 3 (S10) and the pages of S19.5.
-use Prim.Native.Nat.{ℕ, zero, suc, _+_, _%_, _≤_}
+-- refused conversion leaves its buffer, the marks that judge leaves weigh one variable fewer than clauses (S20.2), and calls from the start
+-- checkpoint make the walk of demand 3 (S10) and the pages of S19.5.
+use Prim.Native.Nat.{ℕ, zero, suc, _+_, _-_, _%_, _≤_}
 use mathlib.Core.Bool.{Bool, true, false, cond}
 use mathlib.Core.List.{List, [], _∷_, map}
 use mathlib.Core.Logic.{⊎-elim}
@@ -18,6 +19,8 @@ use Rattle.assumptions.specs.Assumed.{literal-of}
 use Rattle.assumptions.specs.FirstBad.{NoneBad}
 use Rattle.assumptions.specs.Bytes.{of-bytes}
 use Rattle.matched.specs.Pairing.{Pairs, left-of}
+use Rattle.matched.specs.Weigh.{WeighedValues}
+use Rattle.matched.proofs.Demands.{weighed-violator}
 use Rattle.dimacs.specs.Convert.{Conversion, to-encoded, to-text}
 use Rattle.dimacs.proofs.Demands.{read-untouched, write-untouched}
 use Rattle.walk.specs.Task.{under}
@@ -32,8 +35,8 @@ use Rattle.page.specs.PageLines.{page-lines}
 use Rattle.page.specs.Pages.{ample-budgets, PageCall, page-call, page-calls}
 use Rattle.page.proofs.PageCallLaws.{by-answer}
 use Rattle.page.proofs.Demands.{refused-keeps}
-use Rattle.capi.specs.Interface.{results-size, checkpoint-size, assumption-size, kind-code, walk-results, page-results, checkpoint-bytes, checkpoint-in, conversion-called, from-dimacs-called, to-dimacs-called, start-called, walk-told, walk-called, walks-called, list-called, page-shown, page-called, pages-called}
-use Rattle.capi.proofs.CallLaws.{start-written, walk-called-is, list-called-is, page-called-is}
+use Rattle.capi.specs.Interface.{results-size, checkpoint-size, assumption-size, kind-code, weigh-results, walk-results, page-results, checkpoint-bytes, checkpoint-in, judge-called, weigh-called, conversion-called, from-dimacs-called, to-dimacs-called, start-called, walk-told, walk-called, walks-called, list-called, page-shown, page-called, pages-called}
+use Rattle.capi.proofs.CallLaws.{judge-called-is, weigh-called-is, start-written, walk-called-is, list-called-is, page-called-is}
 
 -- ---- the bytes of a checkpoint
 
@@ -127,6 +130,21 @@ module _ (s buffer results : List ℕ) (k : length results ≡ results-size) whe
   pub to-dimacs-refused : (let after = to-dimacs-called s buffer results in
       getD (after .2) 0 0 ≡ kind-code says-refused → (after .1 ≡ buffer) × (getD (after .2) 4 0 ≡ 0))
   to-dimacs-refused = called-kept (to-text s buffer) (write-untouched s buffer)
+
+-- ---- marks
+
+module _ (s assumptions buffer results others : List ℕ) (g : length assumptions % assumption-size ≡ 0)
+    (k : length results ≡ results-size) (l : length others ≡ results-size) where
+  -- S20.2 in the interface: after a norwythai_judge whose results, place 2, say refusal 10, norwythai_weigh of the same input, the same
+  -- assumptions and the buffer as judge left it, place 1, returns 0 and answers 0: results[4], the clauses, is judge's results[3], and
+  -- results[5], the variables, is one fewer.
+  pub judged-weighed : (let after = judge-called s assumptions buffer results in
+      getD (after .2) 2 0 ≡ 10
+      → (let marked = getD (after .2) 3 0 in weigh-called s assumptions (after .1) others ≡ (0, 0 ∷ 0 ∷ 0 ∷ 0 ∷ marked ∷ (marked - 1) ∷ [])))
+  judged-weighed =
+      rw (judge-called-is s assumptions buffer results g k)
+      (λ e. weigh-called-is s assumptions _ others g l
+      ∙ ap (λ (w : WeighedValues). (0, weigh-results w)) (weighed-violator s (of-bytes assumptions) buffer e))
 
 -- ---- lists of calls
 

@@ -12,6 +12,7 @@ use Rattle.assumptions.specs.Bytes.{of-bytes}
 use Rattle.dimacs.specs.Convert.{ConvertedValues, Conversion, to-encoded, to-text}
 use Rattle.matched.specs.Judge as judging
 use Rattle.matched.specs.Judge.{judge}
+use Rattle.matched.specs.Weigh.{WeighedValues, weighed}
 use Rattle.walk.specs.Checkpoints.{Checkpoint, start}
 use Rattle.walk.specs.WalkCall.{walk-call}
 use Rattle.walk.specs.Results.{AnswerKind, says-model, says-spent, says-ended, says-refused, Result}
@@ -41,6 +42,10 @@ check-results a = said-code (a .said) ∷ 0 ∷ a .number ∷ a .place ∷ 0 ∷
 -- accepted if there is no refusal's number; at the end the numbers of variables and of clauses
 abbrev pub judge-results : judging.JudgementValues → List ℕ
 judge-results a = cond (eqb (a .number) 0) 0 3 ∷ 0 ∷ a .number ∷ a .place ∷ a .variables ∷ a .clauses ∷ []
+
+-- counted if there is no refusal's number; at the end the numbers of marked clauses and of the variables that they name
+abbrev pub weigh-results : WeighedValues → List ℕ
+weigh-results a = cond (eqb (a .number) 0) 0 3 ∷ 0 ∷ a .number ∷ a .place ∷ a .clauses ∷ a .variables ∷ []
 
 -- written if there is no refusal's number; then how many bytes
 abbrev pub conversion-results : ConvertedValues → List ℕ
@@ -95,6 +100,11 @@ unfoldable pub judge-called : List ℕ → List ℕ → List ℕ → List ℕ �
 judge-called s assumptions buffer results =
     let j = judge s (of-bytes assumptions) buffer in
     cond (assumptions-sized assumptions && results-sized results) (0, j .buffer, judge-results (j .answer)) (1, buffer, results)
+
+-- norwythai_weigh: the input, the assumptions, the pairing buffer, which it only reads, and the results as they were
+unfoldable pub weigh-called : List ℕ → List ℕ → List ℕ → List ℕ → ℕ × List ℕ
+weigh-called s assumptions buffer results =
+    cond (assumptions-sized assumptions && results-sized results) (0, weigh-results (weighed s (of-bytes assumptions) buffer)) (1, results)
 
 -- a conversion of either kind: what it leaves, and the buffer and the results as they were
 unfoldable pub conversion-called : Conversion → List ℕ → List ℕ → ℕ × List ℕ × List ℕ

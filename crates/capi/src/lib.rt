@@ -9,11 +9,12 @@ ghost use Rattle.assumptions.specs.Bytes.{of-bytes};
 ghost use Rattle.assumptions.specs.InnerAssumed.{MasksOf};
 ghost use Rattle.dimacs.specs.Convert.{converted-values};
 ghost use Rattle.matched.specs.Judge as judging;
+ghost use Rattle.matched.specs.Weigh.{weighed-values};
 ghost use Rattle.walk.specs.Checkpoints as walk;
 ghost use Rattle.enumeration.specs.Values.{checkpoint-values, answer-values, walked-values, listed-values};
 ghost use Rattle.page.specs.Pages.{page-values};
 ghost use Rattle.capi.specs.InnerResults.{numbers};
-ghost use Rattle.capi.specs.Interface.{results-size, check-results, judge-results, conversion-results, walk-results, list-results, page-results, checkpoint-size, checkpoint-bytes, checkpoint-in, check-called, judge-called, from-dimacs-called, to-dimacs-called, start-called, walk-called, list-called, page-called};
+ghost use Rattle.capi.specs.Interface.{results-size, check-results, judge-results, weigh-results, conversion-results, walk-results, list-results, page-results, checkpoint-size, checkpoint-bytes, checkpoint-in, check-called, judge-called, weigh-called, from-dimacs-called, to-dimacs-called, start-called, walk-called, list-called, page-called};
 use assumptions::Assumptions;
 use dimacs::Converted;
 use enumeration::Checkpoint;
@@ -22,6 +23,7 @@ use enumeration::Walked;
 use formula::Refusal;
 use formula::Verdict;
 use matched::Judgement;
+use matched::Weighed;
 use page::PageAnswer;
 
 // The results are so many numbers.
@@ -34,7 +36,8 @@ const CHECKPOINT_SIZE: usize = 2 + limits::MAX_VARIABLES;
 const ASSUMPTION_SIZE: usize = 2;
 
 // The results of a call, in the order in which they are written. judge has the numbers of variables and clauses in place of the
-// steps and expansions; a conversion has the number of bytes, list that of models and a page that of lines in place of the steps.
+// steps and expansions, weigh those of marked clauses and of variables; a conversion has the number of bytes, list that of models and a
+// page that of lines in place of the steps.
 struct Results {
     answer: u64,
     model: u64,
@@ -87,6 +90,17 @@ fn judge_results(j: Judgement) -> Results
     match j {
         Judgement::Accepted(n, m) => plain_results(0, 0, n as u64, m as u64),
         Judgement::Refused(refusal) => refusal_results(refusal, 0, 0),
+    }
+}
+
+fn weigh_results(w: Weighed) -> Results
+    ensures { λ r. ⌜ numbers r ≡ weigh-results (weighed-values w) ⌝ }
+{
+    match w {
+        Weighed::Counted(clauses, variables) => {
+            plain_results(0, 0, clauses as u64, variables as u64)
+        }
+        Weighed::Refused(refusal) => refusal_results(refusal, 0, 0),
     }
 }
 
@@ -222,6 +236,30 @@ pub extern "C" fn norwythai_judge(
     let u = assumptions_in(input, assumptions);
     put_results(
         judge_results(matched::find_matching_under(input, u, buffer)),
+        results,
+    );
+    0
+}
+
+// S20.2: how much the marks in the buffer weigh.
+#[no_mangle]
+pub extern "C" fn norwythai_weigh(
+    input: &[u8],
+    assumptions: &[u8],
+    buffer: &[u8],
+    results: &mut [u64],
+) -> u32
+    ensures { λ r. ⌜ weigh-called (now (input .entry)) (now (assumptions .entry)) (now (buffer .entry)) (now (results .entry)) ≡ (r, now (results .exit)) ⌝ }
+{
+    if assumptions.len() % ASSUMPTION_SIZE != 0 {
+        return 1;
+    }
+    if results.len() != RESULTS_SIZE {
+        return 1;
+    }
+    let u = assumptions_in(input, assumptions);
+    put_results(
+        weigh_results(matched::weigh_marks_under(input, u, buffer)),
         results,
     );
     0

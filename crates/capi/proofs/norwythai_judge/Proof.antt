@@ -2,19 +2,22 @@
 use mathlib.Core.Path.{_∙_}
 use borrow.Author.Needs.{needs}
 use Rattle.assumptions.specs.Bytes.{of-bytes}
-use Rattle.capi.proofs.CallLaws.{judge-unwritten, judge-unwritten-2, judge-written}
+use Rattle.capi.specs.Interface.{judge-called}
+use Rattle.capi.proofs.CallLaws.{asked-assumptions, asked-results, judge-written}
 use Rattle.capi.proofs.norwythai_judge.Statement.{statement}
 use Rattle.capi.proofs.norwythai_judge.Tie as tie
 
 returns : tie.Need-returns
+unfolding judge-called
 returns c =
     let a = c .before .before .before .before .before .args in
-    judge-unwritten (a .input .now) (a .assumptions .now) (a .buffer .now) (a .results .now) (c .if1 .taken)
+    asked-assumptions (a .assumptions .now) _ _ _ (c .if1 .taken)
 
 returns-2 : tie.Need-returns-2
+unfolding judge-called
 returns-2 c =
     let a = c .before .before .before .before .before .before .args in
-    judge-unwritten-2 (a .input .now) (a .assumptions .now) (a .buffer .now) (a .results .now) (c .before .if1 .left) (c .if2 .taken)
+    asked-results (a .assumptions .now) _ _ (a .results .now) (c .before .if1 .left) (c .if2 .taken)
 
 assumptions-in-requires : tie.Need-assumptions-in-requires
 assumptions-in-requires c κs = search needs
@@ -42,9 +45,10 @@ returns-3 c =
     let e = u .before in
     let a = e .before .before .before .before .before .before .args in
     let f = m .find-matching-under .ensures (of-bytes (a .assumptions .now)) (u .assumptions-in .ensures) in
-    judge-written (a .input .now) (a .assumptions .now) (a .buffer .now) (a .results .now) _ _ _
+    judge-written (a .input .now) (a .assumptions .now) (a .buffer .now) (a .results .now)
     (e .before .if1 .left)
     (e .if2 .left)
+    _ _ _
     (f .0)
     (f .1)
     (c .before .before .put-results .ensures ∙ c .before .before .before .before .judge-results .ensures)

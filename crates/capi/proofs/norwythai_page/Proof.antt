@@ -3,7 +3,7 @@ use mathlib.Core.Path.{_∙_}
 use borrow.Author.Needs.{needs}
 use Rattle.assumptions.specs.Bytes.{of-bytes}
 use Rattle.capi.specs.Interface.{page-called}
-use Rattle.capi.proofs.CallLaws.{asked-assumptions, asked-checkpoint, asked-results, page-written}
+use Rattle.capi.proofs.CallLaws.{asked-assumptions, asked-checkpoint, asked-results-behind, page-written}
 use Rattle.capi.proofs.norwythai_page.Statement.{statement}
 use Rattle.capi.proofs.norwythai_page.Tie as tie
 
@@ -11,19 +11,19 @@ returns : tie.Need-returns
 unfolding page-called
 returns c =
     let a = c .before .before .before .before .before .before .args in
-    asked-assumptions (a .assumptions .now) (a .checkpoint .now) (a .results .now) _ _ (c .if1 .taken)
+    asked-assumptions (a .assumptions .now) _ _ _ (c .if1 .taken)
 
 returns-2 : tie.Need-returns-2
 unfolding page-called
 returns-2 c =
     let a = c .before .before .before .before .before .before .before .args in
-    asked-checkpoint (a .assumptions .now) (a .checkpoint .now) (a .results .now) _ _ (c .before .if1 .left) (c .if2 .taken)
+    asked-checkpoint (a .assumptions .now) _ _ (a .results .now) (c .before .if1 .left) (a .checkpoint .now) (c .if2 .taken)
 
 returns-3 : tie.Need-returns-3
 unfolding page-called
 returns-3 c =
     let a = c .before .before .before .before .before .before .before .before .args in
-    asked-results (a .assumptions .now) (a .checkpoint .now) (a .results .now) _ _ (c .before .before .if1 .left) (c .before .if2 .left) (c .if3 .taken)
+    asked-results-behind (a .assumptions .now) _ _ (a .results .now) (c .before .before .if1 .left) (a .checkpoint .now) (c .before .if2 .left) (c .if3 .taken)
 
 assumptions-in-requires : tie.Need-assumptions-in-requires
 assumptions-in-requires c κs = search needs
