@@ -3,15 +3,15 @@
 
 VECTORS has one JSON object a line: "act", its input and the expected answer. Vectors of an act that has no coder below are
 left out. So is one that does not fit the format, and that is said. If all of them together don't fit, nothing is written. Every
-readable input among them is also written as a text, and that text read again.
+readable input among them is also written as a text, and that text read again; and what each judge leaves in the buffer is weighed.
 
 Format. A file holds vectors of one act, one after the other, and nothing else; it has at most 65,536 bytes, so an act has
-files NAMEa, NAMEb, .., at most 26; start has one, start, and the edge cases of an act have one, NAME_edges, and for judge and walk
-under assumptions a second one, NAME_assumed. Numbers are little-endian. A vector is
+files NAMEa, NAMEb, .., at most 26; start has one, start, and the edge cases of an act have one, NAME_edges, and for judge, weigh and
+walk under assumptions a second one, NAME_assumed. Numbers are little-endian. A vector is
 
     2 bytes   its number: the line of VECTORS, from 1, or from 60,000 for a vector of this script
     2 bytes   the length of its input
-    2 bytes   the length of its assumptions, which judge, walk, chain, listing, list, page and formulas may have
+    2 bytes   the length of its assumptions, which judge, weigh, walk, chain, listing, list, page and formulas may have
     2 bytes   the length of the bytes that it expects, which read_text, write_text, list, page and printed have
     ..        its input
     ..        its assumptions, two bytes each: the variable, then 1 for true or 0 for false
@@ -22,12 +22,12 @@ under assumptions a second one, NAME_assumed. Numbers are little-endian. A vecto
 An answer:
 
     1 byte    what it says: 0 no, 1 yes (check), 2 refused, 3 accepted (judge), 4 model, 5 spent, 6 ended (walk),
-              7 not compared, 8 models (formulas), 10 written (read_text, write_text), 11 filled (page)
+              7 not compared, 8 models (formulas), 10 written (read_text, write_text), 11 filled (page), 12 counted (weigh)
     1 byte    the refusal's number, else 0
     2 bytes   the refusal's place, the number of models (formulas), that of the bytes written (read_text, write_text) or that of the
               filled lines (page), else 0
-    1 byte    n, the number of variables, if accepted, else 0
-    1 byte    m, the number of clauses, if accepted, else 0
+    1 byte    n, the number of variables, if accepted, that of the variables counted, if counted, else 0
+    1 byte    m, the number of clauses, if accepted, that of the marked ones, if counted, else 0
 
 Own fields of check, 8 bytes: the assignment.
 
@@ -36,6 +36,16 @@ Own fields of judge, 98 bytes. The lent buffer is the first bytes of an array of
     1 byte    the length of the buffer
     1 byte    the fill: what every byte of the array is before the call
     96 bytes  the first 96 bytes of the array after the call; each later byte must be the fill
+
+Own fields of weigh, 98 bytes. The lent buffer is the first bytes of an array of 256 bytes:
+
+    1 byte    the length of the buffer
+    1 byte    the fill: what every byte of the array from byte 96 on is
+    96 bytes  the first 96 bytes of the array
+
+Each vector of judge is one of weigh too, on the buffer that judge leaves. At refusal 10 with the place k the marks weigh k clauses and
+k - 1 variables; any other refusal is that of judge; and of an accepted formula the clauses are counted whose byte is not 0, and the
+variables that they name, those that are assumed not.
 
 Own fields of read_text and write_text, 3 bytes. They expect the bytes that are to be written:
 
@@ -108,10 +118,11 @@ LETTERS = string.ascii_lowercase  # the ends of the names of an act's files
 CASES = pathlib.Path(__file__).resolve().parent.parent / 'crates' / 'cases'
 
 NO, YES, REFUSED, ACCEPTED, MODEL, SPENT, ENDED, NOT_COMPARED, LISTED = range(9)
-CONVERTED, FILLED = 10, 11
+CONVERTED, FILLED, COUNTED = 10, 11, 12
 SAYS = {'no': NO, 'yes': YES, 'refused': REFUSED, 'set-up': MODEL, 'spent': SPENT, 'ended': ENDED}
 READ = 16384  # bytes of standard input that the printing program reads
-WRITTEN = 96  # bytes of the array that judge may write
+WRITTEN = 96  # bytes of the array that judge may write, and weigh reads
+UNMATCHED_NUMBER = 10  # of the refusal at which judge leaves marks
 PAGE_LINES, LINE_SIZE = 50, 60  # of a page
 START, LAST = 1, 2  # the checkpoint that a walk call gets, if it is not given
 
@@ -140,8 +151,9 @@ def answer_of(says, refusal=0, place=0, n=0, m=0):
     return little(says, 1) + little(refusal, 1) + little(place, 2) + little(n, 1) + little(m, 1)
 
 
-def judge_fields(length, fill, written):
-    """The fields of judge; `written` is the first bytes of the buffer after the call, up to the last that may not be the fill."""
+def buffer_fields(length, fill, written):
+    """The fields of judge and weigh; `written` is the first bytes of the buffer, for judge those after the call, up to the last that may
+    not be the fill."""
     assert len(written) <= min(length, WRITTEN)
     return little(length, 1) + little(fill, 1) + written + bytes([fill]) * (WRITTEN - len(written))
 
@@ -187,7 +199,21 @@ def judge_vector(number, v):
     assert len(after) == length and all(b == fill for b in after[WRITTEN:])
     says, refusal = (REFUSED, v['refusal']) if v['refusal'] else (ACCEPTED, (0, 0))
     answer = answer_of(says, *refusal, v['n'], v['m'])
-    return [[coded(number, assumed_input(v), answer, judge_fields(length, fill, after[:WRITTEN]))]]
+    return [[coded(number, assumed_input(v), answer, buffer_fields(length, fill, after[:WRITTEN]))]]
+
+
+def weigh_vector(number, v):
+    """From a vector of judge: the buffer that it leaves is weighed."""
+    (given, assumed), after = assumed_input(v), bytes.fromhex(v['slate'])
+    refusal, place = v['refusal'] or (0, 0)
+    if refusal == UNMATCHED_NUMBER:
+        answer = answer_of(COUNTED, n=place - 1, m=place)
+    elif refusal:
+        answer = answer_of(REFUSED, refusal, place)
+    else:
+        clauses, variables = weighed(given, assumed, after)
+        answer = answer_of(COUNTED, n=variables, m=clauses)
+    return [[coded(number, (given, assumed), answer, buffer_fields(v['slate_len'], v['slate_fill'], after[:WRITTEN]))]]
 
 
 def converted(number, given, length, fill, refusal, output):
@@ -268,7 +294,7 @@ def printed_vector(number, v):
     return [[printed_text(number, bytes.fromhex(v['stdin']), v['stdout'])]]
 
 
-ACTS = {'check': check_vector, 'judge': judge_vector, 'read_text': read_vector, 'write_text': write_vector,
+ACTS = {'check': check_vector, 'judge': judge_vector, 'weigh': weigh_vector, 'read_text': read_vector, 'write_text': write_vector,
         'start': start_vector, 'walk': walk_vector, 'chain': chain_vector, 'listing': listing_vector, 'list': list_vector,
         'page': page_vector, 'printed': printed_vector}
 
@@ -332,6 +358,13 @@ def values_of(n, assumed):
             return None
         values[v] = x != 0
     return values
+
+
+def weighed(given, assumed, buffer):
+    """How many clauses of a readable input the buffer marks, and how many variables, the assumed ones not counted, these name."""
+    n, clauses = read(given)
+    marked = [c for c, mark in zip(clauses, buffer) if mark]
+    return len(marked), len({v for c in marked for v, _ in c} - values_of(n, assumed).keys())
 
 
 def remaining(clauses, values):
@@ -685,6 +718,121 @@ JUDGE_ASSUMED = [
     ((TWO_WIDE, ALL_FALSE[:-6]), 96, 0xff, ACCEPTED, 0, 0, 48, 2, 'b0 b0'),
     (('01 30' + WIDE + ' 03 30 04 05', ALL_FALSE[:-6]), 96, 0xff, REFUSED, 10, 2, 0, 0, '01 01'),
     (('01 02' + 96 * ' 02 01 02 02 04' + ' 05', '01 00 02 00'), 96, 0xff, REFUSED, 10, 1, 0, 0, '01' + 95 * ' 00'),
+]
+
+
+# weigh: input, length of the buffer, fill, what the answer says, the refusal's number and place, the variables and the clauses that are
+# counted, and the first bytes of the buffer; all other bytes are the fill
+ONE_OF_TWO = '01 02 02 01 04 05'  # S20: the clause (1), and variable 2
+THREE_OF_FIVE = '01 03 02 01 02 02 04 03 02 02 03 04 02 02 03 03 04 03 02 03 03 04 02 03 04 05'  # with 1 false the first three are marked
+SINGLES = '01 30' + ''.join(' 03 %02x 04' % v for v in range(1, 49)) + ' 05'  # clauses (not 1) .. (not 48)
+MARKS = ['01', '02', '07', '30', '7f', '80', '81', 'b0', 'fe', 'ff']  # bytes that are not 0
+LENGTHS = [96, 97, 200, 255]  # of buffers that are not short
+SHORT = [0, 1, 95]  # of buffers that are
+
+WEIGH_EDGES = [
+    # each length of the buffer: a short one is refused before anything is read
+    *((EXAMPLE, length, 0x01, REFUSED, 1, 0, 0, 0, '') for length in SHORT),
+    *((UNREADABLE, length, 0x01, REFUSED, 1, 0, 0, 0, '') for length in SHORT),
+    *((EXAMPLE, length, 0x01, COUNTED, 0, 0, 2, 2, '01 01') for length in LENGTHS),
+    *((EXAMPLE, length, 0x01, COUNTED, 0, 0, 0, 0, '00 00') for length in LENGTHS),
+    # the marks that judge leaves: the clauses name one variable fewer than they are; what stands behind them is not counted
+    ('01 01 04 05', 96, 0xff, COUNTED, 0, 0, 0, 1, '01'),
+    ('01 01 02 01 04 04 05', 96, 0xff, COUNTED, 0, 0, 0, 1, '00 01'),
+    (UNMATCHED, 96, 0xff, COUNTED, 0, 0, 1, 2, '01 01'),
+    (MARKED, 96, 0xff, COUNTED, 0, 0, 1, 2, '00 00 01 01'),
+    ('01 02 02 01 04 02 02 04 03 02 04 05', 96, 0xff, COUNTED, 0, 0, 1, 2, '00 01 01'),
+    (SIGNED + ' 03 01 04 02 30 04 05', 96, 0xff, COUNTED, 0, 0, 48, 49, 49 * '01 '),
+    (SIGNED + ' 02 01 04 03 01 04 05', 96, 0xff, COUNTED, 0, 0, 1, 2, 47 * '00 ' + '01 01'),
+    ('01 30' + 48 * WIDE + NARROW + ' 05', 96, 0xff, COUNTED, 0, 0, 48, 49, 49 * '01 '),
+    ('01 01' + 95 * TRUE + ' 03 01 04 05', 97, 0xff, COUNTED, 0, 0, 1, 2, '01 01' + 94 * ' 00'),
+    # what it leaves where it accepts: each byte is a mark, also one of 128 plus the variable
+    (REMATCHED, 96, 0, COUNTED, 0, 0, 2, 2, '02 01'),
+    (TWICE, 96, 0, COUNTED, 0, 0, 1, 2, '81 81'),
+    (PARTLY, 96, 0, COUNTED, 0, 0, 3, 4, '81 81 02 03'),
+    # marks that it never leaves: any byte but 0, alone and in turn, and none at all
+    *((ONE_OF_TWO, 96, 0, COUNTED, 0, 0, 1, 1, mark) for mark in MARKS),
+    (ONE_OF_TWO, 96, 0xff, COUNTED, 0, 0, 0, 0, '00'),
+    (MARKED, 96, 0, COUNTED, 0, 0, 2, 3, '07 00 80 ff'),
+    (MARKED, 96, 0, COUNTED, 0, 0, 1, 2, '01 01 00 00'),
+    (MARKED, 96, 0, COUNTED, 0, 0, 2, 4, '01 01 01 01'),
+    (MARKED, 96, 0xff, COUNTED, 0, 0, 0, 0, '00 00 00 00'),
+    (EXAMPLE, 96, 0, COUNTED, 0, 0, 2, 1, '01 00'),
+    (EXAMPLE, 96, 0, COUNTED, 0, 0, 2, 1, '00 01'),
+    (THREE_OF_FIVE, 96, 0, COUNTED, 0, 0, 3, 3, '01 01 01 00 00'),
+    (THREE_OF_FIVE, 96, 0, COUNTED, 0, 0, 2, 2, '00 01 00 01 00'),
+    (THREE_OF_FIVE, 96, 0, COUNTED, 0, 0, 3, 5, '01 01 01 01 01'),
+    # no clauses: no byte is a mark
+    ('01 01 05', 96, 0xff, COUNTED, 0, 0, 0, 0, ''),
+    ('01 30 05', 255, 0xff, COUNTED, 0, 0, 0, 0, ''),
+    # 96 clauses: all of them, the last, and none, with bytes behind byte 96 that are not 0
+    (MOST_TRUE, 96, 0, COUNTED, 0, 0, 1, 96, 96 * '01 '),
+    (MOST_TRUE, 255, 0x01, COUNTED, 0, 0, 1, 96, 96 * 'ff '),
+    (MOST_TRUE, 97, 0xff, COUNTED, 0, 0, 1, 1, 95 * '00 ' + '01'),
+    (MOST_TRUE, 97, 0xff, COUNTED, 0, 0, 0, 0, 96 * '00 '),
+    ('01 01' + 96 * EMPTY + ' 05', 96, 0, COUNTED, 0, 0, 0, 96, 96 * '01 '),
+    (FULLEST, 96, 0, COUNTED, 0, 0, 48, 96, 96 * 'ff '),
+    # 48 variables: all of them, and the first and the last alone; as true and as false they count once
+    (SINGLES, 96, 0, COUNTED, 0, 0, 48, 48, 48 * '01 '),
+    (SINGLES, 96, 0, COUNTED, 0, 0, 1, 1, '01'),
+    (SINGLES, 96, 0, COUNTED, 0, 0, 1, 1, 47 * '00 ' + '01'),
+    (SINGLES, 96, 0, COUNTED, 0, 0, 24, 24, 24 * '00 01 '),
+    (LINKS + ' 05', 96, 0, COUNTED, 0, 0, 48, 47, 47 * '01 '),
+    (LINKS + ' 05', 96, 0, COUNTED, 0, 0, 4, 2, '01' + 45 * ' 00' + ' 01'),
+    ('01 30' + WIDE + NARROW + ' 05', 96, 0, COUNTED, 0, 0, 48, 2, '01 01'),
+    # literals that come again: as without them
+    (AGAIN, 96, 0, COUNTED, 0, 0, 2, 2, '01 01'),
+    (MANY, 96, 0, COUNTED, 0, 0, 1, 1, '01'),
+    # each refusal of reading
+    *((given, 96, 0x01, REFUSED, number, place, 0, 0, '') for given, number, place in UNREAD),
+    (FULLEST + ' 05', 96, 0x01, REFUSED, 9, 9315, 0, 0, ''),
+]
+
+WEIGH_ASSUMED = [
+    # the buffer's length comes first, and the refusals of reading before a bad assumption; the same for two, which are lent
+    *(((given, assumed), 95, 0x01, REFUSED, 1, 0, 0, 0, '') for given in (EXAMPLE, UNREADABLE) for assumed in ('00 01', '01 01 02 01')),
+    *(((given, '00 01'), 96, 0x01, REFUSED, number, place, 0, 0, '') for given, number, place in UNREAD),
+    *(((given, '01 01 01 01'), 96, 0x01, REFUSED, number, place, 0, 0, '') for given, number, place in UNREAD),
+    # bad assumptions: variable 0, above n, assumed before with the same value and with the other; the first one counts
+    *((given, 96, 0xff, REFUSED, 16, place, 0, 0, '') for given, place in BAD),
+    # the marks that judge leaves: the clauses name, the assumed variables not counted, one variable fewer than they are
+    ((ONE_OF_TWO, '01 00'), 96, 0xff, COUNTED, 0, 0, 0, 1, '01'),
+    ((THREE_OF_FIVE, '01 00'), 96, 0xff, COUNTED, 0, 0, 2, 3, '01 01 01 00 00'),
+    ((MARKED, '03 01'), 96, 0xff, COUNTED, 0, 0, 1, 2, '00 00 01 01'),
+    ((MARKED, '02 01'), 96, 0xff, COUNTED, 0, 0, 1, 2, '00 00 01 01'),
+    ((MARKED, '01 01'), 96, 0xff, COUNTED, 0, 0, 0, 1, '00 00 00 01'),
+    (('01 03 02 01 04 02 02 04 03 01 04 05', '02 01'), 96, 0xff, COUNTED, 0, 0, 1, 2, '01 00 01'),
+    ((SIGNED + ' 03 01 04 05', '30 01'), 96, 0xff, COUNTED, 0, 0, 47, 48, 48 * '01 '),
+    (('01 30' + WIDE + ' 03 30 04 05', ALL_FALSE[:-6]), 96, 0xff, COUNTED, 0, 0, 1, 2, '01 01'),
+    # the value does not matter, and neither whether it satisfies a marked clause
+    *(((ONE_OF_TWO, assumed), 96, 0, COUNTED, 0, 0, count, 1, '01') for assumed, count in (('01 01', 0), ('02 00', 1), ('02 01', 1))),
+    *(((EXAMPLE, assumed), 96, 0, COUNTED, 0, 0, 1, 2, '01 01') for assumed in ('01 00', '01 01', '02 00', '02 01')),
+    ((EXAMPLE, '01 01'), 96, 0, COUNTED, 0, 0, 1, 1, '01 00'),
+    ((EXAMPLE, '01 01'), 96, 0xff, COUNTED, 0, 0, 0, 0, '00 00'),
+    # one mark fewer, all marked, and what judge leaves where it accepts
+    ((THREE_OF_FIVE, '01 00'), 96, 0, COUNTED, 0, 0, 2, 2, '00 01 01 00 00'),
+    ((THREE_OF_FIVE, '01 00'), 96, 0, COUNTED, 0, 0, 2, 5, '01 01 01 01 01'),
+    ((THREE_OF_FIVE, '03 01'), 96, 0, COUNTED, 0, 0, 2, 5, '07 80 81 fe ff'),
+    ((PARTLY, '02 01'), 96, 0, COUNTED, 0, 0, 2, 3, '81 81 00 83'),
+    # two, which are lent as a list: at each length of the buffer, in either order, with marks of judge and with others
+    *(((EXAMPLE, '01 01 02 01'), length, 0xff, COUNTED, 0, 0, 0, 1, '00 01') for length in LENGTHS),
+    *(((THREE_OF_FIVE, assumed), 96, 0xff, COUNTED, 0, 0, 1, 5, '01 02 03 04 05') for assumed in ('01 00 03 01', '03 01 01 00')),
+    ((THREE_OF_FIVE, '01 00 02 00'), 96, 0xff, COUNTED, 0, 0, 0, 1, '01 00 00 00 00'),
+    ((PARTLY, '03 01 02 00'), 96, 0, COUNTED, 0, 0, 1, 4, '01 01 01 01'),
+    ((MARKED, '02 00 03 01'), 96, 0xff, COUNTED, 0, 0, 0, 1, '01 00 00 00'),
+    ((LINKS + ' 05', '01 01 30 00'), 96, 0, COUNTED, 0, 0, 46, 47, 47 * '01 '),
+    ((MOST_TRUE, '01 01 01 00'), 96, 0, REFUSED, 16, 1, 0, 0, ''),
+    # three
+    ((THREE_OF_FIVE, '03 01 01 00 02 01'), 96, 0, COUNTED, 0, 0, 0, 5, '01 01 01 01 01'),
+    # all of 48 variables assumed, all but one, and one
+    ((SINGLES, ALL_TRUE), 96, 0, COUNTED, 0, 0, 0, 48, 48 * '01 '),
+    ((TWO_WIDE, ALL_FALSE), 96, 0xff, COUNTED, 0, 0, 0, 1, '01 00'),
+    ((TWO_WIDE, ALL_FALSE[:-6]), 96, 0xff, COUNTED, 0, 0, 1, 2, '01 01'),
+    ((SINGLES, ALL_TRUE[6:]), 96, 0, COUNTED, 0, 0, 1, 48, 48 * 'ff '),
+    ((SINGLES, '30 01'), 96, 0, COUNTED, 0, 0, 47, 48, 48 * '01 '),
+    ((ALL_FREE, ALL_TRUE), 96, 0xff, COUNTED, 0, 0, 0, 0, ''),
+    ((FULLEST, ALL_TRUE), 255, 0xff, COUNTED, 0, 0, 0, 96, ''),
+    ((FULLEST, '01 00 30 00'), 96, 0, COUNTED, 0, 0, 46, 96, 96 * '01 '),
 ]
 
 
@@ -1282,9 +1430,9 @@ def check_edge(number, given, assignment, *answer):
     return coded(number, given, answer_of(*answer), little(assignment, 8))
 
 
-def judge_edge(number, given, length, fill, *answer_written):
+def buffer_edge(number, given, length, fill, *answer_written):
     *answer, written = answer_written
-    return coded(number, given, answer_of(*answer), judge_fields(length, fill, bytes.fromhex(written)))
+    return coded(number, given, answer_of(*answer), buffer_fields(length, fill, bytes.fromhex(written)))
 
 
 def walk_edge(number, given, origin, budget, says, refusal, place, model, returned, *counts):
@@ -1321,7 +1469,8 @@ def write_edge(number, given, expected, length=18636, fill=0xa5):
 
 # the files of an act's cases: each has a name, the number of its first case, its cases and their coder
 EDGES = {'check': [('check_edges', 60000, CHECK_EDGES, check_edge)],
-         'judge': [('judge_edges', 61000, JUDGE_EDGES, judge_edge), ('judge_assumed', 61500, JUDGE_ASSUMED, judge_edge)],
+         'judge': [('judge_edges', 61000, JUDGE_EDGES, buffer_edge), ('judge_assumed', 61500, JUDGE_ASSUMED, buffer_edge)],
+         'weigh': [('weigh_edges', 61200, WEIGH_EDGES, buffer_edge), ('weigh_assumed', 61700, WEIGH_ASSUMED, buffer_edge)],
          'walk': [('walk_edges', 62000, WALK_EDGES, walk_edge), ('walk_assumed', 62500, WALK_ASSUMED, walk_edge)],
          'list': [('list_edges', 63100, LIST_EDGES, list_edge)],
          'page': [('page_edges', 63600, PAGE_EDGES, page_edge)],
@@ -1376,6 +1525,8 @@ def groups_of(lines):
         v = json.loads(line)
         if v['act'] in ACTS:
             add(v['act'], ACTS[v['act']], number, v)
+        if v['act'] == 'judge':
+            add('weigh', weigh_vector, number, v)
         if v['act'] == 'listing':
             add('list', list_vector, number, v)
         if 'sheet' in v or 'stdin' in v:

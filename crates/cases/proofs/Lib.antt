@@ -8,3 +8,4 @@ pub mod PrintsLaws
 pub mod RunLaws
 pub mod TryingLaws
 pub mod WalkingLaws
+pub mod WeighingLaws

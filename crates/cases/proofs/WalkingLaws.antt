@@ -6,6 +6,7 @@ use native.Mathlib.Omega.{arith}
 use lib.Dec.{eqb}
 use lib.ListN.{length, getD, take, drop, length-drop}
 use lib.Seq.{length-take-le, take-length, drop-length}
+use Rattle.lists.specs.Over.{over}
 use Rattle.walk.specs.Checkpoints.{Checkpoint, start}
 use Rattle.walk.specs.WalkCall.{walk-call}
 use Rattle.walk.specs.Results.{Result}
@@ -27,7 +28,14 @@ past-two mode length trail zero h = absurd (omega arith)
 past-two mode length trail (suc zero) h = absurd (omega arith)
 past-two mode length trail (suc (suc i)) h = let e : suc (suc i) - 2 ≡ i = omega arith in rw e
 
--- what was copied from a part of a list is the whole of an array of the part's length
+-- what was copied from a part of a list stands over the beginning of an array,
+pub copied-over :
+    (k : ℕ) (s old new : List ℕ) (at : ℕ) →
+    (let part = take (at + k - at) (drop at s) in new ≡ take (length part) part ++ drop (length part) old) →
+    new ≡ over (take k (drop at s)) old
+copied-over k s old new at f = let d : at + k - at ≡ k = omega arith in f ∙ rw (d, take-length)
+
+-- and is the whole of one of the part's length
 pub copied :
     (k : ℕ) (s old new : List ℕ) (at : ℕ) →
     at + k ≤ length s →
@@ -35,11 +43,10 @@ pub copied :
     (let part = take (at + k - at) (drop at s) in new ≡ take (length part) part ++ drop (length part) old) →
     new ≡ take k (drop at s)
 copied k s old new at h l f =
-    let d : at + k - at ≡ k = omega arith in
     let m : k ≤ length (drop at s) = rw length-drop (omega arith) in
     let n : length (take k (drop at s)) ≡ k = length-take-le k (drop at s) m in
     let z : drop k old ≡ [] = rw (← l) (drop-length old) in
-    f ∙ rw (d, take-length, n, z, append-nil)
+    copied-over k s old new at f ∙ rw (n, z, append-nil)
 
 -- the values of an answer have the checkpoint beside it
 pub kept : (a : Answer) (s e : ℕ) (c : Checkpoint) → answer-values a s e c .checkpoint ≡ c

@@ -19,14 +19,18 @@ abbrev pub number-code : ℕ → ℕ → ℕ
 number-code says zero = says
 number-code says (suc n) = 2
 
-abbrev pub judge-written : JudgementValues → Answer
-judge-written a = record {
-  says = number-code 3 (a .number);
-  number = a .number;
-  place = a .place;
-  variables = a .variables;
-  clauses = a .clauses;
+-- and an answer that has the numbers of variables and of clauses if it is no refusal
+abbrev pub counts-written : ℕ → ℕ → ℕ → ℕ → ℕ → Answer
+counts-written says number place variables clauses = record {
+  says = number-code says number;
+  number = number;
+  place = place;
+  variables = variables;
+  clauses = clauses;
 }
+
+abbrev pub judge-written : JudgementValues → Answer
+judge-written a = counts-written 3 (a .number) (a .place) (a .variables) (a .clauses)
 
 -- the array before the call; a buffer of some size is its beginning
 abbrev pub filled : ℕ → List ℕ

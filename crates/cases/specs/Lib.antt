@@ -7,3 +7,4 @@ pub mod Prints
 pub mod Runs
 pub mod Trying
 pub mod Walking
+pub mod Weighing

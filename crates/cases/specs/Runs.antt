@@ -9,7 +9,7 @@ use Rattle.walk.specs.Checkpoints.{Checkpoint, start}
 use Rattle.vectors.specs.declared.corpus.Vector.{Vector}
 use Rattle.vectors.specs.declared.corpus.Framed.the-variants.{Whole, Broken}
 use Rattle.cases.specs.declared.runs.Act.{Act}
-use Rattle.cases.specs.declared.runs.Act.the-variants.{Check, Judge, ReadText, WriteText, Start, Walk, Listing, Models, Page, Compare, Print}
+use Rattle.cases.specs.declared.runs.Act.the-variants.{Check, Judge, Weigh, ReadText, WriteText, Start, Walk, Listing, Models, Page, Compare, Print}
 use Rattle.cases.specs.declared.runs.Run.{Run}
 use Rattle.vectors.specs.declared.totals.Totals.{Totals}
 use Rattle.vectors.specs.Checking.{check-agrees}
@@ -22,11 +22,13 @@ use Rattle.cases.specs.Prints.{print-agrees}
 use Rattle.vectors.specs.Totals.{counted, Grown}
 use Rattle.cases.specs.Trying.{compare-agrees}
 use Rattle.cases.specs.Walking.{stored-checkpoint-size, start-agrees, walk-agrees, walk-leaves}
+use Rattle.cases.specs.Weighing.{weigh-agrees}
 
 -- the size of the fields of an act's vector
 abbrev pub size-of : Act → ℕ
 size-of Check = 14
 size-of Judge = 104
+size-of Weigh = 104
 size-of ReadText = 9
 size-of WriteText = 9
 size-of Start = stored-checkpoint-size
@@ -46,6 +48,7 @@ pub record FieldsOf (act : Act) (r : ℕ) : Type 0 where
 abbrev pub act-agrees : Act → List ℕ → Vector → Checkpoint → Bool
 act-agrees Check s v last = check-agrees s v
 act-agrees Judge s v last = judge-agrees s v
+act-agrees Weigh s v last = weigh-agrees s v
 act-agrees ReadText s v last = convert-agrees true s v
 act-agrees WriteText s v last = convert-agrees false s v
 act-agrees Start s v last = start-agrees s v
@@ -60,6 +63,7 @@ act-agrees Print s v last = print-agrees s v
 abbrev pub leaves : Act → List ℕ → Vector → Checkpoint → Checkpoint
 leaves Check s v last = last
 leaves Judge s v last = last
+leaves Weigh s v last = last
 leaves ReadText s v last = last
 leaves WriteText s v last = last
 leaves Start s v last = last

@@ -47,7 +47,8 @@ fn answer_of(j: Judgement) -> Answer
     }
 }
 
-fn filled(fill: u8) -> [u8; 256]
+// The array of which a lent buffer is the beginning.
+pub fn filled(fill: u8) -> [u8; 256]
     ensures { λ r. ⌜ r ≡ replicate 256 fill ⌝ }
 {
     [fill; 256]

@@ -3,6 +3,7 @@ ghost use mathlib.Core.List.{[], _∷_};
 ghost use mathlib.Core.Path.{_≡_};
 ghost use lib.ListN.{length};
 ghost use Rattle.matched.specs.Judge.{judgement-values, judge};
+ghost use Rattle.matched.specs.Weigh.{weighed-values, weighed};
 ghost use Rattle.walk.specs.WalkCall.{walk-call};
 ghost use Rattle.enumeration.specs.Lists.{next-models, Delivered};
 ghost use Rattle.enumeration.specs.Values.{checkpoint-values, walked-values};
@@ -12,6 +13,7 @@ use enumeration::Checkpoint;
 use enumeration::Listed;
 use enumeration::Walked;
 use matched::Judgement;
+use matched::Weighed;
 use page::Paged;
 
 pub fn judge_two(input: &[u8], a: Assumption, b: Assumption, buffer: &mut [u8]) -> Judgement
@@ -20,6 +22,13 @@ pub fn judge_two(input: &[u8], a: Assumption, b: Assumption, buffer: &mut [u8]) 
 {
     let list = [a, b];
     matched::find_matching(input, &list, buffer)
+}
+
+pub fn weigh_two(input: &[u8], a: Assumption, b: Assumption, buffer: &[u8]) -> Weighed
+    ensures { λ r. ⌜ weighed-values r ≡ weighed (now (input .entry)) (a ∷ (b ∷ [])) (now (buffer .entry)) ⌝ }
+{
+    let list = [a, b];
+    matched::weigh_marks(input, &list, buffer)
 }
 
 pub fn walk_two(input: &[u8], a: Assumption, b: Assumption, from: Checkpoint, budget: u32) -> Walked

@@ -7,11 +7,13 @@
 // of its input, of its assumptions and of the bytes that it expects (2 bytes each), these three, the expected answer and the act's own
 // fields. An assumption is two bytes: the variable, and 1 for true or 0 for false. Where there are just two, the act is called on a lent list
 // of them, else on the masks that are read from the bytes. An answer is what it says (1 byte: 0 no, 1 yes, 2 refused, 3 accepted, 4 model,
-// 5 spent, 6 ended, 10 written, 11 filled), the refusal's number (1 byte) and its place (2 bytes), and the numbers of variables and of
-// clauses of an accepted formula (1 byte each). The own fields:
+// 5 spent, 6 ended, 10 written, 11 filled, 12 counted), the refusal's number (1 byte) and its place (2 bytes), and the numbers of variables
+// and of clauses (1 byte each): those of an accepted formula, or those that are counted. The own fields:
 // - check: the assignment (8 bytes).
 // - judge: the length of the lent buffer (1 byte), the fill (1 byte) and the first 96 bytes after the call. The buffer is the first
 //   bytes of an array of 256, which has the fill everywhere before the call and from byte 96 on after it.
+// - weigh: the length of the lent buffer (1 byte), the fill (1 byte) and the first 96 bytes. The buffer is the first bytes of an array of
+//   256, which has these bytes and then the fill.
 // - read_text, write_text: the length of the lent buffer (2 bytes) and the fill (1 byte). The buffer has the fill everywhere before the
 //   call, and behind the expected bytes after it. An answer that says written has their number as the place.
 // - start: the start checkpoint (50 bytes: mode, length, 48 bytes), and no expected answer.
@@ -41,6 +43,7 @@ mod prints;
 mod runs;
 mod trying;
 mod walking;
+mod weighing;
 
 ghost use Prim.Native.Nat.{_<_};
 ghost use lib.ListN.{length};
@@ -98,6 +101,9 @@ fn main() {
     run_files(b"judge", Act::Judge, b"vectors");
     run_alone(b"judge_edges", Act::Judge);
     run_alone(b"judge_assumed", Act::Judge);
+    run_files(b"weigh", Act::Weigh, b"vectors");
+    run_alone(b"weigh_edges", Act::Weigh);
+    run_alone(b"weigh_assumed", Act::Weigh);
     run_files(b"read_text", Act::ReadText, b"vectors");
     run_alone(b"read_text_edges", Act::ReadText);
     run_files(b"write_text", Act::WriteText, b"vectors");

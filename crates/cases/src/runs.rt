@@ -16,6 +16,7 @@ use crate::walking::CHECKPOINT_SIZE;
 use crate::walking::Compared;
 use crate::walking::start_vector;
 use crate::walking::walk_vector;
+use crate::weighing::weigh_vector;
 use enumeration::Checkpoint;
 use vectors::checking::check_vector;
 use vectors::corpus::Framed;
@@ -27,6 +28,7 @@ use vectors::totals::Totals;
 pub enum Act {
     Check,
     Judge,
+    Weigh,
     ReadText,
     WriteText,
     Start,
@@ -51,6 +53,7 @@ fn fields_of(act: Act) -> usize
     match act {
         Act::Check => 14,
         Act::Judge => 104,
+        Act::Weigh => 104,
         Act::ReadText => 9,
         Act::WriteText => 9,
         Act::Start => CHECKPOINT_SIZE,
@@ -75,6 +78,10 @@ fn run_vector(bytes: &[u8], v: Vector, act: Act, last: Checkpoint) -> Compared
         },
         Act::Judge => Compared {
             agrees: judge_vector(bytes, v),
+            last,
+        },
+        Act::Weigh => Compared {
+            agrees: weigh_vector(bytes, v),
             last,
         },
         Act::ReadText => Compared {

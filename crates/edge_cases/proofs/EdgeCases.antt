@@ -1,5 +1,5 @@
--- The cases of the tables specs/MarkedCases.antt, specs/AssumedCases.antt, specs/StrippedCases.antt and specs/PageCases.antt, and some
--- more, computed from the definitions.
+-- The cases of the tables specs/MarkedCases.antt, specs/AssumedCases.antt, specs/StrippedCases.antt, specs/ViolatorCases.antt and
+-- specs/PageCases.antt, and some more, computed from the definitions.
 use mathlib.Core.Bool.{xor}
 use Prim.Native.Nat.{ℕ, zero, suc, _≤_, _<_}
 use mathlib.Core.List.{List, [], _∷_, _++_, map}
@@ -18,9 +18,11 @@ use Rattle.formula.specs.Format.{Literal, names, names-as, add, literal-bytes, 
 use Rattle.formula.specs.Masked.{variables}
 use Rattle.assumptions.specs.declared.Assumption.{Assumption}
 use Rattle.assumptions.specs.Assumed.{is-bad, assumed-from, assumed}
+use Rattle.matching.specs.Sets.{union, selected}
 use Rattle.matching.specs.Search.{owner, no-links, begin, see, scan, take-front, expand, search-from, rematch-from, match-rest, outcome, marks}
 use Rattle.matched.specs.Acceptance.{accepted, dropped-by, row-byte, spread, acceptance}
 use Rattle.matched.specs.Judge.{judge}
+use Rattle.matched.proofs.WeighLaws.{weigh-short, weigh-refused, weigh-bad, weigh-over}
 use Rattle.splitting.specs.Nodes.{less, assign, remaining, satisfied-by, occurs, named, first-from, upward-from}
 use Rattle.splitting.specs.Stripping.{pure, not-naming, strip}
 use Rattle.splitting.specs.Choosing.{matching-of, trial, first-passing, candidates, among, listed, last, emptied, last-listed, choice}
@@ -41,9 +43,10 @@ use Rattle.page.specs.Pages.{ample-budgets, with-models, line-at, joined, fille
 use Rattle.page.proofs.JoinedLaws.{joined-same}
 use Rattle.page.proofs.Demands.{short-page, bad-serial, page-refused, page-written}
 use Rattle.printing.specs.Printed.{refused-word, walk-lines, printed}
-use Rattle.edge_cases.specs.MarkedCases.{on, off, line, model-at, end-at, walked-under, walked, example, MarkedCases}
+use Rattle.edge_cases.specs.MarkedCases.{on, off, line, model-at, end-at, walked-under, walked, example, nothing-named, MarkedCases}
 use Rattle.edge_cases.specs.AssumedCases.{assume-on, assume-off, AssumedCases}
 use Rattle.edge_cases.specs.StrippedCases.{StrippedCases}
+use Rattle.edge_cases.specs.ViolatorCases.{ViolatorCases}
 use Rattle.edge_cases.specs.PageCases.{line-of-these, PageCases}
 use Rattle.edge_cases.specs.TextCases.{ascii}
 
@@ -72,6 +75,10 @@ stripping = tt
 judging : Unit {0}
 unfolding reading assuming searching stripping acceptance spread row-byte dropped-by satisfied-by remaining assign less marks judge
 judging = tt
+
+weighing : Unit {0}
+unfolding reading assuming variables selected union bit members
+weighing = tt
 
 choosing : Unit {0}
 unfolding searching stripping choice remaining assign less named upward-from matching-of trial first-passing candidates among listed last emptied last-listed
@@ -171,6 +178,26 @@ stripped-cases = record {
   whole-first = λ b l. rw (le-ltb (length b) max-clauses l);
 }
 
+-- ---- marks
+
+pub violator-cases : ViolatorCases
+unfolding judging weighing
+violator-cases = record {
+  empty-weighed = λ b l. weigh-over _ _ b l _ _ refl _ refl (1 ∷ []) (omega arith) (omega arith);
+  both-weighed = λ b l. weigh-over _ _ b l _ _ refl _ refl (1 ∷ 1 ∷ []) (omega arith) (omega arith);
+  left-weighed = λ b l. weigh-over _ _ b l _ _ refl _ refl (0 ∷ 0 ∷ 1 ∷ 1 ∷ []) (omega arith) (omega arith);
+  false-marked = λ b l. rw (le-ltb (length b) max-clauses l);
+  false-weighed = λ b l. weigh-over _ _ b l _ _ refl _ refl (1 ∷ []) (omega arith) (omega arith);
+  three-marked = λ b l. rw (le-ltb (length b) max-clauses l);
+  three-weighed = λ b l. weigh-over _ _ b l _ _ refl _ refl (1 ∷ 1 ∷ 1 ∷ 0 ∷ 0 ∷ []) (omega arith) (omega arith);
+  less-weighed = λ b l. weigh-over _ _ b l _ _ refl _ refl (0 ∷ 1 ∷ 1 ∷ 0 ∷ 0 ∷ []) (omega arith) (omega arith);
+  other-bytes = λ b l. weigh-over _ _ b l _ _ refl _ refl (7 ∷ 0 ∷ 128 ∷ 255 ∷ []) (omega arith) (omega arith);
+  no-marks = λ b l. weigh-over _ _ b l _ _ refl _ refl (0 ∷ 0 ∷ []) (omega arith) (omega arith);
+  short-first = weigh-short _ _;
+  reading-second = λ b l. weigh-refused _ _ b l _ refl;
+  assumption-third = λ b l. weigh-bad _ _ b l _ _ refl _ refl;
+}
+
 -- ---- pages
 
 -- the lines of results, from a serial on, and that they are those of their page
@@ -258,6 +285,6 @@ unfolding printing
 no-bytes-printed = refl
 
 -- an empty clause alone, `refused 10 1`
-pub empty-clause-printed : printed (1 ∷ 1 ∷ 4 ∷ 5 ∷ []) ≡ refused-word ++ (blank ∷ 49 ∷ 48 ∷ blank ∷ 49 ∷ line-feed ∷ [])
+pub empty-clause-printed : printed nothing-named ≡ refused-word ++ (blank ∷ 49 ∷ 48 ∷ blank ∷ 49 ∷ line-feed ∷ [])
 unfolding printing
 empty-clause-printed = refl

@@ -3,3 +3,4 @@ pub mod MarkedCases
 pub mod PageCases
 pub mod StrippedCases
 pub mod TextCases
+pub mod ViolatorCases

@@ -91,6 +91,14 @@ UnmatchedAt s p marks = UnmatchedUnder s [] p marks
 abbrev pub example : List ℕ
 example = 1 ∷ 2 ∷ 2 ∷ 1 ∷ 2 ∷ 2 ∷ 4 ∷ 3 ∷ 1 ∷ 3 ∷ 2 ∷ 4 ∷ 5 ∷ []
 
+-- 1 variable and an empty clause
+abbrev pub nothing-named : List ℕ
+nothing-named = 1 ∷ 1 ∷ 4 ∷ 5 ∷ []
+
+-- 1 variable, clauses (1) and (¬1)
+abbrev pub on-and-off : List ℕ
+on-and-off = 1 ∷ 1 ∷ 2 ∷ 1 ∷ 4 ∷ 3 ∷ 1 ∷ 4 ∷ 5 ∷ []
+
 -- ---- the table
 
 pub record MarkedCases : Type 0 where
@@ -114,9 +122,9 @@ pub record MarkedCases : Type 0 where
   -- the empty input: 2 at 0
   pub no-bytes : refusal-of (decode []) ≡ number-at 2 0
   -- an empty clause alone: 10, one clause marked
-  pub empty-clause : UnmatchedAt (1 ∷ 1 ∷ 4 ∷ 5 ∷ []) 1 (1 ∷ [])
-  -- 1 variable, clauses (1) and (¬1): 10, two clauses marked
-  pub both-ways : UnmatchedAt (1 ∷ 1 ∷ 2 ∷ 1 ∷ 4 ∷ 3 ∷ 1 ∷ 4 ∷ 5 ∷ []) 2 (1 ∷ 1 ∷ [])
+  pub empty-clause : UnmatchedAt nothing-named 1 (1 ∷ [])
+  -- a variable both ways: 10, two clauses marked
+  pub both-ways : UnmatchedAt on-and-off 2 (1 ∷ 1 ∷ [])
   -- a clause (1, ¬1): 7 at its second literal, offset 4
   pub named-twice : refusal-of (decode (1 ∷ 2 ∷ 2 ∷ 1 ∷ 3 ∷ 1 ∷ 4 ∷ 5 ∷ [])) ≡ number-at 7 4
   -- a clause (1, 1): read as the clause (1)

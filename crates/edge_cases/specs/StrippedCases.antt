@@ -16,6 +16,10 @@ twice = 1 ∷ 1 ∷ 2 ∷ 1 ∷ 4 ∷ 2 ∷ 1 ∷ 4 ∷ 5 ∷ []
 abbrev pub partly : List ℕ
 partly = 1 ∷ 3 ∷ 2 ∷ 1 ∷ 4 ∷ 2 ∷ 1 ∷ 4 ∷ 2 ∷ 2 ∷ 2 ∷ 3 ∷ 4 ∷ 3 ∷ 2 ∷ 3 ∷ 3 ∷ 4 ∷ 5 ∷ []
 
+-- 3 variables, clauses (2), (2), (1), (¬1)
+abbrev pub left-over : List ℕ
+left-over = 1 ∷ 3 ∷ 2 ∷ 2 ∷ 4 ∷ 2 ∷ 2 ∷ 4 ∷ 2 ∷ 1 ∷ 4 ∷ 3 ∷ 1 ∷ 4 ∷ 5 ∷ []
+
 pub record StrippedCases : Type 0 where
   -- two clauses and one variable: 1 is noted and drops both
   pub twice-dropped : AcceptedAs twice 1 (129 ∷ 129 ∷ [])
@@ -33,7 +37,7 @@ pub record StrippedCases : Type 0 where
   -- the same with 2 true: clause 3 is satisfied, and 3 is noted too and drops what remains of clause 4
   pub partly-assumed : AcceptedUnder partly (assume-on 2 ∷ []) 3 (129 ∷ 129 ∷ 0 ∷ 131 ∷ [])
   pub partly-assumed-walked : walked-under partly (assume-on 2 ∷ []) 2 ≡ model-at (1 ∷ 1 ∷ 0 ∷ []) 2 0 ∷ end-at 2 0 ∷ []
-  -- 3 variables, clauses (2), (2), (1), (¬1): 2 is noted and drops two; the two that are left are marked
-  pub left-marked : UnmatchedAt (1 ∷ 3 ∷ 2 ∷ 2 ∷ 4 ∷ 2 ∷ 2 ∷ 4 ∷ 2 ∷ 1 ∷ 4 ∷ 3 ∷ 1 ∷ 4 ∷ 5 ∷ []) 2 (0 ∷ 0 ∷ 1 ∷ 1 ∷ [])
+  -- 2 is noted and drops two; the two that are left are marked
+  pub left-marked : UnmatchedAt left-over 2 (0 ∷ 0 ∷ 1 ∷ 1 ∷ [])
   -- 3 variables, clauses (1, 2), (1, 3), (2, 3): matched whole, so no byte tells of stripping, which would drop all three
   pub whole-first : AcceptedAs (formula-bytes 3 ((on 1 ∷ on 2 ∷ []) ∷ (on 1 ∷ on 3 ∷ []) ∷ (on 2 ∷ on 3 ∷ []) ∷ [])) 3 (1 ∷ 3 ∷ 2 ∷ [])

@@ -26,6 +26,7 @@ fn says(n: u64) {
         9 => text(b"other models"),
         10 => text(b"written"),
         11 => text(b"filled"),
+        12 => text(b"counted"),
         _ => text(b"unknown"),
     }
 }
