@@ -6,8 +6,7 @@ use crate::checkpoint::Checkpoint;
 use crate::ffi::{self, Results};
 use crate::limits::{FORMULA_BUFFER, MAX_CLAUSES, PAGE_LINES, TEXT_BUFFER};
 use crate::refusal::Refusal;
-use std::error::Error;
-use std::fmt;
+use crate::violator::{JudgeError, Violator};
 
 /// Whether the assignment is a model of the encoded formula, also of one that is not accepted.
 ///
@@ -39,7 +38,7 @@ pub struct Size {
 
 /// Judge, with a lent buffer of at least 96 bytes. If the formula is accepted under the assumptions, byte i is then that of clause i,
 /// counted from 0, as [`Matching::matched`] has them. If it is refused as [`Unmatched`](Refusal::Unmatched), byte i is 1 if clause i
-/// belongs to the violator, else 0. As many bytes are written as there are clauses, and none at any other refusal.
+/// belongs to the [`Violator`], else 0. As many bytes are written as there are clauses, and none at any other refusal.
 ///
 /// ```
 /// use norwythai::{judge_into, Assumption, Refusal, DROPPED};
@@ -101,52 +100,12 @@ impl Matching {
     }
 }
 
-/// Why judge gives no matching.
-#[derive(Clone, Debug, PartialEq, Eq)]
-pub enum JudgeError {
-    /// What stripping leaves of the clauses that remain can't be matched.
-    Unmatched {
-        /// The violator: clauses, counted from 0 and upward, that name one variable fewer than they are, assumed ones not counted.
-        /// Stripping drops none of them.
-        violator: Vec<usize>,
-    },
-    /// The input is not a formula, or an assumption is bad.
-    Refused(Refusal),
-}
-
-impl JudgeError {
-    /// The refusal with its number and place.
-    pub fn refusal(&self) -> Refusal {
-        match self {
-            JudgeError::Unmatched { violator } => Refusal::Unmatched {
-                clauses: violator.len(),
-            },
-            JudgeError::Refused(refusal) => *refusal,
-        }
-    }
-}
-
-/// As the refusal, and with the rules' numbers, counted from 1, if they can't be paired.
-impl fmt::Display for JudgeError {
-    fn fmt(&self, f: &mut fmt::Formatter) -> fmt::Result {
-        write!(f, "{}", self.refusal())?;
-        if let JudgeError::Unmatched { violator } = self {
-            let numbers: Vec<String> = violator.iter().map(|i| (i + 1).to_string()).collect();
-            let word = if numbers.len() == 1 { "rule" } else { "rules" };
-            write!(f, " ({word} {})", numbers.join(", "))?;
-        }
-        Ok(())
-    }
-}
-
-impl Error for JudgeError {}
-
 /// Judge: says whether the formula is accepted under the assumptions. It matches each clause that remains with a variable that it names,
 /// none used twice. Where that can't be, it drops clauses by stripping (pure literal elimination) and matches those that are left, or
-/// says which of them stand in the way.
+/// says which of them stand in the way: a [`Violator`].
 ///
 /// ```
-/// use norwythai::{judge, Assumption, JudgeError, Refusal, DROPPED};
+/// use norwythai::{judge, Assumption, JudgeError, Refusal, Violator, DROPPED};
 ///
 /// let matching = judge(&[1, 2, 2, 1, 2, 2, 4, 2, 1, 4, 5], &[])?;
 /// assert_eq!(matching.matched(), [2, 1]);
@@ -158,12 +117,14 @@ impl Error for JudgeError {}
 /// // The second and the third clause name only variable 2.
 /// let input = [1, 2, 2, 1, 4, 2, 2, 4, 3, 2, 4, 5];
 /// let error = judge(&input, &[]).unwrap_err();
-/// assert_eq!(error, JudgeError::Unmatched { violator: vec![1, 2] });
+/// let violator = Violator { clauses: vec![1, 2], variables: 1 };
+/// assert_eq!(error, JudgeError::Unmatched { violator });
 /// assert_eq!((error.refusal().number(), error.refusal().place()), (10, 2));
 ///
 /// // With variable 2 true nothing is left of the third.
 /// let error = judge(&input, &[Assumption::positive(2)]).unwrap_err();
-/// assert_eq!(error, JudgeError::Unmatched { violator: vec![2] });
+/// let violator = Violator { clauses: vec![2], variables: 0 };
+/// assert_eq!(error, JudgeError::Unmatched { violator });
 /// let error = judge(&input, &[Assumption::positive(2), Assumption::negative(2)]).unwrap_err();
 /// assert_eq!(error, JudgeError::Refused(Refusal::BadAssumption { index: 1 }));
 /// # Ok::<(), JudgeError>(())
@@ -175,10 +136,74 @@ pub fn judge(input: &[u8], assumptions: &[Assumption]) -> Result<Matching, Judge
             variables,
             matched: buffer[..clauses].to_vec(),
         }),
-        Err(Refusal::Unmatched { .. }) => Err(JudgeError::Unmatched {
-            violator: (0..buffer.len()).filter(|i| buffer[*i] == 1).collect(),
-        }),
+        Err(Refusal::Unmatched { .. }) => {
+            let weight = weigh(input, assumptions, &buffer);
+            let weight = weight.expect("judge has read the formula and the assumptions");
+            Err(JudgeError::Unmatched {
+                violator: Violator {
+                    clauses: (0..buffer.len()).filter(|i| buffer[*i] == 1).collect(),
+                    variables: weight.variables,
+                },
+            })
+        }
         Err(refusal) => Err(JudgeError::Refused(refusal)),
+    }
+}
+
+/// How much the marks in a buffer weigh.
+#[derive(Clone, Copy, Debug, PartialEq, Eq)]
+pub struct Weight {
+    /// How many clauses are marked.
+    pub clauses: usize,
+    /// How many variables they name, assumed ones not counted.
+    pub variables: usize,
+}
+
+/// Weigh: counts the clauses that are marked in a buffer of at least 96 bytes, and the variables that these clauses name. Clause i, counted
+/// from 0, is marked if byte i is not 0; bytes behind those of the clauses play no part. The formula need not be accepted: weigh refuses as
+/// [`judge_into`] does, but never as [`Unmatched`](Refusal::Unmatched).
+///
+/// If marked clauses name fewer variables than they are, they can't be matched. Those that judge marks name exactly one fewer:
+///
+/// ```
+/// use norwythai::{judge_into, weigh, Assumption, Refusal};
+///
+/// // (1, 2) (not 2, 3) (2, not 3) (not 2, not 3) (3), with variable 1 false
+/// let input = [1, 3, 2, 1, 2, 2, 4, 3, 2, 2, 3, 4, 2, 2, 3, 3, 4, 3, 2, 3, 3, 4, 2, 3, 4, 5];
+/// let assumptions = [Assumption::negative(1)];
+/// let mut buffer = [0; 96];
+/// let judged = judge_into(&input, &assumptions, &mut buffer);
+/// assert_eq!(judged, Err(Refusal::Unmatched { clauses: 3 }));
+/// assert_eq!(buffer[..5], [1, 1, 1, 0, 0]);
+/// let weight = weigh(&input, &assumptions, &buffer)?;
+/// assert_eq!((weight.clauses, weight.variables), (3, 2));
+/// # Ok::<(), Refusal>(())
+/// ```
+///
+/// With any one of these marks cleared, the other clauses name as many variables as they are, and can be matched:
+///
+/// ```
+/// use norwythai::{weigh, Assumption};
+///
+/// # let input = [1, 3, 2, 1, 2, 2, 4, 3, 2, 2, 3, 4, 2, 2, 3, 3, 4, 3, 2, 3, 3, 4, 2, 3, 4, 5];
+/// # let assumptions = [Assumption::negative(1)];
+/// for struck in 0..3 {
+///     let mut buffer = [0; 96];
+///     buffer[..3].fill(1);
+///     buffer[struck] = 0;
+///     let weight = weigh(&input, &assumptions, &buffer)?;
+///     assert_eq!((weight.clauses, weight.variables), (2, 2));
+/// }
+/// # Ok::<(), norwythai::Refusal>(())
+/// ```
+pub fn weigh(input: &[u8], assumptions: &[Assumption], buffer: &[u8]) -> Result<Weight, Refusal> {
+    let results = accept(ffi::weigh(input, assumptions, buffer))?;
+    match results[ANSWER] {
+        0 => Ok(Weight {
+            clauses: index(results, FIRST_COUNT),
+            variables: index(results, SECOND_COUNT),
+        }),
+        _ => broken(results),
     }
 }
 

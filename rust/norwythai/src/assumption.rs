@@ -5,7 +5,7 @@ use crate::builder::Literal;
 /// A value that a variable is to have: [`judge`](crate::judge()), [`walk`](crate::walk()), [`list`](crate::list()) and
 /// [`page`](crate::page()) take a list of these and apply them first. A clause that an assumption satisfies is gone, and the others lose
 /// the assumed variables; matching, stripping and walking are of what remains, and the models listed are those that keep the
-/// assumptions.
+/// assumptions. [`weigh`](crate::weigh()) takes such a list, too, and does not count the assumed variables.
 ///
 /// A list has each variable once at most: the first assumption of a variable that the formula doesn't have, or that an earlier one
 /// has assumed, be it with the same value, is refused ([`BadAssumption`](crate::Refusal::BadAssumption)). Its order plays no other

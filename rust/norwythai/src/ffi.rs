@@ -7,7 +7,7 @@ use crate::assumption::Assumption;
 use crate::limits::CHECKPOINT_LENGTH;
 use crate::raw::{
     norwythai_check, norwythai_from_dimacs, norwythai_judge, norwythai_list, norwythai_page,
-    norwythai_start, norwythai_to_dimacs, norwythai_walk,
+    norwythai_start, norwythai_to_dimacs, norwythai_walk, norwythai_weigh,
 };
 
 /// What every act but start writes, by its index: the answer, a model, a refusal's number and place, and two counts.
@@ -88,6 +88,26 @@ pub(crate) fn judge(input: &[u8], assumptions: &[Assumption], buffer: &mut [u8])
             assumptions,
             assumptions_length,
             buffer.as_mut_ptr(),
+            buffer.len(),
+            results.as_mut_ptr(),
+            results.len(),
+        )
+    };
+    require(returned);
+    results
+}
+
+pub(crate) fn weigh(input: &[u8], assumptions: &[Assumption], buffer: &[u8]) -> Results {
+    let mut results = [0; RESULTS_LENGTH];
+    let (assumptions, assumptions_length) = bytes_of(assumptions);
+    // SAFETY: `input`, `assumptions` and `buffer` may be read, `results` written for the lengths given, and it overlaps none of them.
+    let returned = unsafe {
+        norwythai_weigh(
+            input.as_ptr(),
+            input.len(),
+            assumptions,
+            assumptions_length,
+            buffer.as_ptr(),
             buffer.len(),
             results.as_mut_ptr(),
             results.len(),

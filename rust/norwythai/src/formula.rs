@@ -1,14 +1,15 @@
 //! Encoded formulas.
 
 use crate::acts::{
-    check, from_dimacs, judge, list, page, to_dimacs, walk, JudgeError, Listed, Matching, Paged,
-    Walked,
+    check, from_dimacs, judge, list, page, to_dimacs, walk, weigh, Listed, Matching, Paged, Walked,
+    Weight,
 };
 use crate::assignment::Assignment;
 use crate::assumption::Assumption;
 use crate::checkpoint::Checkpoint;
 use crate::models::Models;
 use crate::refusal::Refusal;
+use crate::violator::JudgeError;
 use std::borrow::Cow;
 
 /// The bytes of an encoded formula, owned or borrowed, which any act may find damaged and refuse.
@@ -60,6 +61,11 @@ impl Formula<'_> {
     /// See [`judge`].
     pub fn judge(&self, assumptions: &[Assumption]) -> Result<Matching, JudgeError> {
         judge(&self.0, assumptions)
+    }
+
+    /// See [`weigh`].
+    pub fn weigh(&self, assumptions: &[Assumption], buffer: &[u8]) -> Result<Weight, Refusal> {
+        weigh(&self.0, assumptions, buffer)
     }
 
     /// See [`walk`].

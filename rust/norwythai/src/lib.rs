@@ -12,6 +12,10 @@
 //! under these [`Assumption`]s. DIMACS CNF text is read into an encoded formula and written from one ([`from_dimacs`], [`to_dimacs`]).
 //! Whatever the bytes are, an act answers: with a [`Refusal`], if it has to.
 //!
+//! Where a formula is not accepted, judge says which clauses stand in the way. Such a [`Violator`] names exactly one variable fewer than it
+//! has clauses, and without any single one of these the others can be matched. [`weigh`] counts any marked clauses and the variables that
+//! they name.
+//!
 //! Clubs call these things sheets (formulas), rules (clauses), switches (variables), set-ups (assignments), fixed settings
 //! (assumptions) and markers (checkpoints); the sentences of refusals do, too.
 //!
@@ -60,10 +64,11 @@ mod limits;
 mod models;
 pub mod raw;
 mod refusal;
+mod violator;
 
 pub use acts::{
     check, from_dimacs, from_dimacs_into, judge, judge_into, list, page, to_dimacs, to_dimacs_into,
-    walk, Answer, JudgeError, Listed, Matching, Paged, Size, Walked,
+    walk, weigh, Answer, Listed, Matching, Paged, Size, Walked, Weight,
 };
 pub use assignment::{Assignment, Digits};
 pub use assumption::Assumption;
@@ -76,3 +81,4 @@ pub use limits::{
 };
 pub use models::Models;
 pub use refusal::Refusal;
+pub use violator::{JudgeError, Violator};

@@ -20,7 +20,7 @@ use std::fmt;
 /// ```
 #[derive(Clone, Copy, Debug, PartialEq, Eq, Hash)]
 pub enum Refusal {
-    /// 1: the lent buffer has fewer than 96 bytes (judge), [`FORMULA_BUFFER`](crate::FORMULA_BUFFER) or
+    /// 1: the lent buffer has fewer than 96 bytes (judge, weigh), [`FORMULA_BUFFER`](crate::FORMULA_BUFFER) or
     /// [`TEXT_BUFFER`](crate::TEXT_BUFFER).
     ShortBuffer,
     /// 2: the input stops within a record, or without the record that ends the formula; the text stops within a clause.
@@ -65,8 +65,8 @@ pub enum Refusal {
     },
     /// 10: what stripping leaves of the clauses that remain can't be matched with variables.
     Unmatched {
-        /// The number of the violator's clauses, which is the refusal's place. They name one variable fewer, assumed ones not
-        /// counted.
+        /// The number of the clauses of the [`Violator`](crate::Violator), which is the refusal's place. They name exactly one variable
+        /// fewer, assumed ones not counted.
         clauses: usize,
     },
     /// 11: the walk of this formula under these assumptions never has this checkpoint.

@@ -2,7 +2,7 @@
 
 use norwythai::{
     check, judge, judge_into, list, walk, Answer, Assignment, Assumption, Checkpoint, Formula,
-    JudgeError, Models, Refusal, DROPPED,
+    JudgeError, Models, Refusal, Violator, DROPPED,
 };
 
 /// (1) (1)
@@ -54,7 +54,10 @@ fn marks_are_those_of_the_left_clauses() {
     assert_eq!(judge_into(LEFT_UNMATCHED, &[], &mut buffer), Err(refusal));
     assert_eq!(buffer[..5], [0, 0, 1, 1, 7]);
     let error = judge(LEFT_UNMATCHED, &[]).unwrap_err();
-    let violator = vec![2, 3];
+    let violator = Violator {
+        clauses: vec![2, 3],
+        variables: 1,
+    };
     assert_eq!(error, JudgeError::Unmatched { violator });
     assert_eq!(
         error.to_string(),

@@ -114,6 +114,8 @@ fn every_act_of_a_formula_takes_assumptions() {
         formula.judge(&[Assumption::positive(1)]).unwrap().matched(),
         [0, 0]
     );
+    let weight = formula.weigh(&off, &[1; 96]).unwrap();
+    assert_eq!((weight.clauses, weight.variables), (2, 2));
 
     let only = Assignment::from_bits(0b110);
     let mut checkpoint = Checkpoint::start();
@@ -148,6 +150,7 @@ fn a_bad_assumption_has_its_index() {
         let refusal = Refusal::BadAssumption { index: 2 };
         let judged = formula.judge(&list).unwrap_err();
         assert_eq!(judged, JudgeError::Refused(refusal));
+        assert_eq!(formula.weigh(&list, &[1; 96]), Err(refusal));
         let mut checkpoint = Checkpoint::from_bytes([9; 50]);
         assert_eq!(formula.walk(&list, &mut checkpoint, 1), Err(refusal));
         assert_eq!(formula.list(&list, &mut checkpoint, &mut []), Err(refusal));

@@ -1,4 +1,4 @@
-//! Assumptions (request: fixed settings): values that some variables have before judge, walk, list or page begins.
+//! Assumptions (request: fixed settings): values that some variables have before judge, weigh, walk, list or page begins.
 
 use crate::bits::bit;
 use crate::formula::{Clause, Formula, Refusal};
@@ -61,9 +61,18 @@ impl Assumed {
 
 impl Formula {
     /// Takes the assumptions, and becomes what remains under them: satisfied clauses are gone, and assumed variables are gone from the
-    /// others. Refuses by 16, at its index, the first assumption whose variable the formula doesn't have or an earlier one has assumed,
-    /// be it with the same value.
+    /// others. Refuses a bad assumption by 16, at its index.
     pub fn assume(&mut self, assumptions: &[Assumption]) -> Result<Assumed, Refusal> {
+        let mut assumed = self.assumed(assumptions)?;
+        if assumed.variables != 0 {
+            self.reduce(&mut assumed);
+        }
+        Ok(assumed)
+    }
+
+    /// The variables and the values of the assumptions, with no clause noted as satisfied. Refuses by 16, at its index, the first
+    /// assumption whose variable the formula doesn't have or an earlier one has assumed, be it with the same value.
+    pub fn assumed(&self, assumptions: &[Assumption]) -> Result<Assumed, Refusal> {
         let mut assumed = Assumed::default();
         for (index, assumption) in assumptions.iter().enumerate() {
             let number = usize::from(assumption.variable);
@@ -78,9 +87,6 @@ impl Formula {
             if assumption.value {
                 assumed.assignment |= variable;
             }
-        }
-        if assumed.variables != 0 {
-            self.reduce(&mut assumed);
         }
         Ok(assumed)
     }

@@ -5,9 +5,9 @@
 //! nothing is carried from one choice to the next, so that each function can be read beside its section (S-numbers).
 //!
 //! The acts are [`check`], [`judge`], [`start_checkpoint`], [`walk`], [`list`] and [`page()`], and between DIMACS CNF text and encoded
-//! formulas [`from_dimacs`] and [`to_dimacs`]; [`print()`] writes the printed walk. Judge, walk, list and page also take assumptions.
-//! Variables count from 0 in the code, so that variable v is bit v of a mask; in bytes, texts and assumptions they count from 1 (switch s
-//! is variable s - 1).
+//! formulas [`from_dimacs`] and [`to_dimacs`]; [`print()`] writes the printed walk, and [`weigh`] counts what the marks in judge's buffer
+//! come to. Judge, weigh, walk, list and page also take assumptions. Variables count from 0 in the code, so that variable v is bit v of a
+//! mask; in bytes, texts and assumptions they count from 1 (switch s is variable s - 1).
 
 #![forbid(unsafe_code)]
 #![deny(missing_docs)]
@@ -23,15 +23,17 @@ mod page;
 mod printing;
 mod stripping;
 mod walking;
+mod weighing;
 
 pub use acceptance::{accept, judge, judge_with, Size};
 pub use assumptions::{Assumed, Assumption};
 pub use dimacs::{from_dimacs, read_text, to_dimacs, write_text, FORMULA_BUFFER, TEXT_BUFFER};
 pub use formula::{check, decode, Clause, Formula, Refusal, MAX_CLAUSES, MAX_VARIABLES};
-pub use matching::Matcher;
+pub use matching::{is_matched, Matcher};
 pub use page::{page, LentPage, Paged, LINE_SIZE, MAX_SERIAL, PAGE_LINES, PAGE_SIZE};
 pub use printing::print;
 pub use walking::{
     list, start_checkpoint, walk, Answer, Checkpoint, Listed, Progress, Walked, Walker,
     CHECKPOINT_LENGTH, LIST_BUDGET,
 };
+pub use weighing::{weigh, Weight};

@@ -10,6 +10,11 @@ pub trait Matcher {
     fn match_clauses(&mut self, named: &[u64]) -> Result<&[u8], &[u8]>;
 }
 
+/// Whether clauses, each given by the set of variables that it names, are matched (S5.1; request: paired).
+pub fn is_matched(named: &[u64]) -> bool {
+    Matching::new().match_all(named)
+}
+
 /// A matching that grows clause by clause.
 pub(crate) struct Matching {
     /// The matched variables.

@@ -191,6 +191,16 @@ fn is_matching(clauses: &[&Vec<i8>], bytes: &[u8]) -> bool {
     (0..clauses.len()).all(own)
 }
 
+/// Requires the clauses not to be matched, and to be so without any single one of them.
+fn require_each_needed(clauses: &[&Vec<i8>]) {
+    assert!(!is_matched(clauses));
+    for struck in 0..clauses.len() {
+        assert!(is_matched(
+            &[&clauses[..struck], &clauses[struck + 1..]].concat()
+        ));
+    }
+}
+
 /// The kinds of what remains under a list, good or empty.
 const KINDS: [&str; 6] = [
     "matched, nothing to strip",
@@ -235,6 +245,7 @@ fn require_accepted(clauses: &Clauses, answer: Result<(), Refusal>, bytes: &[u8]
     assert!(left_bytes.iter().all(|byte| *byte <= 1));
     let named = (1..=48).filter(|v| marked.iter().any(|clause| names(clause, *v)));
     assert_eq!(named.count() + 1, marked.len());
+    require_each_needed(&marked);
     assert!(dropped.all(|i| bytes[i] == 0));
     KINDS[if noted.is_empty() { 4 } else { 5 }]
 }

@@ -1,4 +1,4 @@
-//! What calls get beside the input: assignments, budgets, buffers, serials, and checkpoints that a walk may or may not have.
+//! What calls get beside the input: assignments, budgets, buffers, marks, serials, and checkpoints that a walk may or may not have.
 
 use crate::random::Random;
 
@@ -40,6 +40,19 @@ pub fn some_length(random: &mut Random, least: usize) -> usize {
         2 => least + random.between(1, 100),
         _ => least,
     }
+}
+
+/// The bytes of a buffer of this length, to be weighed as marks: none, few, many or all are marks, and these are 1, as judge leaves them,
+/// or any bytes.
+pub fn some_marks(random: &mut Random, length: usize) -> Vec<u8> {
+    let chance = random.pick(&[0, 5, 20, 50, 80, 100]);
+    let ones = random.percent(50);
+    let mut mark = || match (random.percent(chance), ones) {
+        (false, _) => 0,
+        (true, true) => 1,
+        (true, false) => random.byte(),
+    };
+    (0..length).map(|_| mark()).collect()
 }
 
 /// The serial of a page's first line: at a limit or past it, near to one that has a digit more, or any other.

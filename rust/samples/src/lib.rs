@@ -12,7 +12,9 @@ mod random;
 mod texts;
 
 pub use assumptions::some_assumptions;
-pub use calls::{some_assignment, some_budget, some_checkpoint, some_length, some_serial};
+pub use calls::{
+    some_assignment, some_budget, some_checkpoint, some_length, some_marks, some_serial,
+};
 pub use formulas::{encode, longest_path, stairs, stripped, Clauses, Stripping};
 pub use inputs::{some_accepted_formula, some_input};
 pub use random::Random;

@@ -4,7 +4,8 @@ use crate::assumed::Assumed;
 use crate::counts::Outcomes;
 use crate::raw;
 use crate::tally::Tally;
-use norwythai::{Answer, Checkpoint, JudgeError, Refusal, PAGE_SIZE};
+use crate::weights::compare_judged;
+use norwythai::{Answer, Checkpoint, JudgeError, Refusal, Violator, PAGE_SIZE};
 use norwythai_reference as reference;
 use norwythai_samples::{some_budget, some_length, Random};
 
@@ -102,6 +103,7 @@ pub fn compare_judge(tally: &mut Tally, input: &[u8], assumed: &Assumed, length:
     tally
         .assuming
         .judged(input, assumed, expected, &expected_buffer);
+    compare_judged(tally, input, assumed, expected, &expected_buffer);
 }
 
 /// The form of judge that lends its own buffer.
@@ -119,8 +121,11 @@ fn compare_owned_judge(
         (Err(error), Err(refusal)) => {
             assert_eq!(error.refusal(), refusal_of(refusal), "{input:02x?}");
             if let JudgeError::Unmatched { violator } = error {
-                assert_eq!(violator.len(), refusal.place);
-                assert!(violator.iter().all(|clause| buffer[*clause] == 1));
+                let Violator { clauses, variables } = violator;
+                assert_eq!(clauses.len(), refusal.place);
+                assert!(clauses.is_sorted_by(|first, second| first < second));
+                assert!(clauses.iter().all(|clause| buffer[*clause] == 1));
+                assert_eq!(variables + 1, clauses.len(), "{input:02x?}");
             }
         }
         (found, _) => panic!("{input:02x?}: {found:?}, but {expected:?}"),
@@ -391,12 +396,13 @@ pub fn compare_round_trip(tally: &mut Tally, input: &[u8]) {
     tally.round_trips += 1;
 }
 
-/// Judge with arrays of which one has a wrong length: it returns 1 and writes nothing.
-fn reject_judge(input: &[u8], assumptions: &[u8], fill: u8, results_length: usize) {
+/// Judge and weigh with arrays of which one has a wrong length: they return 1 and write nothing.
+fn reject_judge_and_weigh(input: &[u8], assumptions: &[u8], fill: u8, results_length: usize) {
     let mut buffer = [fill; 100];
     let mut results = vec![UNWRITTEN; results_length];
     let returned = raw::judge(input, assumptions, &mut buffer, &mut results);
     assert_eq!((returned, buffer), (1, [fill; 100]));
+    assert_eq!(raw::weigh(input, assumptions, &buffer, &mut results), 1);
     assert_eq!(results, vec![UNWRITTEN; results_length]);
 }
 
@@ -444,11 +450,11 @@ pub fn compare_wrong_lengths(tally: &mut Tally, random: &mut Random, input: &[u8
         let mut results = unwritten.clone();
         assert_eq!(raw::check(input, 0, &mut results), 1);
         assert_eq!(results, unwritten);
-        reject_judge(input, &assumptions, fill, results_length);
+        reject_judge_and_weigh(input, &assumptions, fill, results_length);
         reject_walks(input, &assumptions, &good, results_length);
         FROM_DIMACS.compare_wrong_length(b"p cnf 2 1\n1 0\n", fill, &unwritten);
         TO_DIMACS.compare_wrong_length(input, fill, &unwritten);
-        tally.wrong_lengths += 7;
+        tally.wrong_lengths += 8;
     }
     for checkpoint_length in [0, 1, 49, 51, 100, random.below(50)] {
         let given = vec![fill & 3; checkpoint_length];
@@ -461,8 +467,8 @@ pub fn compare_wrong_lengths(tally: &mut Tally, random: &mut Random, input: &[u8
     // An assumption without its value, behind good or bad ones.
     for odd in [&assumptions[..], &[], &[1, 1], &[0; 100]] {
         let odd = [odd, &[random.below(3) as u8]].concat();
-        reject_judge(input, &odd, fill, 6);
+        reject_judge_and_weigh(input, &odd, fill, 6);
         reject_walks(input, &odd, &good, 6);
-        tally.odd_lengths += 4;
+        tally.odd_lengths += 5;
     }
 }

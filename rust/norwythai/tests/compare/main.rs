@@ -8,6 +8,7 @@ mod counts;
 mod pages;
 mod raw;
 mod tally;
+mod weights;
 
 use acts::{
     answer_of, compare_chain, compare_check, compare_judge, compare_list, compare_round_trip,
@@ -22,6 +23,7 @@ use norwythai_samples::{
 };
 use pages::compare_pages;
 use tally::Tally;
+use weights::compare_weights;
 
 const FEWEST_CALLS: usize = 100_000;
 
@@ -33,8 +35,8 @@ fn is_accepted(input: &[u8]) -> bool {
     is_accepted_under(input, &[])
 }
 
-/// Judge, walk, list and page on one input under assumptions, with checkpoints of their own walk and, at times, those of a walk of another
-/// input or under another list.
+/// Judge, weigh, walk, list and page on one input under assumptions, with checkpoints of their own walk and, at times, those of a walk
+/// of another input or under another list.
 fn compare_assuming(
     tally: &mut Tally,
     random: &mut Random,
@@ -47,6 +49,7 @@ fn compare_assuming(
         let fill = random.byte();
         compare_judge(tally, input, assumed, length, fill);
     }
+    compare_weights(tally, random, input, assumed);
     let mut pool = Vec::new();
     if is_accepted_under(input, &assumed.reference) {
         pool = compare_chain(tally, random, input, assumed);

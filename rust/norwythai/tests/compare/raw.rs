@@ -2,7 +2,7 @@
 
 use norwythai::raw::{
     norwythai_check, norwythai_from_dimacs, norwythai_judge, norwythai_list, norwythai_page,
-    norwythai_start, norwythai_to_dimacs, norwythai_walk,
+    norwythai_start, norwythai_to_dimacs, norwythai_walk, norwythai_weigh,
 };
 use std::fmt::Debug;
 
@@ -109,6 +109,29 @@ pub fn judge(input: &[u8], assumptions: &[u8], buffer: &mut [u8], results: &mut 
         )
     };
     lent.take(buffer);
+    written.take(results);
+    returned
+}
+
+/// The buffer is only read: it stays as it is.
+pub fn weigh(input: &[u8], assumptions: &[u8], buffer: &[u8], results: &mut [u64]) -> u32 {
+    let (mut lent, mut written) = (bytes(buffer), numbers(results));
+    // SAFETY: the pointers are good for the lengths, and the arrays do not overlap.
+    let returned = unsafe {
+        norwythai_weigh(
+            input.as_ptr(),
+            input.len(),
+            assumptions.as_ptr(),
+            assumptions.len(),
+            lent.pointer(),
+            lent.length(),
+            written.pointer(),
+            written.length(),
+        )
+    };
+    let mut after = vec![0; buffer.len()];
+    lent.take(&mut after);
+    assert_eq!(after, buffer);
     written.take(results);
     returned
 }

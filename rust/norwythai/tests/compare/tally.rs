@@ -4,6 +4,7 @@ use crate::assumed::Assumed;
 use crate::counts::{write_refusals, Outcomes, Refusals, Seen};
 use crate::is_accepted;
 use crate::pages::Pages;
+use crate::weights::Weights;
 use norwythai_reference::{decode, Answer, Checkpoint, Listed, Progress, Refusal, Size};
 use std::fmt;
 
@@ -306,6 +307,7 @@ fn checkpoint(mode: u8) -> Checkpoint {
 pub struct Tally {
     pub checks: usize,
     pub judges: usize,
+    pub weights: Weights,
     pub starts: usize,
     pub walks: usize,
     pub chain_calls: usize,
@@ -331,7 +333,7 @@ pub struct Tally {
     pub with_trials: usize,
     /// Models handed out by list.
     pub listed: usize,
-    /// Refusals of all acts but page and those between formulas and texts.
+    /// Refusals of all acts but weigh, page and those between formulas and texts.
     refusals: Refusals,
     pub assuming: Assuming,
     /// Without assumptions, and under some.
@@ -345,6 +347,7 @@ impl Tally {
     pub fn calls(&self) -> usize {
         self.checks
             + self.judges
+            + self.weights.calls()
             + self.starts
             + self.walks
             + self.chain_calls
@@ -390,6 +393,7 @@ impl Tally {
         let least = [
             ("check", self.checks, calls / 10),
             ("judge", self.judges, calls / 20),
+            ("weigh", self.weights.calls(), calls / 20),
             ("start", self.starts, calls / 200),
             ("walk", self.walks, calls / 5),
             ("chains", self.chain_calls, calls / 20),
@@ -404,11 +408,11 @@ impl Tally {
             ("no", self.no, calls / 100),
             ("accepted", self.accepted, calls / 100),
             ("model", self.models, calls / 20),
-            ("spent", self.spent, calls / 20),
+            ("spent", self.spent, calls / 25),
             ("ended", self.ended, calls / 100),
             ("with trials", self.with_trials, calls / 100),
             ("models listed", self.listed, calls / 20),
-            ("inputs with repeats", self.repeats, calls / 300),
+            ("inputs with repeats", self.repeats, calls / 400),
             ("long inputs", self.long, calls / 50_000),
         ];
         for (what, seen, wanted) in least {
@@ -418,6 +422,7 @@ impl Tally {
             assert!(*seen >= calls / 2000, "refusal {number}: only {seen}");
         }
         self.assuming.require_enough();
+        self.weights.require_enough();
         self.pages.require_enough();
         for Stripped { calls, seen } in &self.stripped {
             seen.require_enough(&STRIPPED, *calls);
@@ -438,6 +443,7 @@ impl fmt::Display for Tally {
             self.checks, self.yes, self.no
         )?;
         writeln!(f, "judge: {} (accepted {})", self.judges, self.accepted)?;
+        writeln!(f, "weigh: {}", self.weights)?;
         writeln!(f, "start: {}", self.starts)?;
         writeln!(
             f,

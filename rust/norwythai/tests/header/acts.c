@@ -128,6 +128,49 @@ static int test_judge_under_assumptions(void) {
     return 0;
 }
 
+static int test_weigh(void) {
+    const uint8_t byte = 0;
+    uint8_t buffer[NORWYTHAI_BUFFER];
+    uint64_t results[NORWYTHAI_RESULTS];
+
+    /* What judge marks: of the clauses (1) and (not 1) the one variable; of the empty clause that is left of (not 1, not 2) none. */
+    memset(buffer, 7, sizeof buffer);
+    REQUIRE(norwythai_judge(LEFT_UNMATCHED, sizeof LEFT_UNMATCHED, &byte, 0, buffer, sizeof buffer, results,
+                            NORWYTHAI_RESULTS) == 0);
+    REQUIRE(results[2] == 10 && results[3] == 2);
+    REQUIRE(norwythai_weigh(LEFT_UNMATCHED, sizeof LEFT_UNMATCHED, &byte, 0, buffer, sizeof buffer, results,
+                            NORWYTHAI_RESULTS) == 0);
+    REQUIRE(results[0] == NORWYTHAI_COUNTED && results[1] == 0 && results[2] == 0 && results[3] == 0);
+    REQUIRE(results[4] == 2 && results[5] == 1);
+    /* One of the marks cleared. */
+    buffer[2] = 0;
+    REQUIRE(norwythai_weigh(LEFT_UNMATCHED, sizeof LEFT_UNMATCHED, &byte, 0, buffer, sizeof buffer, results,
+                            NORWYTHAI_RESULTS) == 0);
+    REQUIRE(results[0] == NORWYTHAI_COUNTED && results[4] == 1 && results[5] == 1);
+    REQUIRE(buffer[0] == 0 && buffer[2] == 0 && buffer[3] == 1 && buffer[4] == 7);
+    REQUIRE(norwythai_judge(INPUT, sizeof INPUT, BOTH_TRUE, 4, buffer, sizeof buffer, results, NORWYTHAI_RESULTS) == 0);
+    REQUIRE(results[2] == 10 && results[3] == 1);
+    REQUIRE(norwythai_weigh(INPUT, sizeof INPUT, BOTH_TRUE, 4, buffer, sizeof buffer, results, NORWYTHAI_RESULTS) == 0);
+    REQUIRE(results[0] == NORWYTHAI_COUNTED && results[4] == 1 && results[5] == 0);
+
+    /* Any marks, in a formula that is accepted: both clauses, one of which an assumption satisfies, without the assumed variable. */
+    memset(buffer, 7, sizeof buffer);
+    REQUIRE(norwythai_weigh(INPUT, sizeof INPUT, FIRST_TRUE, 2, buffer, sizeof buffer, results, NORWYTHAI_RESULTS) == 0);
+    REQUIRE(results[0] == NORWYTHAI_COUNTED && results[4] == 2 && results[5] == 1);
+    memset(buffer, 0, sizeof buffer);
+    REQUIRE(norwythai_weigh(INPUT, sizeof INPUT, &byte, 0, buffer, sizeof buffer, results, NORWYTHAI_RESULTS) == 0);
+    REQUIRE(results[0] == NORWYTHAI_COUNTED && results[4] == 0 && results[5] == 0);
+
+    /* A short buffer, then the input, then the assumptions. */
+    REQUIRE(norwythai_weigh(BOTH_WAYS, sizeof BOTH_WAYS, TWICE, 4, buffer, NORWYTHAI_BUFFER - 1, results, NORWYTHAI_RESULTS) == 0);
+    REQUIRE(results[0] == NORWYTHAI_REFUSED && results[2] == 1 && results[3] == 0);
+    REQUIRE(norwythai_weigh(BOTH_WAYS, sizeof BOTH_WAYS, TWICE, 4, buffer, sizeof buffer, results, NORWYTHAI_RESULTS) == 0);
+    REQUIRE(results[0] == NORWYTHAI_REFUSED && results[2] == 7 && results[3] == 6);
+    REQUIRE(norwythai_weigh(INPUT, sizeof INPUT, TWICE, 4, buffer, sizeof buffer, results, NORWYTHAI_RESULTS) == 0);
+    REQUIRE(results[0] == NORWYTHAI_REFUSED && results[2] == 16 && results[3] == 1 && results[4] == 0 && results[5] == 0);
+    return 0;
+}
+
 static int test_walk(void) {
     const uint8_t byte = 0;
     uint8_t checkpoint[NORWYTHAI_CHECKPOINT];
@@ -344,21 +387,24 @@ static int test_lengths(void) {
     memset(buffer, 7, sizeof buffer);
     for (odd = 1; odd < 4; odd += 2) {
         REQUIRE(norwythai_judge(INPUT, sizeof INPUT, TWICE, odd, buffer, sizeof buffer, results, NORWYTHAI_RESULTS) == 1);
+        REQUIRE(norwythai_weigh(INPUT, sizeof INPUT, TWICE, odd, buffer, sizeof buffer, results, NORWYTHAI_RESULTS) == 1);
         REQUIRE(norwythai_walk(INPUT, sizeof INPUT, TWICE, odd, checkpoint, sizeof checkpoint, 96, results, NORWYTHAI_RESULTS) == 1);
         REQUIRE(norwythai_list(INPUT, sizeof INPUT, TWICE, odd, checkpoint, sizeof checkpoint, models, 1, results,
                                NORWYTHAI_RESULTS) == 1);
         REQUIRE(norwythai_page(INPUT, sizeof INPUT, TWICE, odd, checkpoint, sizeof checkpoint, 1, page, sizeof page, results,
                                NORWYTHAI_RESULTS) == 1);
     }
+    REQUIRE(norwythai_weigh(INPUT, sizeof INPUT, TWICE, 0, buffer, sizeof buffer, results, sizeof results) == 1);
     REQUIRE(norwythai_page(INPUT, sizeof INPUT, TWICE, 0, checkpoint, 49, 1, page, sizeof page, results, NORWYTHAI_RESULTS) == 1);
     REQUIRE(norwythai_page(INPUT, sizeof INPUT, TWICE, 0, checkpoint, sizeof checkpoint, 1, page, sizeof page, results, 5) == 1);
+    REQUIRE(norwythai_weigh(INPUT, sizeof INPUT, TWICE, 0, buffer, sizeof buffer, results, 5) == 1);
     REQUIRE(results[0] == 7 && results[5] == 7);
     REQUIRE(buffer[0] == 7 && checkpoint[0] == 0 && models[0] == 7 && page[0] == 0);
     return 0;
 }
 
 int main(void) {
-    return test_check() || test_judge() || test_judge_by_stripping() || test_judge_under_assumptions() || test_walk() ||
-           test_list() || test_list_by_stripping() || test_walk_under_assumptions() || test_all_assumed() || test_page() ||
-           test_refused_page() || test_from_dimacs() || test_to_dimacs() || test_lengths();
+    return test_check() || test_judge() || test_judge_by_stripping() || test_judge_under_assumptions() || test_weigh() ||
+           test_walk() || test_list() || test_list_by_stripping() || test_walk_under_assumptions() || test_all_assumed() ||
+           test_page() || test_refused_page() || test_from_dimacs() || test_to_dimacs() || test_lengths();
 }

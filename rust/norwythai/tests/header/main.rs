@@ -100,7 +100,7 @@ fn an_ignored_result_brings_a_warning() {
         let text = String::from_utf8_lossy(&output.stderr);
         assert!(output.status.success(), "{compiler} {options:?}: {text}");
         let warnings = text.matches("warning: ignoring return value").count();
-        assert_eq!(warnings, 8, "{compiler} {options:?}: {text}");
+        assert_eq!(warnings, 9, "{compiler} {options:?}: {text}");
     }
 }
 
@@ -142,4 +142,37 @@ fn the_example_lists_models_in_batches() {
     let output = batches(file, "2");
     assert!(output.status.success());
     assert_eq!(output.stdout, b"batch 1\n10\n11\n");
+}
+
+#[test]
+fn the_example_says_what_cannot_be_matched() {
+    let program = temporary("unmatched");
+    let source = repository("examples/c/unmatched.c");
+    compile("cc", &["-std=c99"], &source, &program);
+    let unmatched = |file: PathBuf| run(Command::new(&program).arg(file));
+    let output = unmatched(repository("examples/unmatched.bin"));
+    assert!(output.status.success());
+    assert_eq!(
+        output.stdout,
+        b"clause 1\nclause 2\nclause 4\n3 clauses name 2 variables\n"
+    );
+
+    let output = unmatched(repository("examples/two_variables.bin"));
+    assert!(output.status.success());
+    assert_eq!(output.stdout, b"accepted\n");
+
+    // An empty file, one that is too long, and none.
+    let file = temporary("unmatched.bin");
+    for (input, error) in [
+        (vec![], "refused 2 at 0"),
+        (vec![1; 9_316], "the file is too long"),
+    ] {
+        std::fs::write(&file, input).unwrap();
+        let output = unmatched(file.clone());
+        assert!(!output.status.success());
+        assert_eq!(output.stderr, format!("unmatched: {error}\n").as_bytes());
+    }
+    let output = unmatched(temporary("missing.bin"));
+    assert!(!output.status.success());
+    assert_eq!(output.stderr, b"unmatched: the file can't be read\n");
 }

@@ -2,9 +2,9 @@
 
 use crate::values::{from_hex, number};
 use norwythai_reference::{
-    check, from_dimacs, judge, list, page, print, start_checkpoint, to_dimacs, walk, Answer,
-    Assumption, Checkpoint, Paged, Refusal, Walked, CHECKPOINT_LENGTH, LINE_SIZE, LIST_BUDGET,
-    PAGE_SIZE,
+    check, from_dimacs, judge, list, page, print, start_checkpoint, to_dimacs, walk, weigh, Answer,
+    Assumption, Checkpoint, Paged, Refusal, Walked, Weight, CHECKPOINT_LENGTH, LINE_SIZE,
+    LIST_BUDGET, PAGE_SIZE,
 };
 use std::collections::BTreeMap;
 
@@ -146,15 +146,32 @@ fn compare_check(line: &str) -> Compared {
 
 fn compare_judge(line: &str) -> Compared {
     let input = hex_field(line, "sheet")?;
+    let assumptions = assumptions_of(line)?;
     let mut buffer = lent(line, "slate")?;
-    let found = judge(&input, &assumptions_of(line)?, &mut buffer)
-        .map(|size| (size.variables, size.clauses));
+    let found = judge(&input, &assumptions, &mut buffer).map(|size| (size.variables, size.clauses));
     let expected = match refusal_of(line)? {
         Some(refusal) => Err(refusal),
         None => Ok((number(field(line, "n")?)?, number(field(line, "m")?)?)),
     };
     compare("answer", found, expected)?;
+    if let Err(Refusal { number: 10, place }) = found {
+        compare_weight(&input, &assumptions, &buffer, place)?;
+    }
     compare("buffer", buffer, hex_field(line, "slate")?)
+}
+
+/// weigh, with no vectors of its own, on the marks of a violator of so many clauses: they name one variable fewer.
+fn compare_weight(
+    input: &[u8],
+    assumptions: &[Assumption],
+    buffer: &[u8],
+    clauses: usize,
+) -> Compared {
+    let expected = Weight {
+        clauses,
+        variables: clauses - 1,
+    };
+    compare("weight", weigh(input, assumptions, buffer), Ok(expected))
 }
 
 /// An expected walk answer.
