@@ -16,7 +16,7 @@ const HALF_ASSUMED: &str = ", half assumed";
 /// The largest number of variables.
 const LARGEST: usize = 48;
 
-/// An accepted formula, with the assumptions of all calls on it.
+/// A formula, with the assumptions of all calls on it.
 #[derive(Clone)]
 pub struct Case {
     pub name: String,
@@ -29,16 +29,16 @@ pub struct Case {
 }
 
 impl Case {
-    fn new(name: String, input: Vec<u8>) -> Option<Self> {
-        let assumptions = Assumptions::default();
-        let (variables, clauses) = Plain.judge(&input, &assumptions, &mut [0; 96]).ok()?;
-        Some(Case {
+    /// A formula without assumptions.
+    pub fn new(name: String, input: Vec<u8>) -> Self {
+        let formula = decode(&input).expect("a formula");
+        Case {
             name,
             input,
-            assumptions,
-            variables,
-            clauses,
-        })
+            assumptions: Assumptions::default(),
+            variables: formula.variables(),
+            clauses: formula.clauses().len(),
+        }
     }
 
     fn is_accepted(&self) -> bool {
@@ -52,8 +52,9 @@ impl Case {
     }
 
     /// The same formula with half of its variables assumed, or as many as can be found: one after the other, in random order, with a
-    /// random value or else the other, so that it is accepted under them.
+    /// random value or else the other, so that it is accepted under them if it is without, and else is not.
     pub fn half_assumed(&self) -> Self {
+        let accepted = self.is_accepted();
         let mut case = self.clone();
         case.name.push_str(HALF_ASSUMED);
         let mut random = Random::new(self.input.len() as u64);
@@ -62,7 +63,7 @@ impl Case {
             for value in [value, !value] {
                 let mut more = case.clone();
                 more.assumptions.push(variable as u8, value);
-                if more.is_accepted() {
+                if more.is_accepted() == accepted {
                     case = more;
                     break;
                 }
@@ -139,9 +140,7 @@ impl Family {
 
     /// These formulas with half of their variables assumed, and the title of such.
     pub fn half_assumed(&self) -> (String, Vec<Case>) {
-        let cases = self.cases();
-        let title = format!("{}{HALF_ASSUMED}", self.title);
-        (title, cases.iter().map(Case::half_assumed).collect())
+        with_half_assumed(self.title, &self.cases())
     }
 
     /// So many generated formulas of so many variables.
@@ -151,7 +150,10 @@ impl Family {
         while cases.len() < count {
             let clauses = (self.generate)(&mut random, variables);
             let name = format!("{}_generated{}", self.letter, cases.len() + 1);
-            cases.extend(Case::new(name, encode(variables, &clauses)));
+            let case = Case::new(name, encode(variables, &clauses));
+            if case.is_accepted() {
+                cases.push(case);
+            }
         }
         cases
     }
@@ -163,8 +165,37 @@ impl Family {
             return None;
         }
         let case = Case::new(name.to_string(), from_hex(digits));
-        Some(case.expect("the kept formulas are accepted"))
+        assert!(case.is_accepted(), "{name} is kept, but not accepted");
+        Some(case)
     }
+}
+
+/// The title of formulas that are not accepted, and such formulas: 96 clauses over 48 variables, of which stripping drops some and leaves
+/// rings, and more clauses over the variables of these.
+pub fn unmatched() -> (String, Vec<Case>) {
+    let mut random = Random::new(u64::from('u') << 8 | LARGEST as u64);
+    let stripping = Stripping {
+        dropped: 36,
+        in_rings: 40,
+        more: 20,
+    };
+    let cases = (1..=GENERATED).map(|number| {
+        let clauses = stripped(&mut random, LARGEST, stripping);
+        Case::new(format!("u_generated{number}"), encode(LARGEST, &clauses))
+    });
+    ("unmatched".to_string(), cases.collect())
+}
+
+/// These formulas with half of their variables assumed, and the title of such.
+pub fn unmatched_half_assumed() -> (String, Vec<Case>) {
+    let (title, cases) = unmatched();
+    with_half_assumed(&title, &cases)
+}
+
+/// Formulas with half of their variables assumed, and the title of such.
+fn with_half_assumed(title: &str, cases: &[Case]) -> (String, Vec<Case>) {
+    let title = format!("{title}{HALF_ASSUMED}");
+    (title, cases.iter().map(Case::half_assumed).collect())
 }
 
 /// The fullest input: 96 clauses, each with all 48 variables. Without repeated literals none is longer. Stripping drops
@@ -331,6 +362,18 @@ mod tests {
                 half.name,
                 half.left_to_assign()
             );
+        }
+    }
+
+    #[test]
+    fn unmatched_formulas_stay_so_under_assumptions() {
+        let (_, cases) = unmatched();
+        let (_, half) = unmatched_half_assumed();
+        assert!(half.iter().all(|c| c.left_to_assign() == LARGEST / 2));
+        for case in cases.iter().chain(&half) {
+            assert_eq!((case.variables, case.clauses), (LARGEST, 96));
+            let judged = Plain.judge(&case.input, &case.assumptions, &mut [0; 96]);
+            assert!(matches!(judged, Err((10, _))), "{}: {judged:?}", case.name);
         }
     }
 }

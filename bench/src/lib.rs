@@ -12,3 +12,4 @@ pub mod pages;
 pub mod stack;
 pub mod table;
 pub mod waits;
+pub mod weights;

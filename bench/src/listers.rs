@@ -46,6 +46,14 @@ pub trait Lister {
         buffer: &mut [u8; 96],
     ) -> Result<(usize, usize), Refused>;
 
+    /// How many clauses the buffer marks, and how many variables these name.
+    fn weigh(
+        &self,
+        input: &[u8],
+        assumptions: &Assumptions,
+        buffer: &[u8; 96],
+    ) -> Result<(usize, usize), Refused>;
+
     /// Goes on from the checkpoint, which becomes the next one. The budget brings a model or the end.
     fn walk(
         &self,
@@ -111,6 +119,18 @@ impl Lister for Proved {
         }
     }
 
+    fn weigh(
+        &self,
+        input: &[u8],
+        assumptions: &Assumptions,
+        buffer: &[u8; 96],
+    ) -> Result<(usize, usize), Refused> {
+        match norwythai::weigh(input, &assumptions.proved, buffer) {
+            Ok(weight) => Ok((weight.clauses, weight.variables)),
+            Err(refusal) => Err(refused(refusal)),
+        }
+    }
+
     fn walk(
         &self,
         input: &[u8],
@@ -170,7 +190,7 @@ impl Lister for Proved {
     }
 }
 
-/// The two Rust implementations have the same functions, but check and texts are the plain one's alone: they have nothing to tune.
+/// The two Rust implementations have the same functions, but check, weigh and texts are the plain one's alone: they have nothing to tune.
 macro_rules! rust_lister {
     ($name:ident, $module:ident) => {
         impl Lister for $name {
@@ -186,6 +206,18 @@ macro_rules! rust_lister {
             ) -> Result<(usize, usize), Refused> {
                 match $module::judge(input, &assumptions.rust, buffer) {
                     Ok(size) => Ok((size.variables, size.clauses)),
+                    Err(refusal) => Err((refusal.number, refusal.place)),
+                }
+            }
+
+            fn weigh(
+                &self,
+                input: &[u8],
+                assumptions: &Assumptions,
+                buffer: &[u8; 96],
+            ) -> Result<(usize, usize), Refused> {
+                match plain::weigh(input, &assumptions.rust, buffer) {
+                    Ok(weight) => Ok((weight.clauses, weight.variables)),
                     Err(refusal) => Err((refusal.number, refusal.place)),
                 }
             }

@@ -4,6 +4,7 @@ use crate::families::{fullest_input, longest_text_input, Case, Family, FAMILIES}
 use crate::listers::{Bytes, Lister, Plain, Proved, Refused, Tuned};
 use crate::pages::{page_rows, page_times};
 use crate::table::{count_text, print_table, row, time_text};
+use crate::weights::weigh_rows;
 use norwythai::{FORMULA_BUFFER, TEXT_BUFFER};
 use std::fmt::Debug;
 use std::hint::black_box;
@@ -60,8 +61,14 @@ fn time_of(calls: usize, lister: &dyn Lister, act: &mut dyn FnMut(&dyn Lister)) 
     }
     let alone = start.elapsed().as_nanos() as f64;
     let waits = waited() - before;
-    let around = around.elapsed().as_nanos() as f64;
-    alone.min(around - waits) / calls as f64
+    let less_waits = around.elapsed().as_nanos() as f64 - waits;
+    // The kernel's count of the waits is coarse: one that leaves nothing of the time says nothing.
+    let time = if less_waits > 0.0 {
+        alone.min(less_waits)
+    } else {
+        alone
+    };
+    time / calls as f64
 }
 
 /// Runs something so many levels deeper on the stack. Where a function's frame lies differs from process to process, and changed
@@ -381,6 +388,7 @@ fn assumed_rows(family: &Family) -> Vec<Row> {
 fn all_rows() -> Vec<Row> {
     let mut rows: Vec<Row> = FAMILIES.iter().flat_map(family_rows).collect();
     rows.extend(FAMILIES.iter().flat_map(assumed_rows));
+    rows.extend(weigh_rows());
     rows.push(Row {
         family: "fullest input".to_string(),
         act: "check".to_string(),
@@ -470,7 +478,7 @@ pub fn print_comparison() {
     table.extend(rows.iter().map(Row::cells));
     print_table(&table);
     println!();
-    println!("- all three have listed the same models and given the same pages, walk calls, matchings and texts");
+    println!("- all three have listed the same models and given the same pages, walk calls, matchings, weights and texts");
     println!("- best of {ROUNDS} rounds after a warm-up, {FEWEST_ROUNDS} for the longest acts; a time is the geometric mean over a family's formulas");
     println!("- buffers were not cleared between calls; waits for a core are taken off");
     print_verdict(&rows);

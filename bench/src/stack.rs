@@ -10,7 +10,7 @@ use crate::measure::{deep_checkpoint, BUDGET, START};
 use crate::table::{count_text, print_table, row};
 use norwythai::raw::{
     norwythai_check, norwythai_from_dimacs, norwythai_judge, norwythai_list, norwythai_page,
-    norwythai_start, norwythai_to_dimacs, norwythai_walk,
+    norwythai_start, norwythai_to_dimacs, norwythai_walk, norwythai_weigh,
 };
 use norwythai::{to_dimacs, FORMULA_BUFFER, PAGE_SIZE, TEXT_BUFFER};
 use norwythai_samples::{encode, longest_path};
@@ -128,6 +128,30 @@ fn judge_stack(input: &[u8], assumptions: &[u8]) -> usize {
                 assumptions.as_ptr(),
                 assumptions.len(),
                 buffer.as_mut_ptr(),
+                96,
+                results.as_mut_ptr(),
+                6,
+            )
+        };
+        assert_eq!(returned, 0);
+        top
+    })
+}
+
+/// All clauses are marked.
+fn weigh_stack(input: &[u8], assumptions: &[u8]) -> usize {
+    let mut results = [0; 6];
+    let buffer = [1; 96];
+    stack_of(&mut || {
+        let top = stack_pointer();
+        // SAFETY: the pointers are good for the lengths, and the arrays do not overlap.
+        let returned = unsafe {
+            norwythai_weigh(
+                input.as_ptr(),
+                input.len(),
+                assumptions.as_ptr(),
+                assumptions.len(),
+                buffer.as_ptr(),
                 96,
                 results.as_mut_ptr(),
                 6,
@@ -369,9 +393,11 @@ fn print_functions() {
         of_others.max(stack(&fullest))
     };
     let judge = largest(&|measured, _| judge_stack(&measured.input, &measured.assumptions));
+    let weigh = largest(&|measured, _| weigh_stack(&measured.input, &measured.assumptions));
     let rows = [
         ("norwythai_check", with_fullest(check_stack)),
         ("norwythai_judge", judge.max(judge_stack(&fullest, &[]))),
+        ("norwythai_weigh", weigh.max(weigh_stack(&fullest, &[]))),
         ("norwythai_start", start_stack()),
         ("norwythai_walk", largest(&walk_stack)),
         ("norwythai_list", largest(&list_stack)),

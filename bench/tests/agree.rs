@@ -1,6 +1,6 @@
-//! The tuned baseline and the plain reference agree: on lists, on pages, on walks with their counts, and on judge.
+//! The tuned baseline and the plain reference agree: on lists, on pages, on walks with their counts, on judge, and on weigh.
 
-use norwythai_bench::families::{fullest_input, Case, FAMILIES};
+use norwythai_bench::families::{fullest_input, unmatched, unmatched_half_assumed, Case, FAMILIES};
 use norwythai_bench::listers::{Assumptions, Bytes, Lister, Plain, Refused, Tuned};
 use norwythai_bench::measure::{BUDGET, START};
 use norwythai_reference::{PAGE_LINES, PAGE_SIZE};
@@ -166,8 +166,20 @@ fn on_unmatched_formulas() {
             more,
         };
         let input = encode(48, &stripped(&mut random, 48, stripping));
-        let (judged, buffer) = same_judge(&input, &Assumptions::default());
-        let marked = buffer.iter().filter(|byte| **byte == 1).count();
-        assert_eq!(judged, Err((10, marked)));
+        require_violator(&input, &Assumptions::default());
+    }
+    for case in unmatched().1.iter().chain(&unmatched_half_assumed().1) {
+        require_violator(&case.input, &case.assumptions);
+    }
+}
+
+/// Both mark the same clauses, which name one variable fewer than they are.
+fn require_violator(input: &[u8], assumptions: &Assumptions) {
+    let (judged, buffer) = same_judge(input, assumptions);
+    let marked = buffer.iter().filter(|byte| **byte == 1).count();
+    assert_eq!(judged, Err((10, marked)));
+    for lister in [&Plain as &dyn Lister, &Tuned] {
+        let weight = lister.weigh(input, assumptions, &buffer);
+        assert_eq!(weight, Ok((marked, marked - 1)));
     }
 }
