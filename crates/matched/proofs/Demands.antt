@@ -42,7 +42,7 @@ use Rattle.matched.proofs.UnassumedLaws.{unassumed}
 use Rattle.matched.proofs.UnderLaws as unders
 use Rattle.matched.proofs.ViolatorLaws as violators
 use Rattle.matched.proofs.ViolatorLaws.{clauses-strip}
-use Rattle.matched.proofs.WeighLaws.{weigh-short, weigh-refused, weigh-bad, weigh-under, weigh-violator}
+use Rattle.matched.proofs.WeighLaws.{weigh-short, weigh-refused, weigh-bad, weigh-under, weigh-violator, weigh-as-judge}
 
 -- S10, demand 1: a buffer of fewer than 96 bytes gets 1 at 0, whatever the input and the assumptions, and is untouched
 pub short-buffer : (s : List ℕ) (us : List Assumption) (b : List ℕ) → length b < max-clauses
@@ -215,7 +215,12 @@ pub weighed-counts : (s : List ℕ) (us : List Assumption) (b : List ℕ) (n : �
     → weighed s us b ≡ counted-values (length (marked b cs)) (size (named-but (map literal-of us) (marked b cs)))
 weighed-counts s us b n cs l w good = weigh-under s us b l n cs (accepted-all s n cs w) (map literal-of us) (none-bad-literals n us good)
 
--- After judge refused by 10 at the place k, what it left in the buffer weighs k clauses and k - 1 variables.
+-- So it has judge's number and place, whatever these are, but where judge refuses by 10:
+pub weighed-as-judge : (s : List ℕ) (us : List Assumption) (b : List ℕ) → (judge s us b .answer .number ≡ 10 → ⊥)
+    → (weighed s us b .number ≡ judge s us b .answer .number) × (weighed s us b .place ≡ judge s us b .answer .place)
+weighed-as-judge = weigh-as-judge
+
+-- after judge refused by 10 at the place k, what it left in the buffer weighs k clauses and k - 1 variables.
 pub weighed-violator : (s : List ℕ) (us : List Assumption) (b : List ℕ) → judge s us b .answer .number ≡ 10
     → (let k = judge s us b .answer .place in weighed s us (judge s us b .buffer) ≡ counted-values k (k - 1))
 weighed-violator s us b e =

@@ -1,8 +1,9 @@
--- What is weighed, by cases, and that it is what the loops of `weigh_marks` count and gather.
+-- What is weighed, by cases, that it is what the loops of `weigh_marks` count and gather, and what it has of judge.
 use Prim.Native.Nat.{ℕ, _+_, _-_, _≤_, _<_}
 use mathlib.Core.Bool.{true, false, cond}
 use mathlib.Core.List.{List, [], _∷_, _++_, map, append-nil, map-append}
-use mathlib.Core.Path.{_≡_, sym, ap, _∙_}
+use mathlib.Core.Path.{_≡_, refl, sym, ap, _∙_}
+use native.Mathlib.Decide.{decLt}
 use native.Mathlib.Numerals.{add-one}
 use native.Mathlib.Omega.{arith}
 use lib.Bits.{bitOr}
@@ -39,9 +40,13 @@ use Rattle.matching.proofs.SelectedLaws.{selected-more, selected-front, selecte
 use Rattle.splitting.specs.InnerChoose.{assigned, assignment-of}
 use Rattle.splitting.proofs.MaskClauseLaws.{sets-variables}
 use Rattle.splitting.proofs.MaskNodeLaws.{assigned-trail}
+use Rattle.matched.specs.Acceptance.{Acceptance, accepted, declined, acceptance}
+use Rattle.matched.specs.Judge.{Judged, judge}
 use Rattle.matched.specs.Pairing.{marked, named-but, Violator}
 use Rattle.matched.specs.Weigh.{counted-values, unweighed-values, weighed-under, weighed-read, weighed}
 use Rattle.matched.proofs.AcceptLaws.{given-literals, given-bad}
+use Rattle.matched.proofs.AcceptanceLaws.{paired, strips, unpaired, Comes, of-formula, bad-assumed, unreadable, comes}
+use Rattle.matched.proofs.JudgeLaws.{judge-short, judge-accepted, judge-declined}
 
 -- ---- the loops: the element at i as well, of which there is one, and a mark for it
 
@@ -155,3 +160,32 @@ module _ (s : List ℕ) (us : List Assumption) (b : List ℕ) (l : max-clauses �
   weigh-violator v =
       let one : size (named-but t (marked ms cs)) ≡ length (marked ms cs) - 1 = omega (arith, v .fewer) in
       weigh-over (omega (arith, v .one-each)) (omega (arith, v .one-each, accepted-fits s n cs reads .few)) ∙ ap (counted-values (length (marked ms cs))) one
+
+-- ---- beside judge
+
+module _ (s : List ℕ) (us : List Assumption) (b : List ℕ) where
+  -- the same number, or none, and the same place
+  abbrev Alike : Type 0
+  Alike = (weighed s us b .number ≡ judge s us b .answer .number) × (weighed s us b .place ≡ judge s us b .answer .place)
+
+  module _ (l : max-clauses ≤ length b) where
+    alike-declined : (r : Refusal) (row : List ℕ) → acceptance s us ≡ declined r row → weighed s us b ≡ unweighed-values r → Alike
+    alike-declined r row e w = rw (judge-declined s us b l r row e, w) (refl, refl)
+
+    alike-accepted : (n : ℕ) (t : List Literal) (cs : List (List Literal)) (row : List ℕ) → acceptance s us ≡ accepted n t cs row → weighed s us b ≡ weighed-under t cs b → Alike
+    alike-accepted n t cs row e w = rw (judge-accepted s us b l n t cs row e, w) (refl, refl)
+
+    alike-long : {a : Acceptance} → Comes s us a → acceptance s us ≡ a → (judge s us b .answer .number ≡ 10 → ⊥) → Alike
+    alike-long (of-formula n t cs reads assumes (paired vs w)) e ne = alike-accepted n t cs _ e (weigh-under s us b l n cs reads t assumes)
+    alike-long (of-formula n t cs reads assumes (strips vs none w)) e ne = alike-accepted n t cs _ e (weigh-under s us b l n cs reads t assumes)
+    alike-long (of-formula n t cs reads assumes (unpaired ms v none)) e ne = absurd (ne (ap (λ (j : Judged). j .answer .number) (judge-declined s us b l _ ms e)))
+    alike-long (bad-assumed n cs i reads assumes) e ne = alike-declined (BadAssumption i) [] e (weigh-bad s us b l n cs reads i assumes)
+    alike-long (unreadable r reads) e ne = alike-declined r [] e (weigh-refused s us b l r reads)
+
+  -- but where judge says 10
+  pub weigh-as-judge : (judge s us b .answer .number ≡ 10 → ⊥) → Alike
+  weigh-as-judge ne = by (decLt (length b) max-clauses)
+    where
+      by : Dec (length b < max-clauses) → Alike
+      by (yes h) = rw (judge-short s us b h, weigh-short s us b h) (refl, refl)
+      by (no h) = alike-long (omega arith) (comes s us) refl ne
