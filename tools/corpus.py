@@ -547,6 +547,8 @@ NARROW = ''.join(' 03 %02x' % v for v in range(1, 49)) + ' 04'  # the clause tha
 TWICE = '01 01 02 01 04 02 01 04 05'  # the clause (1) twice
 PARTLY = '01 03 02 01 04 02 01 04 02 02 02 03 04 03 02 03 03 04 05'  # clauses (1), (1), (2, 3), (not 2, not 3): 1 drops two
 MARKED = '01 03 02 02 04 02 02 04 02 01 04 03 01 04 05'  # clauses (2), (2), (1), (not 1): 2 drops two, and the others are marked
+ONE_OF_TWO = '01 02 02 01 04 05'  # S20: the clause (1), and variable 2
+THREE_OF_FIVE = '01 03 02 01 02 02 04 03 02 02 03 04 02 02 03 03 04 03 02 03 03 04 02 03 04 05'  # with 1 false the first three are marked
 LOWER = '01 02 02 01 04 02 01 04 02 01 02 02 04 03 02 04 05'  # clauses (1), (1), (1, 2), (not 2): 1 is noted first
 HIGHER = '01 02 02 02 04 02 02 04 02 01 02 02 04 03 01 04 05'  # clauses (2), (2), (1, 2), (not 1): 2 is
 
@@ -707,6 +709,9 @@ JUDGE_ASSUMED = [
     ((MARKED, '03 01'), 96, 0xff, REFUSED, 10, 2, 0, 0, '00 00 01 01'),
     ((MARKED, '02 01'), 96, 0xff, REFUSED, 10, 2, 0, 0, '00 00 01 01'),
     ((MARKED, '01 01'), 96, 0xff, REFUSED, 10, 1, 0, 0, '00 00 00 01'),
+    # the only literal of the only clause is false; and of five clauses the first three are marked, the first of which names 1 beside 2
+    ((ONE_OF_TWO, '01 00'), 96, 0xff, REFUSED, 10, 1, 0, 0, '01'),
+    ((THREE_OF_FIVE, '01 00'), 96, 0xff, REFUSED, 10, 3, 0, 0, '01 01 01 00 00'),
     # the violator leaves out a clause that is satisfied, between those that it has
     (('01 03 02 01 04 02 02 04 03 01 04 05', '02 01'), 96, 0xff, REFUSED, 10, 2, 0, 0, '01 00 01'),
     # all of 48 variables assumed
@@ -723,12 +728,17 @@ JUDGE_ASSUMED = [
 
 # weigh: input, length of the buffer, fill, what the answer says, the refusal's number and place, the variables and the clauses that are
 # counted, and the first bytes of the buffer; all other bytes are the fill
-ONE_OF_TWO = '01 02 02 01 04 05'  # S20: the clause (1), and variable 2
-THREE_OF_FIVE = '01 03 02 01 02 02 04 03 02 02 03 04 02 02 03 03 04 03 02 03 03 04 02 03 04 05'  # with 1 false the first three are marked
 SINGLES = '01 30' + ''.join(' 03 %02x 04' % v for v in range(1, 49)) + ' 05'  # clauses (not 1) .. (not 48)
 MARKS = ['01', '02', '07', '30', '7f', '80', '81', 'b0', 'fe', 'ff']  # bytes that are not 0
 LENGTHS = [96, 97, 200, 255]  # of buffers that are not short
 SHORT = [0, 1, 95]  # of buffers that are
+
+
+def judged(cases):
+    """Cases of weigh from those of judge: what it leaves at 10 with the place k weighs k clauses and k - 1 variables."""
+    return [(given, length, fill, COUNTED, 0, 0, place - 1, place, written)
+            for given, length, fill, _, number, place, _, _, written in cases if number == UNMATCHED_NUMBER]
+
 
 WEIGH_EDGES = [
     # each length of the buffer: a short one is refused before anything is read
@@ -737,15 +747,7 @@ WEIGH_EDGES = [
     *((EXAMPLE, length, 0x01, COUNTED, 0, 0, 2, 2, '01 01') for length in LENGTHS),
     *((EXAMPLE, length, 0x01, COUNTED, 0, 0, 0, 0, '00 00') for length in LENGTHS),
     # the marks that judge leaves: the clauses name one variable fewer than they are; what stands behind them is not counted
-    ('01 01 04 05', 96, 0xff, COUNTED, 0, 0, 0, 1, '01'),
-    ('01 01 02 01 04 04 05', 96, 0xff, COUNTED, 0, 0, 0, 1, '00 01'),
-    (UNMATCHED, 96, 0xff, COUNTED, 0, 0, 1, 2, '01 01'),
-    (MARKED, 96, 0xff, COUNTED, 0, 0, 1, 2, '00 00 01 01'),
-    ('01 02 02 01 04 02 02 04 03 02 04 05', 96, 0xff, COUNTED, 0, 0, 1, 2, '00 01 01'),
-    (SIGNED + ' 03 01 04 02 30 04 05', 96, 0xff, COUNTED, 0, 0, 48, 49, 49 * '01 '),
-    (SIGNED + ' 02 01 04 03 01 04 05', 96, 0xff, COUNTED, 0, 0, 1, 2, 47 * '00 ' + '01 01'),
-    ('01 30' + 48 * WIDE + NARROW + ' 05', 96, 0xff, COUNTED, 0, 0, 48, 49, 49 * '01 '),
-    ('01 01' + 95 * TRUE + ' 03 01 04 05', 97, 0xff, COUNTED, 0, 0, 1, 2, '01 01' + 94 * ' 00'),
+    *judged(JUDGE_EDGES),
     # what it leaves where it accepts: each byte is a mark, also one of 128 plus the variable
     (REMATCHED, 96, 0, COUNTED, 0, 0, 2, 2, '02 01'),
     (TWICE, 96, 0, COUNTED, 0, 0, 1, 2, '81 81'),
@@ -796,14 +798,7 @@ WEIGH_ASSUMED = [
     # bad assumptions: variable 0, above n, assumed before with the same value and with the other; the first one counts
     *((given, 96, 0xff, REFUSED, 16, place, 0, 0, '') for given, place in BAD),
     # the marks that judge leaves: the clauses name, the assumed variables not counted, one variable fewer than they are
-    ((ONE_OF_TWO, '01 00'), 96, 0xff, COUNTED, 0, 0, 0, 1, '01'),
-    ((THREE_OF_FIVE, '01 00'), 96, 0xff, COUNTED, 0, 0, 2, 3, '01 01 01 00 00'),
-    ((MARKED, '03 01'), 96, 0xff, COUNTED, 0, 0, 1, 2, '00 00 01 01'),
-    ((MARKED, '02 01'), 96, 0xff, COUNTED, 0, 0, 1, 2, '00 00 01 01'),
-    ((MARKED, '01 01'), 96, 0xff, COUNTED, 0, 0, 0, 1, '00 00 00 01'),
-    (('01 03 02 01 04 02 02 04 03 01 04 05', '02 01'), 96, 0xff, COUNTED, 0, 0, 1, 2, '01 00 01'),
-    ((SIGNED + ' 03 01 04 05', '30 01'), 96, 0xff, COUNTED, 0, 0, 47, 48, 48 * '01 '),
-    (('01 30' + WIDE + ' 03 30 04 05', ALL_FALSE[:-6]), 96, 0xff, COUNTED, 0, 0, 1, 2, '01 01'),
+    *judged(JUDGE_ASSUMED),
     # the value does not matter, and neither whether it satisfies a marked clause
     *(((ONE_OF_TWO, assumed), 96, 0, COUNTED, 0, 0, count, 1, '01') for assumed, count in (('01 01', 0), ('02 00', 1), ('02 01', 1))),
     *(((EXAMPLE, assumed), 96, 0, COUNTED, 0, 0, 1, 2, '01 01') for assumed in ('01 00', '01 01', '02 00', '02 01')),
@@ -826,7 +821,6 @@ WEIGH_ASSUMED = [
     ((THREE_OF_FIVE, '03 01 01 00 02 01'), 96, 0, COUNTED, 0, 0, 0, 5, '01 01 01 01 01'),
     # all of 48 variables assumed, all but one, and one
     ((SINGLES, ALL_TRUE), 96, 0, COUNTED, 0, 0, 0, 48, 48 * '01 '),
-    ((TWO_WIDE, ALL_FALSE), 96, 0xff, COUNTED, 0, 0, 0, 1, '01 00'),
     ((TWO_WIDE, ALL_FALSE[:-6]), 96, 0xff, COUNTED, 0, 0, 1, 2, '01 01'),
     ((SINGLES, ALL_TRUE[6:]), 96, 0, COUNTED, 0, 0, 1, 48, 48 * 'ff '),
     ((SINGLES, '30 01'), 96, 0, COUNTED, 0, 0, 47, 48, 48 * '01 '),

@@ -478,7 +478,7 @@ pub fn print_comparison() {
     table.extend(rows.iter().map(Row::cells));
     print_table(&table);
     println!();
-    println!("- all three have listed the same models and given the same pages, walk calls, matchings, weights and texts");
+    println!("- all three have listed the same models and given the same pages, walk calls and matchings; the proved one and the plain one have checked, weighed and converted alike");
     println!("- best of {ROUNDS} rounds after a warm-up, {FEWEST_ROUNDS} for the longest acts; a time is the geometric mean over a family's formulas");
     println!("- buffers were not cleared between calls; waits for a core are taken off");
     print_verdict(&rows);

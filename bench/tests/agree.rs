@@ -1,4 +1,4 @@
-//! The tuned baseline and the plain reference agree: on lists, on pages, on walks with their counts, on judge, and on weigh.
+//! The tuned baseline and the plain reference agree: on lists, on pages, on walks with their counts, and on judge.
 
 use norwythai_bench::families::{fullest_input, unmatched, unmatched_half_assumed, Case, FAMILIES};
 use norwythai_bench::listers::{Assumptions, Bytes, Lister, Plain, Refused, Tuned};
@@ -173,13 +173,11 @@ fn on_unmatched_formulas() {
     }
 }
 
-/// Both mark the same clauses, which name one variable fewer than they are.
+/// Both mark the same clauses, which name one variable fewer than they are, as the plain one counts them: the tuned one has no other weigh.
 fn require_violator(input: &[u8], assumptions: &Assumptions) {
     let (judged, buffer) = same_judge(input, assumptions);
     let marked = buffer.iter().filter(|byte| **byte == 1).count();
     assert_eq!(judged, Err((10, marked)));
-    for lister in [&Plain as &dyn Lister, &Tuned] {
-        let weight = lister.weigh(input, assumptions, &buffer);
-        assert_eq!(weight, Ok((marked, marked - 1)));
-    }
+    let weight = Plain.weigh(input, assumptions, &buffer);
+    assert_eq!(weight, Ok((marked, marked - 1)));
 }

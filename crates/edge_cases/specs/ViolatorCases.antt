@@ -31,8 +31,8 @@ three-of-five =
     1 ∷ 3 ∷ 2 ∷ 1 ∷ 2 ∷ 2 ∷ 4 ∷ 3 ∷ 2 ∷ 2 ∷ 3 ∷ 4 ∷ 2 ∷ 2 ∷ 3 ∷ 3 ∷ 4 ∷ 3 ∷ 2 ∷ 3 ∷ 3 ∷ 4 ∷ 2 ∷ 3 ∷ 4 ∷ 5 ∷ []
 
 -- 2 variables, and no more bytes; and assumptions of which the second is bad for 2 variables
-abbrev pub cut-short : List ℕ
-cut-short = 1 ∷ 2 ∷ []
+abbrev pub truncated-input : List ℕ
+truncated-input = 1 ∷ 2 ∷ []
 
 abbrev pub bad-second : List Assumption
 bad-second = assume-on 2 ∷ assume-on 3 ∷ []
@@ -55,6 +55,6 @@ pub record ViolatorCases : Type 0 where
   pub other-bytes : Weighs left-over (7 ∷ 0 ∷ 128 ∷ 255 ∷ []) 3 2
   pub no-marks : Weighs example (0 ∷ 0 ∷ []) 0 0
   -- the refusals in their order: 1; of an input that is cut 2 at its length; and of a whole one 16 at the second assumption
-  pub short-first : (b : List ℕ) → length b < max-clauses → weighed cut-short bad-second b ≡ unweighed-values (ShortBuffer 0)
-  pub reading-second : (b : List ℕ) → max-clauses ≤ length b → weighed cut-short bad-second b ≡ unweighed-values (Truncated 2)
+  pub short-first : (b : List ℕ) → length b < max-clauses → weighed truncated-input bad-second b ≡ unweighed-values (ShortBuffer 0)
+  pub reading-second : (b : List ℕ) → max-clauses ≤ length b → weighed truncated-input bad-second b ≡ unweighed-values (Truncated 2)
   pub assumption-third : (b : List ℕ) → max-clauses ≤ length b → weighed example bad-second b ≡ unweighed-values (BadAssumption 1)

@@ -31,7 +31,7 @@ use Rattle.splitting.proofs.Theorems.{noted-pure, still-there}
 use Rattle.matched.specs.Acceptance.{accepted, by, dropped-by, whole-byte, stripped-byte, spread, acceptance}
 use Rattle.matched.specs.Judge.{Judged, accepted-values, refused-values, judgement-of, judge}
 use Rattle.matched.specs.Pairing.{Pairs, PairsUnder, noted-of, left-of, Pairable, Walkable, PairsStripped, PairsBut, marked, named-but, Violator}
-use Rattle.matched.specs.Weigh.{counted-values, unweighed-values, weighed}
+use Rattle.matched.specs.Weigh.{WeighedValues, counted-values, unweighed-values, weighed}
 use Rattle.matched.specs.WithoutAssumptions.{plain-acceptance}
 use Rattle.matched.specs.WithoutStripping.{whole-acceptance}
 use Rattle.matched.proofs.AcceptanceLaws.{whole-accepted, stripped-accepted, unpaired-declined, accepted-walkable, walkable-accepted, pairable-walkable, bad-declined, unreadable-declined}
@@ -215,12 +215,19 @@ pub weighed-counts : (s : List ℕ) (us : List Assumption) (b : List ℕ) (n : �
     → weighed s us b ≡ counted-values (length (marked b cs)) (size (named-but (map literal-of us) (marked b cs)))
 weighed-counts s us b n cs l w good = weigh-under s us b l n cs (accepted-all s n cs w) (map literal-of us) (none-bad-literals n us good)
 
--- So it has judge's number and place, whatever these are, but where judge refuses by 10:
+-- So it has judge's number and place, whatever these are, but where judge refuses by 10;
 pub weighed-as-judge : (s : List ℕ) (us : List Assumption) (b : List ℕ) → (judge s us b .answer .number ≡ 10 → ⊥)
     → (weighed s us b .number ≡ judge s us b .answer .number) × (weighed s us b .place ≡ judge s us b .answer .place)
 weighed-as-judge = weigh-as-judge
 
--- after judge refused by 10 at the place k, what it left in the buffer weighs k clauses and k - 1 variables.
+-- there it refuses nothing,
+pub weighed-anyway : (s : List ℕ) (us : List Assumption) (b : List ℕ) → judge s us b .answer .number ≡ 10 → weighed s us b .number ≡ 0
+weighed-anyway s us b e =
+    let long = unmatched-long s us b e in
+    let w = judged-unmatched s us b long e in
+    ap (λ (v : WeighedValues). v .number) (weighed-counts s us b (w .0) (w .1) long (w .2) (w .3))
+
+-- and what judge then left in the buffer, with the place k, weighs k clauses and k - 1 variables.
 pub weighed-violator : (s : List ℕ) (us : List Assumption) (b : List ℕ) → judge s us b .answer .number ≡ 10
     → (let k = judge s us b .answer .place in weighed s us (judge s us b .buffer) ≡ counted-values k (k - 1))
 weighed-violator s us b e =

@@ -13,8 +13,8 @@
 //! Whatever the bytes are, an act answers: with a [`Refusal`], if it has to.
 //!
 //! Where a formula is not accepted, judge says which clauses stand in the way. Such a [`Violator`] names exactly one variable fewer than it
-//! has clauses, and without any single one of these the others can be matched. [`weigh`] counts any marked clauses and the variables that
-//! they name.
+//! has clauses, assumed ones not counted, and without any single one of these the others can be matched. [`weigh`] counts any marked
+//! clauses and the variables that they name.
 //!
 //! Clubs call these things sheets (formulas), rules (clauses), switches (variables), set-ups (assignments), fixed settings
 //! (assumptions) and markers (checkpoints); the sentences of refusals do, too.

@@ -24,8 +24,8 @@ pub struct Violator {
 }
 
 impl Violator {
-    /// The numbers of the rules.
-    fn rules(&self) -> String {
+    /// The clauses as clubs name them: rules, by their numbers.
+    fn numbered(&self) -> String {
         let numbers: Vec<String> = self.clauses.iter().map(|i| (i + 1).to_string()).collect();
         let word = if numbers.len() == 1 { "rule" } else { "rules" };
         format!("{word} {}", numbers.join(", "))
@@ -39,15 +39,15 @@ impl fmt::Display for Violator {
         } else {
             "name"
         };
-        let switches = match self.variables {
+        let variables = match self.variables {
             0 => "no switch".to_string(),
             1 => "1 switch".to_string(),
-            variables => format!("{variables} switches"),
+            count => format!("{count} switches"),
         };
         write!(
             f,
-            "{} {word} {switches}, fixed ones not counted",
-            self.rules()
+            "{} {word} {variables}, fixed ones not counted",
+            self.numbered()
         )
     }
 }
@@ -81,7 +81,7 @@ impl fmt::Display for JudgeError {
     fn fmt(&self, f: &mut fmt::Formatter) -> fmt::Result {
         write!(f, "{}", self.refusal())?;
         if let JudgeError::Unmatched { violator } = self {
-            write!(f, " ({})", violator.rules())?;
+            write!(f, " ({})", violator.numbered())?;
         }
         Ok(())
     }
