@@ -11,9 +11,9 @@ use lib.Seq.{length-take-le, take-add, getD-take, getD-drop}
 use borrow.Author.Tests.{eq-eqb, ne-eqb, eqb-false, not-true, leb-true, le-leb, lt-leb}
 use Rattle.limits.specs.Limits.{max-variables}
 use Rattle.lists.proofs.TestLaws.{and-left, and-right}
-use Rattle.walk.specs.Checkpoints.{Checkpoint}
+use Rattle.walk.specs.Checkpoints.{Checkpoint, byte-number}
 use Rattle.walk.specs.InnerStack.{empty, Tree}
-use Rattle.walk.specs.InnerTest.{byte-number, pushed, numbered, zeros, formed, replays}
+use Rattle.walk.specs.InnerTest.{pushed, numbered, zeros, formed, replays}
 use Rattle.walk.proofs.ReplayLaws.{replays-fails}
 use Rattle.walk.proofs.ByteLaws.{pushed-append}
 

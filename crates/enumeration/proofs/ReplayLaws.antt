@@ -13,8 +13,9 @@ use Rattle.formula.specs.declared.Formula.{Formula}
 use Rattle.splitting.specs.declared.Choice.{Choice}
 use Rattle.splitting.specs.InnerChoose.{mask-choice}
 use Rattle.splitting.specs.Terms.{opened}
+use Rattle.walk.specs.Checkpoints.{byte-number, byte-value}
 use Rattle.walk.specs.InnerStack.{Stack, empty, push, depth, Tree}
-use Rattle.walk.specs.InnerTest.{byte-number, byte-value, pushed, replays}
+use Rattle.walk.specs.InnerTest.{pushed, replays}
 use Rattle.walk.proofs.ReplayLaws.{read-next}
 use Rattle.enumeration.specs.declared.scope.Scope.{Scope}
 use Rattle.enumeration.specs.declared.state.State.{State}

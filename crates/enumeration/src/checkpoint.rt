@@ -3,8 +3,8 @@ ghost use mathlib.Core.Path.{_≡_};
 ghost use Prim.Native.Nat.{_<_, _≤_};
 ghost use lib.ListN.{length, take, drop};
 ghost use Rattle.limits.specs.Limits.{max-variables};
-ghost use Rattle.walk.specs.Checkpoints.{byte, start};
-ghost use Rattle.walk.specs.InnerTest.{byte-number, numbered, zeros};
+ghost use Rattle.walk.specs.Checkpoints.{byte, byte-number, start};
+ghost use Rattle.walk.specs.InnerTest.{numbered, zeros};
 ghost use Rattle.enumeration.specs.Values.{checkpoint-values};
 ghost use Rattle.enumeration.specs.InnerRead.{FormTested};
 

@@ -28,7 +28,7 @@ use Rattle.walk.specs.Results.{says-model, says-ended, says-refused, Result}
 use Rattle.walk.specs.Gaps.{ample-budget}
 use Rattle.walk.specs.WalkCall.{walk-call, walk-calls}
 use Rattle.walk.specs.InnerLocate.{task-call}
-use Rattle.walk.proofs.TaskLaws.{answer-unrefused}
+use Rattle.walk.proofs.TaskLaws.{answer-unrefused, start-has}
 use Rattle.walk.proofs.Demands as walk
 use Rattle.walk.proofs.Demands.{from-end}
 use Rattle.page.specs.PageLines.{page-lines, line-size, page-size, page-line, blank-line}
@@ -183,7 +183,7 @@ module _ (s : List ℕ) (us : List Assumption) (n : ℕ) (cs : List (List Litera
     all-results = next-results s us start (page-lines * length buffers)
 
     begins : follow.Begins s us task posed walks start first (length buffers)
-    begins = record { has = nexts.start-has s us task posed walks; some = some; most = λ j l. omega arith }
+    begins = record { has = start-has s us task posed walks; some = some; most = λ j l. omega arith }
 
     -- these bring the first models of the listing, 50 for each page, or all of it if it has fewer
     pub pages-models : map (λ r. r .model) all-results ≡ take (page-lines * length buffers) (listing task)
@@ -263,7 +263,7 @@ module _ (s : List ℕ) (us : List Assumption) (n : ℕ) (cs : List (List Litera
 
       pub pages-onward : 0 < other → other ≤ max-serial
           → (let c = next-checkpoint s us start (page-lines * length buffers) in page-call s us c other b ≡ filling-page s us c other b)
-      pages-onward = page-filled _ (page-has start (nexts.start-has s us task posed walks) (page-lines * length buffers)) other b lent
+      pages-onward = page-filled _ (page-has start (start-has s us task posed walks) (page-lines * length buffers)) other b lent
 
     -- If the listing has fewer models than the pages have lines, every model is on a line, and some page has fewer than 50.
     pub pages-all : length (listing task) < page-lines * length buffers → map (λ r. r .model) all-results ≡ listing task

@@ -17,7 +17,7 @@ use Rattle.walk.specs.Gaps.{brings, ample-budget}
 use Rattle.walk.specs.Results.{AnswerKind, says-model, says-ended, says-refused, Result}
 use Rattle.walk.specs.WalkCall.{walk-call, walk-calls, last-checkpoint}
 use Rattle.walk.specs.InnerLocate.{task-call}
-use Rattle.walk.proofs.TaskLaws.{Onward, call-onward, last-plain, calls-ample, call-over}
+use Rattle.walk.proofs.TaskLaws.{Onward, has-onward, start-has, last-plain, calls-ample, call-over}
 use Rattle.page.specs.Pages.{ample-budgets, with-models, next-results, next-checkpoint}
 use Rattle.page.proofs.NextLaws.{next-append, next-by}
 
@@ -48,9 +48,7 @@ module _ (s : List ℕ) (us : List Assumption) (T : Task) (P : Posed T) (walks :
   -- one call from a checkpoint that the walk has
   one-onward : (c : Checkpoint) (w : Has T c)
       → Onward s us T P walks (state-after T 0 (w .0)) (state-after T 0 (w .0 ++ (ample-budget ∷ []))) (walk-call s us c ample-budget)
-  one-onward c w =
-      subst (λ (d : Checkpoint). Onward s us T P walks (state-after T 0 (w .0)) (state-after T 0 (w .0 ++ (ample-budget ∷ []))) (walk-call s us d ample-budget)) (w .1)
-      (call-onward s us T P walks (w .0) ample-budget)
+  one-onward c w = has-onward s us T P walks c w ample-budget
 
   -- it says model or ended
   one-answers : (c : Checkpoint) → Has T c → ModelOrEnded (walk-call s us c ample-budget)
@@ -148,14 +146,10 @@ module _ (s : List ℕ) (us : List Assumption) (T : Task) (P : Posed T) (walks :
       at i (inl e) = model-first k c w e i
       at i (inr e) = ended-first k c w e i
 
-  -- the walk has the start checkpoint, and from there come the first models of the listing
-  pub start-has : Has T start
-  unfolding last-checkpoint
-  start-has = ([], sym (last-plain s us T P walks []))
-
+  -- from the start checkpoint come the first models of the listing
   pub start-models : (k : ℕ) → map (λ r. r .model) (next-results s us start k) ≡ take k (listing T)
   unfolding listing state-after last-checkpoint
-  start-models k = nexts k start ([], sym (last-plain s us T P walks [])) .models
+  start-models k = nexts k start (start-has s us T P walks) .models
 
   module _ (c : Checkpoint) (w : Has T c) where
     -- k models come,

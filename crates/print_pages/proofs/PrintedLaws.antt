@@ -27,7 +27,7 @@ use Rattle.page.specs.Pages.{next-results, next-checkpoint, line-at, joined, Pa
 use Rattle.page.proofs.JoinedLaws.{joined-sixty}
 use Rattle.page.proofs.LineAtLaws.{line-length}
 use Rattle.page.proofs.NextLaws.{next-steps}
-use Rattle.page.proofs.NextModelLaws.{nexts, one-unrefused, start-has, start-models, next-take, next-drop}
+use Rattle.page.proofs.NextModelLaws.{nexts, one-unrefused, start-models, next-take, next-drop}
 use Rattle.page.proofs.PageCallLaws.{walk-refused, unrefused-filled, lent-whole}
 use Rattle.printing.specs.Printed.{refused-line, refusal-line}
 use Rattle.printing.specs.Printing.{max-input}

@@ -42,27 +42,27 @@ use Rattle.printing.proofs.LineLaws.{header-length, model-line-length, 
 -- m variables to assign of at most 48, at most B expansions for one assignment
 module _ (T : Task) (m B : ℕ) (few : T .variables ≤ max-variables) (fewer : m ≤ max-variables) (cheap : m * B < 10 ^ 7) where
   -- the walk calls from k entries behind, j of them on a line's budget
-  abbrev from : ℕ → ℕ → List ℕ → Type 0
+  abbrev from : ℕ → ℕ → List Literal → Type 0
   from j k x = PacedLater m B x (gaps (map (plain-result T) (plain-calls T k (replicate j ample-budget))))
 
   -- after a model
-  later-short : (j k : ℕ) (x : List ℕ) → from j k x → length (walk-lines T j k) ≤ max-model-line * j + length more-line
+  later-short : (j k : ℕ) (x : List Literal) → from j k x → length (walk-lines T j k) ≤ max-model-line * j + length more-line
   unfolding walk-lines plain-calls gaps-from
   later-short zero k x p = omega arith
   later-short (suc j) k x p =
       let c = plain-call T ample-budget k in
       go (c .answer) (c .steps) (c .expansions) (c .behind) _ p (later-short j (c .behind))
     where
-      go : (a : Answer) (s e b : ℕ) (bytes : List ℕ)
-          → PacedLater m B x (gap-after (answer-kind a) (0 + s) (0 + e) bytes (λ c′ e′. gaps-from c′ e′ (map (plain-result T) (plain-calls T b (replicate j ample-budget)))))
-          → ((y : List ℕ) → from j b y → length (walk-lines T j b) ≤ max-model-line * j + length more-line)
+      go : (a : Answer) (s e b : ℕ) (y : List Literal)
+          → PacedLater m B x (gap-after (answer-kind a) (0 + s) (0 + e) y (λ c′ e′. gaps-from c′ e′ (map (plain-result T) (plain-calls T b (replicate j ample-budget)))))
+          → ((z : List Literal) → from j b z → length (walk-lines T j b) ≤ max-model-line * j + length more-line)
           → length (call-lines (T .variables) a s e (walk-lines T j b)) ≤ max-model-line * suc j + length more-line
-      go (found a) s e b bytes p ih =
-          let i = ih bytes (p .3) in
+      go (found a) s e b y p ih =
+          let i = ih y (p .3) in
           let l = model-line-length (T .variables) a s e few (omega (arith, p .1)) (omega (arith, p .2)) in
           rw (length-append (model-line (T .variables) a s e) (walk-lines T j b)) (omega arith)
-      go spent s e b bytes p ih = omega arith
-      go ended s e b bytes p ih = let l = end-line-length s e (omega (arith, p .0)) (omega (arith, p .1)) in omega arith
+      go spent s e b y p ih = omega arith
+      go ended s e b y p ih = let l = end-line-length s e (omega (arith, p .0)) (omega (arith, p .1)) in omega arith
 
   -- from the start
   first-short : (j k : ℕ) → Paced m B (gaps (map (plain-result T) (plain-calls T k (replicate j ample-budget)))) → length (walk-lines T j k) ≤ max-model-line * j + length more-line
@@ -72,15 +72,15 @@ module _ (T : Task) (m B : ℕ) (few : T .variables ≤ max-variables) (fewer : 
       let c = plain-call T ample-budget k in
       go (c .answer) (c .steps) (c .expansions) (c .behind) _ p
     where
-      go : (a : Answer) (s e b : ℕ) (bytes : List ℕ)
-          → Paced m B (gap-after (answer-kind a) (0 + s) (0 + e) bytes (λ c′ e′. gaps-from c′ e′ (map (plain-result T) (plain-calls T b (replicate j ample-budget)))))
+      go : (a : Answer) (s e b : ℕ) (y : List Literal)
+          → Paced m B (gap-after (answer-kind a) (0 + s) (0 + e) y (λ c′ e′. gaps-from c′ e′ (map (plain-result T) (plain-calls T b (replicate j ample-budget)))))
           → length (call-lines (T .variables) a s e (walk-lines T j b)) ≤ max-model-line * suc j + length more-line
-      go (found a) s e b bytes p =
-          let i = later-short j b bytes (p .2) in
+      go (found a) s e b y p =
+          let i = later-short j b y (p .2) in
           let l = model-line-length (T .variables) a s e few (omega (arith, p .0)) (omega (arith, p .1)) in
           rw (length-append (model-line (T .variables) a s e) (walk-lines T j b)) (omega arith)
-      go spent s e b bytes p = omega arith
-      go ended s e b bytes p = absurd p
+      go spent s e b y p = omega arith
+      go ended s e b y p = absurd p
 
 -- ---- the whole
 

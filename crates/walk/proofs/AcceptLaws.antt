@@ -3,13 +3,13 @@
 use Prim.Native.Nat.{ℕ, _≤_}
 use mathlib.Core.Bool.{true, false}
 use mathlib.Core.List.{map}
-use mathlib.Core.Path.{_≡_, refl, ap, ap₂, _∙_, subst}
+use mathlib.Core.Path.{_≡_, refl, sym, ap, ap₂, _∙_, subst}
 use native.Mathlib.Omega.{arith}
 use lib.ListN.{length, length-map}
 use Rattle.limits.specs.Limits.{max-variables}
 use Rattle.lists.proofs.PaddedLaws.{length-padded}
 use Rattle.lists.proofs.TestLaws.{and-left, and-right, and-both}
-use Rattle.walk.specs.Checkpoints.{byte, Checkpoint, checkpoint-of}
+use Rattle.walk.specs.Checkpoints.{byte, Checkpoint, trail-in, checkpoint-of}
 use Rattle.walk.specs.InnerStack.{Stack, empty, push, trail-of, Tree}
 use Rattle.walk.specs.InnerMachine.{Position, down, full, back, over, resume}
 use Rattle.walk.specs.InnerTest.{mode-of, stack-of, shown, read, position-of, formed, fits, accepts}
@@ -17,7 +17,7 @@ use Rattle.walk.specs.InnerCall.{resumed-result, call-from}
 use Rattle.walk.proofs.RestLaws.{Stops, Replayed, replayed-depth, Reachable, Live}
 use Rattle.walk.proofs.PositionLaws.{position-back, length-trail}
 use Rattle.walk.proofs.TestLaws.{fits-stop, stop-fits}
-use Rattle.walk.proofs.ByteLaws.{Below, read-written, written-formed, formed-written, formed-mode}
+use Rattle.walk.proofs.ByteLaws.{Below, read-trail, read-written, written-formed, formed-written, formed-mode}
 
 -- a position's mode is 0 to 4
 pub mode-le : (p : Position) → mode-of p ≤ 4
@@ -53,6 +53,10 @@ module _ (K : Tree) (L : Live K) (small : K .size ≤ max-variables) (low : (t :
 
   shown-read : (p : Position) → Reachable K p → read (shown p) ≡ stack-of p
   shown-read p o = read-written (mode-of p) (stack-of p) (low (stack-of p) (stack-replayed K p o))
+
+  -- the trail in the checkpoint of a position is the position's
+  pub shown-trail : (p : Position) → Reachable K p → trail-in (shown p) ≡ trail-of (stack-of p)
+  shown-trail p o = sym (read-trail (shown p)) ∙ ap trail-of (shown-read p o)
 
   -- where a call can stop, the checkpoint passes the test
   pub shown-accepted : (p : Position) → Reachable K p → Stops K p → accepts K (shown p) ≡ true

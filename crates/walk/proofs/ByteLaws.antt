@@ -11,9 +11,9 @@ use Rattle.limits.specs.Limits.{max-variables}
 use Rattle.lists.specs.Padded.{padded}
 use Rattle.lists.proofs.PaddedLaws.{take-padded, drop-padded}
 use Rattle.lists.proofs.TestLaws.{and-left, and-right, and-both}
-use Rattle.walk.specs.Checkpoints.{Checkpoint, byte, checkpoint-of}
+use Rattle.walk.specs.Checkpoints.{Checkpoint, byte, byte-number, byte-value, byte-literal, trail-in, checkpoint-of}
 use Rattle.walk.specs.InnerStack.{Stack, empty, push, depth, trail-of}
-use Rattle.walk.specs.InnerTest.{byte-number, byte-value, pushed, read, numbered, zeros, formed}
+use Rattle.walk.specs.InnerTest.{pushed, read, numbered, zeros, formed}
 use Rattle.walk.proofs.PositionLaws.{length-trail}
 
 -- every variable of the trail is below n
@@ -26,6 +26,16 @@ pub pushed-append : (xs ys : List ℕ) (t : Stack) → pushed t (xs ++ ys) ≡ p
 unfolding pushed
 pushed-append [] ys t = refl
 pushed-append (x ∷ xs) ys t = pushed-append xs ys (push (byte-number x - 1) (byte-value x) t)
+
+pushed-trail : (xs : List ℕ) (t : Stack) → trail-of (pushed t xs) ≡ trail-of t ++ map byte-literal xs
+unfolding pushed trail-of
+pushed-trail [] t = sym (append-nil (trail-of t))
+pushed-trail (x ∷ xs) t = pushed-trail xs (push (byte-number x - 1) (byte-value x) t) ∙ append-assoc (trail-of t) (byte-literal x ∷ []) (map byte-literal xs)
+
+-- what is read as a stack is the trail in the checkpoint
+pub read-trail : (c : Checkpoint) → trail-of (read c) ≡ trail-in c
+unfolding trail-in trail-of
+read-trail c = pushed-trail (take (c .length) (c .bytes)) empty
 
 -- a byte's variable and value
 pub byte-back : (v : ℕ) (b : Bool) (t : Stack) → v < max-variables → push (byte-number (byte (record { variable = v; positive = b })) - 1) (byte-value (byte (record { variable = v; positive = b }))) t ≡ push v b t

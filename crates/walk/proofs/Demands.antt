@@ -1,8 +1,8 @@
 -- S10, demand 3, as one record about any list of walk calls; then what demands 1 and 2 ask of the walk.
-use Prim.Native.Nat.{ℕ, suc, _*_, _-_, _≤_, _<_}
+use Prim.Native.Nat.{ℕ, suc, _+_, _*_, _-_, _≤_, _<_}
 use mathlib.Core.Bool.{Bool, true, false}
 use mathlib.Core.List.{List, [], _∷_, _++_, map, List·Memᴰ}
-use mathlib.Core.Logic.{_⊎_, _↔_}
+use mathlib.Core.Logic.{_⊎_, inl, inr, ⊎-elim, _↔_}
 use mathlib.Core.Path.{_≡_, sym, ap, _∙_}
 use native.Mathlib.Omega.{arith}
 use lib.ListN.{length, length-map, replicate}
@@ -30,15 +30,17 @@ use Rattle.matched.proofs.AcceptanceLaws.{left-accepted}
 use Rattle.splitting.specs.Terms.{Agrees, opened}
 use Rattle.walk.specs.Task.{Task, whole, under, to-assign, choice-at, ModelFor, Posed}
 use Rattle.walk.specs.Plain.{assigns, assignment, plain-walk, listing}
-use Rattle.walk.specs.Checkpoints.{Checkpoint, checkpoint-of, start, behind}
+use Rattle.walk.specs.Checkpoints.{Checkpoint, trail-in, checkpoint-of, start, behind}
 use Rattle.walk.specs.PlainMachine.{found, spent, ended, plain-call, plain-calls, state-after, Has}
 use Rattle.walk.specs.WalkCall.{call-on, walk-call, walk-calls, last-checkpoint}
 use Rattle.walk.specs.WithoutAssumptions.{plain-call-on}
 use Rattle.walk.specs.InnerLocate.{task-call}
 use Rattle.walk.specs.Results.{says-model, says-spent, says-ended, says-refused, Result, answered, refusing, plain-result}
-use Rattle.walk.specs.Gaps.{brought, SaysEnded, gaps, Paced, step-bound, ample-budget}
+use Rattle.walk.specs.Gaps.{brought, SaysEnded, Gap, to-model, so-far, gaps, gap-trails, TrailOf, shared, Longest, Parting, step-bound, ample-budget, PacedLater, Paced}
 use Rattle.walk.specs.Proper.{Proper}
+use Rattle.walk.proofs.SharedLaws as shares
 use Rattle.walk.proofs.TaskLaws as laws
+use Rattle.walk.proofs.WaitLaws as waits
 use Rattle.walk.proofs.NothingLeftLaws as lefts
 use Rattle.walk.proofs.UnderLaws as unders
 use Rattle.walk.proofs.RefusalLaws as refusals
@@ -60,8 +62,9 @@ pub record Dealt (s : List ℕ) (us : List Assumption) (T : Task) (bs : List ℕ
   pub once : Distinct (listing T)
   -- behind every number of entries, some model agrees with the trail
   pub standing : (k : ℕ) → (a : ℕ) × ModelFor T a × Agrees (bit a) (behind T k .trail)
-  -- S9.5: the waits: n steps to the first model, at most 2 × n to each further one, n from the last to the end; n × n × m × (m + 1)
-  -- expansions at most in each. The exact numbers of steps are in Paced.
+  -- S9.5, S21.2: the waits, exactly: n steps to the first model; to each further one twice the variables that are assigned after the longest
+  -- beginning that its trail shares with that of the model before, so at most 2 × n; n from the last to the end. n × n × m × (m + 1)
+  -- expansions at most in each.
   pub paced : Paced (to-assign T) (step-bound T) (gaps (walk-calls s us start bs))
   -- S6.7: an assignment makes at most n × m × (m + 1) expansions
   pub cheap : (l : Literal) (e : ℕ) → List·Memᴰ (assigns l e) (plain-walk T) → e ≤ step-bound T
@@ -96,6 +99,10 @@ module _ (s : List ℕ) (us : List Assumption) (T : Task) (P : Posed T) (walks :
     cheap = laws.assignment-cheap s us T P walks;
     ample = laws.calls-ample s us T P walks bs;
   }
+
+-- S21.1: what two trails share is the longest beginning of both, told without recursion
+pub shared-longest : (x y : List Literal) → Longest x y (shared x y)
+shared-longest = shares.shared-longest
 
 -- S5.6, S17.2, S18.1: an accepted formula: the input encodes n and cs, none of the assumptions is bad, and vs is a matching of what
 -- stripping leaves of what remains of the clauses.
@@ -133,6 +140,54 @@ module _ (s : List ℕ) (us : List Assumption) (n : ℕ) (cs : List (List Litera
   -- and a gap at most s times as many.
   pub paced-sharper : (bs : List ℕ) → Paced (to-assign task) (to-assign task * (n * suc n)) (gaps (walk-calls s us start bs))
   paced-sharper = laws.calls-paced-sound s us task posed walks
+
+  -- ---- S21: the waits, which `paced` has as one statement about the whole list of calls
+
+  -- S21.1: the trail of every model that calls bring, from the start or from any other checkpoint that the walk has, is that in the
+  -- checkpoint which comes back with it;
+  pub model-trails : (bs : List ℕ) (c : Checkpoint) → Has task c → Every (λ r. r .kind ≡ says-model → (x : List Literal) × TrailOf task r x) (walk-calls s us c bs)
+  model-trails = waits.calls-trails s us task posed walks
+
+  -- and the trails in the gaps are those of the models that are brought, in order. So neighbours there are neighbours of the listing.
+  pub gap-models : (bs : List ℕ) → map (λ x. assignment (map literal-of us ++ x)) (gap-trails (gaps (walk-calls s us start bs))) ≡ brought (walk-calls s us start bs)
+  gap-models bs = waits.trails-brought s us task posed walks bs start (laws.start-has s us task posed walks) 0 0
+
+  -- S21.2: two neighbours, d steps between them: the later trail has a variable as true where the earlier has it as false, at the place where
+  -- they part. So some variable is assigned behind it, and the wait is even and at least 2.
+  pub neighbours : (bs : List ℕ) (gs hs : List Gap) (c e d f : ℕ) (x y : List Literal) → gaps (walk-calls s us start bs) ≡ gs ++ (to-model c e x ∷ to-model d f y ∷ hs)
+      → (d ≡ 2 * (length y - shared x y)) × Parting x y × (0 < length y - shared x y) × (2 ≤ d)
+  neighbours bs gs hs c e d f x y h =
+      let w = waits.neighbours s us task posed walks bs gs hs c e d f x y h in
+      let z = waits.parting-some x y (w .1) in
+      (w .0, w .1, z, omega (arith, w .0))
+
+  -- S21.3: counting down. A list of calls has brought a model with the trail x and stops c steps behind it, before another. Then a call of
+  -- budget 96 or more brings the next model, and with its steps the wait is that between the two; or the end, after n steps in all.
+  pub countdown : (bs : List ℕ) (gs : List Gap) (c e d f : ℕ) (x : List Literal) → gaps (walk-calls s us start bs) ≡ gs ++ (to-model d f x ∷ so-far c e ∷ [])
+      → (b : ℕ) → ample-budget ≤ b
+      → (let r = walk-call s us (last-checkpoint s us start bs) b in
+      let y = trail-in (r .checkpoint) in
+      ((r .kind ≡ says-model) × (c + r .steps ≡ 2 * (length y - shared x y))) ⊎ ((r .kind ≡ says-ended) × (c + r .steps ≡ to-assign task)))
+  countdown bs gs c e d f x h b l =
+      ⊎-elim (λ w. inl (w .0, w .1 .0)) (λ w. inr w) (waits.countdown s us task posed walks bs gs c e d f x h b l)
+
+  -- A list that stops c steps behind the start, before any model: such a call brings the first, after n steps in all.
+  pub countdown-first : (bs : List ℕ) (c e : ℕ) → gaps (walk-calls s us start bs) ≡ so-far c e ∷ [] → (b : ℕ) → ample-budget ≤ b
+      → (let r = walk-call s us (last-checkpoint s us start bs) b in (r .kind ≡ says-model) × (c + r .steps ≡ to-assign task))
+  countdown-first = waits.countdown-first s us task posed walks
+
+  -- And a list that stops behind the last model, before the end, has made at most n steps since.
+  pub after-last : (bs : List ℕ) (gs : List Gap) (c e d f : ℕ) (x : List Literal) → gaps (walk-calls s us start bs) ≡ gs ++ (to-model d f x ∷ so-far c e ∷ [])
+      → brought (walk-calls s us start bs) ≡ listing task → c ≤ to-assign task
+  after-last = waits.after-last s us task posed walks
+
+  -- S21.2: the same waits for calls that begin at the checkpoint of a model, mode 1 with every variable to assign in its trail, whoever
+  -- hands it in.
+  pub paced-after : (c : Checkpoint) → Has task c → c .mode ≡ 1 → c .length ≡ to-assign task
+      → (bs : List ℕ) → PacedLater (to-assign task) (step-bound task) (trail-in c) (gaps (walk-calls s us c bs))
+  paced-after = laws.model-paced s us task posed walks
+
+  -- ----
 
   -- S10, demands 2 and 3: the listing has the models of the formula that keep the assumptions and no others: `exact`, over the formula
   -- itself

@@ -6,6 +6,7 @@ pub mod AgreeLaws
 pub mod ListingLaws
 pub mod LoopLaws
 pub mod CallLaws
+pub mod SharedLaws
 pub mod PartingLaws
 pub mod CostLaws
 pub mod PaceLaws
@@ -18,6 +19,7 @@ pub mod TreeLaws
 pub mod UnderLaws
 pub mod ProperLaws
 pub mod TaskLaws
+pub mod WaitLaws
 pub mod NothingLeftLaws
 pub mod RefusalLaws
 pub mod Demands

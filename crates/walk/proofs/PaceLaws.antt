@@ -5,19 +5,22 @@ use mathlib.Core.List.{List, [], _∷_}
 use mathlib.Core.Path.{_≡_, refl, subst}
 use native.Mathlib.Nat.{suc-mul, mul-le-mul-right}
 use native.Mathlib.Omega.{arith}
+use lib.ListN.{length}
+use Rattle.formula.specs.Format.{Literal}
 use Rattle.walk.specs.Plain.{Entry, model, end}
 use Rattle.walk.specs.PlainMachine.{Answer, found, spent, ended}
-use Rattle.walk.specs.Checkpoints.{checkpoint-of}
+use Rattle.walk.specs.Checkpoints.{trail-in}
 use Rattle.walk.specs.Results.{answer-kind}
-use Rattle.walk.specs.Gaps.{gap-after, gaps-from, gaps, common, PacedLater, Paced}
-use Rattle.walk.specs.InnerStack.{Stack, empty, push, depth, Tree}
+use Rattle.walk.specs.Gaps.{Gap, to-model, to-end, so-far, gap-after, gaps-from, gaps, shared, Parting, PacedLater, Paced}
+use Rattle.walk.specs.InnerStack.{Stack, empty, push, depth, trail-of, Tree}
 use Rattle.walk.specs.InnerMachine.{Position, down, full, back, over, Resumed, resume}
 use Rattle.walk.specs.InnerTest.{stack-of, shown}
 use Rattle.walk.proofs.RestLaws.{Replayed, replayed-depth, Reachable, Live, from-full, from-back, k-model, k-assign, k-true, k-undo, k-end}
 use Rattle.walk.proofs.RestLaws as rests
 use Rattle.walk.proofs.CallLaws.{Steps, s-assign, s-undo, call-ind, call-effect, resumes, results}
 use Rattle.walk.proofs.CostLaws.{step-cheap}
-use Rattle.walk.proofs.PartingLaws.{trail-bytes, Begins, b-same, b-more, begins-less, begins-depth, parting}
+use Rattle.walk.proofs.PositionLaws.{length-trail}
+use Rattle.walk.proofs.PartingLaws.{Begins, b-same, b-more, begins-less, begins-depth, parting-depth, parting}
 
 -- A property Now of steps, expansions and position that every step keeps; Hit of the numbers and of the trail at a model, Stop at the
 -- end; behind a model Then starts anew.
@@ -80,12 +83,28 @@ module _ (K : Tree) (B : ℕ) where
   HitFirst c e t = (c ≡ K .size) × (e ≤ K .size * B)
 
   abbrev HitLater : Stack → ℕ → ℕ → Stack → Type 0
-  HitLater u c e t = (c ≡ 2 * (K .size - common (trail-bytes u) (trail-bytes t))) × (c ≤ 2 * K .size) × (e ≤ K .size * B)
+  HitLater u c e t =
+      (c ≡ 2 * (length (trail-of t) - shared (trail-of u) (trail-of t))) × (c ≤ 2 * K .size) × (e ≤ K .size * B) × Parting (trail-of u) (trail-of t)
 
   abbrev StopLast : ℕ → ℕ → Type 0
   StopLast c e = (c ≡ K .size) × (e ≡ 0)
 
-module _ (K : Tree) (L : Live K) (B : ℕ) (cheap : (t : Stack) → Replayed K t → K .choose t .expansions ≤ B) where
+-- The trails of neighbouring models part. x is that of the model before.
+abbrev pub PartedLater : List Literal → List Gap → Type 0
+PartedLater x [] = Unit {0}
+PartedLater x (to-model c e y ∷ gs) = Parting x y × PartedLater y gs
+PartedLater x (to-end c e ∷ gs) = PartedLater x gs
+PartedLater x (so-far c e ∷ gs) = PartedLater x gs
+
+-- From the start.
+abbrev pub PartedAll : List Gap → Type 0
+PartedAll [] = Unit {0}
+PartedAll (to-model c e y ∷ gs) = PartedLater y gs
+PartedAll (to-end c e ∷ gs) = PartedAll gs
+PartedAll (so-far c e ∷ gs) = PartedAll gs
+
+module _ (K : Tree) (L : Live K) (B : ℕ) (cheap : (t : Stack) → Replayed K t → K .choose t .expansions ≤ B)
+    (told : (p : Position) → Reachable K p → trail-in (shown p) ≡ trail-of (stack-of p)) where
   rose-up : (u : Stack) (c v : ℕ) (b : Bool) (t : Stack) → Replayed K (push v b t) → Begins (push v b t) u → c + depth t ≡ K .size → Rose K B u c b t
   rose-up u c v b t r h n = record { had = subst (λ (x : ℕ). Begins (push x b t) u) (r .2) h; count = n }
 
@@ -127,9 +146,10 @@ module _ (K : Tree) (L : Live K) (B : ℕ) (cheap : (t : Stack) → Replayed K t
       hitting p a q c e o (k-model {t} h) i =
           let w = i .0 in
           let k = w .count in
-          let g = parting (w .variable) (w .at) u t (w .had) (w .has) in
+          let g = parting-depth (w .variable) (w .at) u t (w .had) (w .has) in
           let d = begins-depth (w .has) in
-          ((omega arith, omega arith, subst (λ (m : ℕ). e ≤ m * B) h (i .1)), (refl, refl, refl))
+          let l = length-trail t in
+          ((omega arith, omega arith, subst (λ (m : ℕ). e ≤ m * B) h (i .1), parting (w .variable) (w .at) u t (w .had) (w .has)), (refl, refl, refl))
 
       stopping : (p q : Position) (c e : ℕ) → Reachable K p → rests.Kind K p end q → later K B u c e p → StopLast K B c e
       stopping p q c e o (k-end (from-full h)) i = (omega (arith, i .1), i .2)
@@ -155,35 +175,44 @@ module _ (K : Tree) (L : Live K) (B : ℕ) (cheap : (t : Stack) → Replayed K t
       stopping p q c e o (k-end (from-full h)) i = i
       stopping p q c e o (k-end (from-back x h)) i = i
 
-  later-after : (a : Answer) (u : Stack) (q : Position) (c e : ℕ) (bs : List ℕ) → Paces K L (later K B u) (later K B) (HitLater K B u) (StopLast K B) a q c e
-      → ((u : Stack) (c e : ℕ) → later K B u c e q → PacedLater (K .size) B (trail-bytes u) (gaps-from c e (results K L q bs)))
-      → PacedLater (K .size) B (trail-bytes u)
-      (gap-after (answer-kind a) c e (shown q .bytes) (λ c′ e′. gaps-from c′ e′ (results K L q bs)))
-  unfolding checkpoint-of
-  later-after (found m) u q c e bs h ih = (h .0 .0, h .0 .1, h .0 .2, ih (stack-of q) 0 0 (h .1))
-  later-after spent u q c e bs h ih = ih u c e h
-  later-after ended u q c e bs h ih = (h .0, h .1, tt)
+  -- behind a model with the trail u, at c steps and e expansions
+  abbrev Later : Stack → List Gap → Type 0
+  Later u gs = PacedLater (K .size) B (trail-of u) gs × PartedLater (trail-of u) gs
 
-  later-paced : (bs : List ℕ) (p : Position) (u : Stack) (c e : ℕ) → Reachable K p → later K B u c e p
-      → PacedLater (K .size) B (trail-bytes u) (gaps-from c e (results K L p bs))
+  later-after : (a : Answer) (u : Stack) (q : Position) (c e : ℕ) (bs : List ℕ) → Reachable K q → Paces K L (later K B u) (later K B) (HitLater K B u) (StopLast K B) a q c e
+      → ((u : Stack) (c e : ℕ) → later K B u c e q → Later u (gaps-from c e (results K L q bs)))
+      → Later u (gap-after (answer-kind a) c e (trail-in (shown q)) (λ c′ e′. gaps-from c′ e′ (results K L q bs)))
+  later-after (found m) u q c e bs o h ih =
+      let i = ih (stack-of q) 0 0 (h .1) in
+      rw (told q o) ((h .0 .0, h .0 .1, h .0 .2, i .0), (h .0 .3, i .1))
+  later-after spent u q c e bs o h ih = ih u c e h
+  later-after ended u q c e bs o h ih = ((h .0, h .1, tt), tt)
+
+  -- over a list of calls from a position behind a model
+  later-pace : (bs : List ℕ) (p : Position) (u : Stack) (c e : ℕ) → Reachable K p → later K B u c e p → Later u (gaps-from c e (results K L p bs))
   unfolding resumes gaps-from
-  later-paced [] p u c e o i = let w = later-pausing p u c e o i in (w .0, w .1, tt)
-  later-paced (b ∷ bs) p u c e o i =
+  later-pace [] p u c e o i = let w = later-pausing p u c e o i in ((w .0, w .1, tt), tt)
+  later-pace (b ∷ bs) p u c e o i =
       let r = resume K b p in
-      later-after (r .answer) u (r .position) _ _ bs (call-paces K L _ _ _ _ (later-kept u) b p o c e i)
-      (λ u′ c′ e′ i′. later-paced bs (resume K b p .position) u′ c′ e′ (call-effect K L b p o .fine) i′)
+      later-after (r .answer) u (r .position) _ _ bs (call-effect K L b p o .fine) (call-paces K L _ _ _ _ (later-kept u) b p o c e i)
+      (λ u′ c′ e′ i′. later-pace bs (resume K b p .position) u′ c′ e′ (call-effect K L b p o .fine) i′)
+
+  -- from the start
+  abbrev First : List Gap → Type 0
+  First gs = Paced (K .size) B gs × PartedAll gs
 
   first-after : (a : Answer) (q : Position) (c e : ℕ) (bs : List ℕ) → Reachable K q → Paces K L (first K B) (later K B) (HitFirst K B) (λ c e. ⊥) a q c e
-      → ((c e : ℕ) → first K B c e q → Paced (K .size) B (gaps-from c e (results K L q bs)))
-      → Paced (K .size) B (gap-after (answer-kind a) c e (shown q .bytes) (λ c′ e′. gaps-from c′ e′ (results K L q bs)))
-  unfolding checkpoint-of
-  first-after (found m) q c e bs o h ih = (h .0 .0, h .0 .1, later-paced bs q (stack-of q) 0 0 o (h .1))
+      → ((c e : ℕ) → first K B c e q → First (gaps-from c e (results K L q bs)))
+      → First (gap-after (answer-kind a) c e (trail-in (shown q)) (λ c′ e′. gaps-from c′ e′ (results K L q bs)))
+  first-after (found m) q c e bs o h ih =
+      let i = later-pace bs q (stack-of q) 0 0 o (h .1) in
+      rw (told q o) ((h .0 .0, h .0 .1, i .0), i .1)
   first-after spent q c e bs o h ih = ih c e h
   first-after ended q c e bs o h ih = absurd h
 
-  first-paced : (bs : List ℕ) (p : Position) (c e : ℕ) → Reachable K p → first K B c e p → Paced (K .size) B (gaps-from c e (results K L p bs))
+  first-paced : (bs : List ℕ) (p : Position) (c e : ℕ) → Reachable K p → first K B c e p → First (gaps-from c e (results K L p bs))
   unfolding resumes gaps-from
-  first-paced [] p c e o i = first-pausing p c e o i
+  first-paced [] p c e o i = let w = first-pausing p c e o i in ((w .0, w .1, tt), tt)
   first-paced (b ∷ bs) p c e o i =
       let r = resume K b p in
       first-after (r .answer) (r .position) _ _ bs (call-effect K L b p o .fine)
@@ -191,5 +220,9 @@ module _ (K : Tree) (L : Live K) (B : ℕ) (cheap : (t : Stack) → Replayed K t
       (λ c′ e′ i′. first-paced bs (resume K b p .position) c′ e′ (call-effect K L b p o .fine) i′)
 
   -- over a list of calls, whatever the budgets
-  pub pace : (bs : List ℕ) → Paced (K .size) B (gaps (results K L (down empty) bs))
+  pub pace : (bs : List ℕ) → First (gaps (results K L (down empty) bs))
   pace bs = first-paced bs (down empty) 0 0 tt (refl, omega arith)
+
+  -- and from behind a model
+  pub pace-full : (bs : List ℕ) (u : Stack) → Replayed K u → depth u ≡ K .size → Later u (gaps (results K L (full u) bs))
+  pace-full bs u r h = later-pace bs (full u) u 0 0 (r, h) (refl, refl, refl)

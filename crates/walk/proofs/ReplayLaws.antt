@@ -5,8 +5,9 @@ use mathlib.Core.List.{List, [], _∷_}
 use mathlib.Core.Path.{_≡_, ap, _∙_}
 use lib.ListN.{length, getD, take}
 use lib.Seq.{take-suc}
+use Rattle.walk.specs.Checkpoints.{byte-number, byte-value}
 use Rattle.walk.specs.InnerStack.{Stack, empty, push, Tree}
-use Rattle.walk.specs.InnerTest.{byte-number, byte-value, pushed, replays}
+use Rattle.walk.specs.InnerTest.{pushed, replays}
 use Rattle.walk.proofs.ByteLaws.{pushed-append}
 
 -- one byte more

@@ -7,6 +7,7 @@ use mathlib.Core.Path.{_≡_, refl, sym, ap, ap₂, _∙_, subst}
 use native.Mathlib.Nat.{sub-zero}
 use native.Mathlib.Omega.{arith}
 use lib.ListN.{length, take, drop}
+use borrow.Author.Tests.{eq-eqb}
 use Rattle.limits.specs.Limits.{max-variables}
 use Rattle.lists.specs.Distinct.{Distinct}
 use Rattle.lists.specs.Every.{Every}
@@ -21,28 +22,28 @@ use Rattle.splitting.specs.Terms as terms
 use Rattle.splitting.specs.Terms.{opened}
 use Rattle.walk.specs.Task.{Task, to-assign, choice-at, ModelFor, Posed}
 use Rattle.walk.specs.Plain.{Entry, assigns, plain-walk, models-of, listing}
-use Rattle.walk.specs.Checkpoints.{Checkpoint, Behind, checkpoint-of, start, past-all, behind, checkpoint-after}
+use Rattle.walk.specs.Checkpoints.{Checkpoint, Behind, trail-in, checkpoint-of, start, past-all, behind, checkpoint-after}
 use Rattle.walk.specs.PlainMachine.{Answer, found, spent, ended, Call, plain-call, plain-calls, state-after, Has}
 use Rattle.walk.specs.WalkCall.{walk-call, walk-calls, last-checkpoint}
 use Rattle.walk.specs.InnerLocate.{Located, at-state, nowhere, located, by-state, task-call}
 use Rattle.walk.specs.Results.{says-model, says-spent, says-ended, says-refused, Result, answer-kind, answered, refusing, plain-result}
-use Rattle.walk.specs.Gaps.{brings, brought, SaysEnded, gaps, Paced, step-bound, ample-budget}
+use Rattle.walk.specs.Gaps.{brings, brought, SaysEnded, gaps, TrailOf, PacedLater, Paced, step-bound, ample-budget}
 use Rattle.walk.specs.Proper.{Proper}
-use Rattle.walk.specs.InnerStack.{Stack, empty, depth, trail-of, tree}
-use Rattle.walk.specs.InnerMachine.{Position, down, over, Next, nothing, hands, ends, steps, next, halted, onward, resume}
+use Rattle.walk.specs.InnerStack.{Stack, empty, push, depth, trail-of, tree}
+use Rattle.walk.specs.InnerMachine.{Position, down, full, back, over, Next, nothing, hands, ends, steps, next, halted, onward, resume}
 use Rattle.walk.specs.InnerTest.{stack-of, shown, read, position-of, accepts}
 use Rattle.walk.specs.InnerCall.{resumed-result, call-from}
 use Rattle.walk.proofs.LocateLaws.{located-stands, has-located, state-append}
 use Rattle.walk.proofs.RestLaws.{Pauses, Stops, walk, node, after-node, rest, Replayed, replayed-depth, Reachable, Live}
-use Rattle.walk.proofs.PositionLaws.{behind-of, length-trail}
+use Rattle.walk.proofs.PositionLaws.{behind-of, length-trail, full-stops}
 use Rattle.walk.proofs.AgreeLaws.{behind-after, At, at-start, at-every, Same, call-same}
 use Rattle.walk.proofs.ListingLaws.{walk-lists, walk-distinct, node-model}
-use Rattle.walk.proofs.CallLaws.{call-effect, resumes, last-position, results, brought-first, brought-all, never-spent, over-stops, resume-within, spent-all, models-next, model-mode, ended-stops}
+use Rattle.walk.proofs.CallLaws.{HandedOut, call-effect, resumes, last-position, results, brought-first, brought-all, never-spent, over-stops, resume-within, spent-all, models-next, model-full, model-mode, ended-stops}
 use Rattle.walk.proofs.LoopLaws.{loop-over}
 use Rattle.walk.proofs.CostLaws.{walk-cheap}
-use Rattle.walk.proofs.PaceLaws.{pace}
+use Rattle.walk.proofs.PaceLaws.{PartedLater, PartedAll, pace, pace-full}
 use Rattle.walk.proofs.MetLaws.{start-stops, down-spent, all-got}
-use Rattle.walk.proofs.AcceptLaws.{stack-replayed, shown-bytes, shown-position, call-shown, accepted-stopped, stopped-accepted}
+use Rattle.walk.proofs.AcceptLaws.{stack-replayed, shown-bytes, shown-trail, shown-position, call-shown, accepted-stopped, stopped-accepted}
 use Rattle.walk.proofs.ProperLaws.{stop-proper, proper-stop}
 use Rattle.walk.proofs.ByteLaws.{Below}
 use Rattle.walk.proofs.TreeLaws.{walk-same, trail-over, trail-agrees, agrees-trail, trail-below, live, open-model, model-open, splits, cheap, cheap-sound}
@@ -233,13 +234,75 @@ module _ (s : List ℕ) (us : List Assumption) (T : Task) (P : Posed T) (walks :
       let w = node-model (tree T) (ModelFor T) (splits T P) alive (to-assign T - depth (stack-of (x .0))) (stack-of (x .0)) r (omega arith) in
       (w .0, w .1, rw (at-behind T (x .1)) (agrees-trail (w .0) (stack-of (x .0)) (w .2)))
 
+  -- ---- the pace
+
+  told : (p : Position) → Reachable (tree T) p → trail-in (shown p) ≡ trail-of (stack-of p)
+  told = shown-trail (tree T) alive small low
+
   -- the pace over a list of calls
   pub calls-paced : (bs : List ℕ) → Paced (to-assign T) (step-bound T) (gaps (walk-calls s us start bs))
-  calls-paced bs = rw (calls-results bs) (pace (tree T) alive (step-bound T) (λ t _. cheap T P t) bs)
+  calls-paced bs = rw (calls-results bs) (pace (tree T) alive (step-bound T) (λ t _. cheap T P t) told bs .0)
 
   -- and the sharper one: what stripping leaves at a node is matched
   pub calls-paced-sound : (bs : List ℕ) → Paced (to-assign T) (to-assign T * (T .variables * suc (T .variables))) (gaps (walk-calls s us start bs))
-  calls-paced-sound bs = rw (calls-results bs) (pace (tree T) alive (to-assign T * (T .variables * suc (T .variables))) (cheap-sound T P) bs)
+  calls-paced-sound bs = rw (calls-results bs) (pace (tree T) alive (to-assign T * (T .variables * suc (T .variables))) (cheap-sound T P) told bs .0)
+
+  -- and where the trails of neighbouring models part
+  pub calls-parted : (bs : List ℕ) → PartedAll (gaps (walk-calls s us start bs))
+  calls-parted bs = rw (calls-results bs) (pace (tree T) alive (step-bound T) (λ t _. cheap T P t) told bs .1)
+
+  -- the same from the checkpoint of a model: mode 1, and every variable assigned
+  module _ (c : Checkpoint) (w : Has T c) (mode : c .mode ≡ 1) (all : c .length ≡ to-assign T) where
+    at-full : (p : Position) → Reachable (tree T) p → Stops (tree T) p → shown p ≡ c → (t : Stack) × (Replayed (tree T) t × (depth t ≡ to-assign T)) × (shown (full t) ≡ c)
+    unfolding checkpoint-of next
+    at-full (down empty) o q e = absurd (omega (arith, ap (λ (d : Checkpoint). d .mode) e))
+    at-full (down (push v b t)) o (inl z) e = absurd (omega (arith, o .1))
+    at-full (down (push v b t)) o (inr q) e =
+        let d : suc (depth t) ≡ to-assign T = sym (length-trail (push v b t)) ∙ ap (λ (d : Checkpoint). d .length) e ∙ all in
+        absurd (rw (eq-eqb (suc (depth t)) (to-assign T) d) at q)
+    at-full (full t) o q e = (t, o, e)
+    at-full (back true t) o q e = absurd (omega (arith, ap (λ (d : Checkpoint). d .mode) e))
+    at-full (back false t) o q e = absurd (omega (arith, ap (λ (d : Checkpoint). d .mode) e))
+    at-full over o q e = absurd (omega (arith, ap (λ (d : Checkpoint). d .mode) e))
+
+    pub model-paced : (bs : List ℕ) → PacedLater (to-assign T) (step-bound T) (trail-in c) (gaps (walk-calls s us c bs))
+    model-paced bs =
+        let a = standing-at (w .0) in
+        let x = at-full (standing (w .0)) (a .fine) (standing-stops (w .0)) (sym (at-checkpoint T a) ∙ w .1) in
+        let t = x .0 in
+        let o = x .1 in
+        subst (λ (d : Checkpoint). PacedLater (to-assign T) (step-bound T) (trail-in d) (gaps (walk-calls s us d bs))) (x .2)
+        (rw (told (full t) o, calls-go bs (full t) o (full-stops (tree T) t (o .1)))
+        (pace-full (tree T) alive (step-bound T) (λ u _. cheap T P u) told bs t (o .0) (o .1) .0))
+
+  -- a call that says model returns the checkpoint of the model's trail
+  pub call-trail : (c : Checkpoint) → Has T c → (b : ℕ) → walk-call s us c b .kind ≡ says-model → (x : List Literal) × TrailOf T (walk-call s us c b) x
+  call-trail c w b e = at (model-full (tree T) alive b p (a .fine) (sym (ap (λ (r : Result). r .kind) goes) ∙ e))
+    where
+      p : Position
+      p = standing (w .0)
+
+      a : At (tree T) (state-after T 0 (w .0)) (standing (w .0))
+      a = standing-at (w .0)
+
+      goes : walk-call s us c b ≡ resumed-result (resume (tree T) b (standing (w .0)))
+      goes =
+          ap (λ (d : Checkpoint). walk-call s us d b) (sym (w .1) ∙ at-checkpoint T (standing-at (w .0)))
+          ∙ call-goes b (standing (w .0)) (standing-at (w .0) .fine) (standing-stops (w .0))
+
+      at : HandedOut (tree T) (resumed-result (resume (tree T) b p) .model) (resume (tree T) b p .position) → (x : List Literal) × TrailOf T (walk-call s us c b) x
+      at f =
+          let t = f .0 in
+          let o : Reachable (tree T) (full t) = subst (Reachable (tree T)) (f .1) (call-effect (tree T) alive b p (a .fine) .fine) in
+          let m = ap (λ (r : Result). r .model) goes ∙ f .2 in
+          let d = ap (λ (r : Result). r .checkpoint) goes ∙ ap shown (f .1) in
+          (trail-of t, record {
+            returned = d;
+            read = ap trail-in d ∙ told (full t) o;
+            full = length-trail t ∙ o .1;
+            model = m;
+            values = rw m (agrees-trail (tree T .result t) t (splits T P .full-model t (o .0) (o .1) .1));
+          })
 
   -- enough steps are not spent
   not-spent : (a : Answer) → (answer-kind a ≡ says-spent → ⊥) → (answer-kind a ≡ says-model) ⊎ (answer-kind a ≡ says-ended)
@@ -425,3 +488,17 @@ module _ (s : List ℕ) (us : List Assumption) (T : Task) (P : Posed T) (walks :
         none = λ x. at-models v ∙ ended-stops (tree T) alive b p (a .fine) x .1;
         over = λ x. ap shown (ended-stops (tree T) alive b p (a .fine) x .0);
       })
+
+  -- the same by the checkpoint itself
+  pub has-onward : (c : Checkpoint) (w : Has T c) (b : ℕ) → Onward (state-after T 0 (w .0)) (state-after T 0 (w .0 ++ (b ∷ []))) (walk-call s us c b)
+  has-onward c w b =
+      subst (λ (d : Checkpoint). Onward (state-after T 0 (w .0)) (state-after T 0 (w .0 ++ (b ∷ []))) (walk-call s us d b)) (w .1) (call-onward (w .0) b)
+
+  -- so the walk has the checkpoint that comes back
+  pub call-has : (c : Checkpoint) → Has T c → (b : ℕ) → Has T (walk-call s us c b .checkpoint)
+  call-has c w b = (w .0 ++ (b ∷ []), has-onward c w b .returned)
+
+  -- and the start checkpoint
+  pub start-has : Has T start
+  unfolding last-checkpoint
+  start-has = ([], sym (last-plain []))

@@ -1,7 +1,8 @@
 -- S7.2, S7.3: the checkpoint (request: marker) for the entries behind.
-use Prim.Native.Nat.{ℕ, _+_}
+use Prim.Native.Nat.{ℕ, _+_, _-_}
 use mathlib.Core.Bool.{Bool, true, false, cond}
 use mathlib.Core.List.{List, [], _∷_, _++_, map}
+use lib.Dec.{leb}
 use lib.ListN.{length, take}
 use Rattle.lists.specs.Padded.{padded}
 use Rattle.formula.specs.Format.{Literal}
@@ -18,6 +19,20 @@ pub record Checkpoint : Type 0 where
 -- S7.2: a variable's byte, its number from 1, plus 128 if true
 abbrev pub byte : Literal → ℕ
 byte l = cond (l .positive) (l .variable + 1 + 128) (l .variable + 1)
+
+-- a byte's variable, from 1, and its value; and so its literal
+abbrev pub byte-number : ℕ → ℕ
+byte-number x = cond (leb 128 x) (x - 128) x
+
+abbrev pub byte-value : ℕ → Bool
+byte-value x = leb 128 x
+
+abbrev pub byte-literal : ℕ → Literal
+byte-literal x = record { variable = byte-number x - 1; positive = byte-value x }
+
+-- the trail in a checkpoint: the literals of its first `length` bytes
+unfoldable pub trail-in : Checkpoint → List Literal
+trail-in c = map byte-literal (take (c .length) (c .bytes))
 
 -- the checkpoint of a trail: a byte for each assigned variable in order, and zeros behind them
 unfoldable pub checkpoint-of : ℕ → List Literal → Checkpoint

@@ -6,7 +6,7 @@ use lib.Dec.{eqb, leb, ltb}
 use lib.ListN.{take, drop}
 use Rattle.limits.specs.Limits.{max-variables}
 use Rattle.splitting.specs.Terms.{opened}
-use Rattle.walk.specs.Checkpoints.{Checkpoint, checkpoint-of, undone-mode}
+use Rattle.walk.specs.Checkpoints.{Checkpoint, byte-number, byte-value, checkpoint-of, undone-mode}
 use Rattle.walk.specs.InnerStack.{Stack, empty, push, depth, trail-of, Tree}
 use Rattle.walk.specs.InnerMachine.{Position, down, full, back, over}
 
@@ -28,14 +28,6 @@ stack-of over = empty
 -- both as a checkpoint
 abbrev pub shown : Position → Checkpoint
 shown p = checkpoint-of (mode-of p) (trail-of (stack-of p))
-
--- a byte's variable, from 1
-abbrev pub byte-number : ℕ → ℕ
-byte-number x = cond (leb 128 x) (x - 128) x
-
--- a byte's value
-abbrev pub byte-value : ℕ → Bool
-byte-value x = leb 128 x
 
 -- t, and then the variables of some bytes
 unfoldable pub pushed : Stack → List ℕ → Stack

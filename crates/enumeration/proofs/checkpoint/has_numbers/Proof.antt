@@ -5,7 +5,7 @@ use Prim.Native.Nat.{ℕ, _-_, _≤_, _<_}
 use mathlib.Core.Path.{_≡_, sym, _∙_}
 use native.Mathlib.Omega.{arith}
 use lib.ListN.{getD}
-use Rattle.walk.specs.InnerTest.{byte-number}
+use Rattle.walk.specs.Checkpoints.{byte-number}
 use Rattle.enumeration.proofs.FormLaws.{all-numbered, none-numbered}
 use Rattle.enumeration.proofs.checkpoint.has_numbers.Statement.{statement}
 use Rattle.enumeration.proofs.checkpoint.has_numbers.Tie as tie
