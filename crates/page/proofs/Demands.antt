@@ -1,6 +1,6 @@
 -- S19: what the act page owes. s is the input, us are the assumptions, c is the checkpoint handed in, `serial` the first serial, `before`
 -- the page as it was lent.
-use Prim.Native.Nat.{ℕ, _+_, _*_, _-_, _≤_, _<_}
+use Prim.Native.Nat.{ℕ, suc, _+_, _*_, _-_, _≤_, _<_}
 use mathlib.Core.List.{List, [], _∷_, _++_, map}
 use mathlib.Core.Logic.{_⊎_, inr, _↔_}
 use mathlib.Core.Path.{_≡_, sym, ap, _∙_}
@@ -20,21 +20,22 @@ use Rattle.assumptions.specs.FirstBad.{NoneBad}
 use Rattle.matched.specs.Acceptance.{acceptance}
 use Rattle.matched.specs.Judge.{refused-values, judge}
 use Rattle.matched.specs.Pairing.{Pairs, left-of}
-use Rattle.walk.specs.Task.{Task, under, Posed}
+use Rattle.walk.specs.Task.{Task, under, to-assign, Posed}
 use Rattle.walk.specs.Plain.{plain-walk, models-of, listing}
-use Rattle.walk.specs.Checkpoints.{Checkpoint, checkpoint-of, start}
+use Rattle.walk.specs.Checkpoints.{Checkpoint, trail-in, checkpoint-of, start}
 use Rattle.walk.specs.PlainMachine.{ended, state-after, Has}
 use Rattle.walk.specs.Results.{says-model, says-ended, says-refused, Result}
-use Rattle.walk.specs.Gaps.{ample-budget}
+use Rattle.walk.specs.Gaps.{shared, ample-budget}
 use Rattle.walk.specs.WalkCall.{walk-call, walk-calls}
 use Rattle.walk.specs.InnerLocate.{task-call}
 use Rattle.walk.proofs.TaskLaws.{answer-unrefused, start-has}
 use Rattle.walk.proofs.Demands as walk
 use Rattle.walk.proofs.Demands.{from-end}
 use Rattle.page.specs.PageLines.{page-lines, line-size, page-size, page-line, blank-line}
-use Rattle.page.specs.Pages.{ample-budgets, next-results, next-checkpoint, line-at, joined, filled-values, PageCall, unfilled, refusing-page, accepted-variables, max-serial, line-of-page, filling-page, page-call, page-calls}
+use Rattle.page.specs.Pages.{ample-budgets, next-results, next-checkpoint, steps-at, trail-at, line-at, joined, filled-values, PageCall, unfilled, refusing-page, accepted-variables, max-serial, line-of-page, filling-page, page-call, page-calls}
 use Rattle.page.proofs.LineAtLaws as lines
 use Rattle.page.proofs.NextModelLaws as nexts
+use Rattle.page.proofs.PageWaitLaws as waits
 use Rattle.page.proofs.PageCallLaws as pages
 use Rattle.page.proofs.ConsecutiveLaws as follow
 
@@ -42,7 +43,7 @@ use Rattle.page.proofs.ConsecutiveLaws as follow
 
 -- Line i is that of result i, with the serial i above the first; or blank, if there is no such result.
 pub line-told : (n serial : ℕ) (rs : List Result) (i : ℕ) → i < length rs
-    → line-at n serial rs i ≡ page-line (serial + i) n (getD (map (λ r. r .model) rs) i 0) (getD (map (λ r. r .steps) rs) i 0)
+    → line-at n serial rs i ≡ page-line (serial + i) n (getD (map (λ r. r .model) rs) i 0) (steps-at rs i)
 line-told = lines.line-told
 
 pub line-none : (n serial : ℕ) (rs : List Result) (i : ℕ) → length rs ≤ i → line-at n serial rs i ≡ blank-line
@@ -160,6 +161,21 @@ module _ (s : List ℕ) (us : List Assumption) (n : ℕ) (cs : List (List Litera
     pub page-has : Has task (next-checkpoint s us c k)
     page-has = nexts.nexts s us task posed walks k c w .has
 
+    -- S21.4: from the second line on the steps on a line (`line-told`) are the wait between its model and that of the line before: twice the
+    -- variables that are assigned after the longest beginning that their trails share.
+    pub page-waits : (i : ℕ) → suc i < length (next-results s us c k)
+        → (let rs = next-results s us c k in steps-at rs (suc i) ≡ 2 * (length (trail-at rs (suc i)) - shared (trail-at rs i) (trail-at rs (suc i))))
+    page-waits = waits.waits-between s us task posed walks c w k
+
+    -- On the first line it is so if the checkpoint that is handed in is that of a model, mode 1 with every variable to assign in its trail;
+    pub page-wait-first : c .mode ≡ 1 → c .length ≡ to-assign task → 0 < length (next-results s us c k)
+        → (let rs = next-results s us c k in steps-at rs 0 ≡ 2 * (length (trail-at rs 0) - shared (trail-in c) (trail-at rs 0)))
+    page-wait-first m l h = waits.wait-first s us task posed walks c w m l k h
+
+  -- and from the start the first line has as many steps as there are variables to assign.
+  pub page-wait-start : (k : ℕ) → 0 < length (next-results s us start k) → steps-at (next-results s us start k) 0 ≡ to-assign task
+  page-wait-start = waits.wait-start s us task posed walks
+
   -- S19.2: such a page is written;
   pub page-filled : (c : Checkpoint) → Has task c → (serial : ℕ) (before : List ℕ) → page-size ≤ length before → 0 < serial → serial ≤ max-serial
       → page-call s us c serial before ≡ filling-page s us c serial before
@@ -234,18 +250,19 @@ module _ (s : List ℕ) (us : List Assumption) (n : ℕ) (cs : List (List Litera
 
     -- line k of all
     model-line : (k : ℕ) → k < page-lines * length buffers → k < length (listing task)
-        → line-at n first all-results k ≡ page-line (first + k) n (getD (listing task) k 0) (getD (map (λ r. r .steps) all-results) k 0)
+        → line-at n first all-results k ≡ page-line (first + k) n (getD (listing task) k 0) (steps-at all-results k)
     model-line k j h =
         line-told n first all-results k (omega (arith, results-number, length-take (page-lines * length buffers) (listing task)))
-        ∙ ap (λ (a : ℕ). page-line (first + k) n a (getD (map (λ r. r .steps) all-results) k 0))
+        ∙ ap (λ (a : ℕ). page-line (first + k) n a (steps-at all-results k))
         (ap (λ (l : List ℕ). getD l k 0) pages-models ∙ getD-take (page-lines * length buffers) (listing task) k 0 j)
 
-    -- Model k of the listing, from 0, is on line k of all, with the serial `first` + k;
+    -- Model k of the listing, from 0, is on line k of all, with the serial `first` + k, and with the steps of S21.4 (`page-waits` and
+    -- `page-wait-start`, of the calls that all these pages stand for);
     pub pages-model : (ps qs : List PageCall) (p : PageCall) → page-calls s us start first buffers ≡ ps ++ (p ∷ qs) → (i : ℕ) → i < page-lines
         → page-lines * length ps + i < length (listing task)
         → take line-size (drop (line-size * i) (p .page))
         ≡ page-line (first + (page-lines * length ps + i)) n (getD (listing task) (page-lines * length ps + i) 0)
-        (getD (map (λ r. r .steps) all-results) (page-lines * length ps + i) 0)
+        (steps-at all-results (page-lines * length ps + i))
     pages-model ps qs p e i l h = pages-lines ps qs p e i l ∙ model-line (page-lines * length ps + i) (line-among ps qs p e i l) h
 
     -- the lines behind the last model are blank.

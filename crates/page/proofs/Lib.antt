@@ -3,6 +3,7 @@ pub mod JoinedLaws
 pub mod LineAtLaws
 pub mod NextLaws
 pub mod NextModelLaws
+pub mod PageWaitLaws
 pub mod PageCallLaws
 pub mod ConsecutiveLaws
 pub mod RunLaws

@@ -17,7 +17,7 @@ use Rattle.walk.specs.Gaps.{brings, ample-budget}
 use Rattle.walk.specs.Results.{AnswerKind, says-model, says-ended, says-refused, Result}
 use Rattle.walk.specs.WalkCall.{walk-call, walk-calls, last-checkpoint}
 use Rattle.walk.specs.InnerLocate.{task-call}
-use Rattle.walk.proofs.TaskLaws.{Onward, has-onward, start-has, last-plain, calls-ample, call-over}
+use Rattle.walk.proofs.TaskLaws.{Onward, has-onward, has-ample, start-has, call-over}
 use Rattle.page.specs.Pages.{ample-budgets, with-models, next-results, next-checkpoint}
 use Rattle.page.proofs.NextLaws.{next-append, next-by}
 
@@ -52,9 +52,7 @@ module _ (s : List ℕ) (us : List Assumption) (T : Task) (P : Posed T) (walks :
 
   -- it says model or ended
   one-answers : (c : Checkpoint) → Has T c → ModelOrEnded (walk-call s us c ample-budget)
-  one-answers c w =
-      subst (λ (d : Checkpoint). ModelOrEnded (walk-call s us d ample-budget))
-      (last-plain s us T P walks (w .0) ∙ w .1) (calls-ample s us T P walks (w .0) ample-budget (omega arith))
+  one-answers c w = has-ample s us T P walks c w ample-budget (omega arith)
 
   -- and is not refused
   pub one-unrefused : (c : Checkpoint) → Has T c → walk-call s us c ample-budget .kind ≡ says-refused → ⊥
@@ -148,7 +146,7 @@ module _ (s : List ℕ) (us : List Assumption) (T : Task) (P : Posed T) (walks :
 
   -- from the start checkpoint come the first models of the listing
   pub start-models : (k : ℕ) → map (λ r. r .model) (next-results s us start k) ≡ take k (listing T)
-  unfolding listing state-after last-checkpoint
+  unfolding listing state-after start-has
   start-models k = nexts k start (start-has s us T P walks) .models
 
   module _ (c : Checkpoint) (w : Has T c) where

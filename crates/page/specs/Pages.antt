@@ -1,16 +1,17 @@
 -- S19.2 to S19.5: the act page, over walk calls of an ample budget, and pages one after the other.
 use Prim.Native.Nat.{ℕ, zero, suc, _+_}
 use mathlib.Core.Bool.{cond, _||_}
-use mathlib.Core.List.{List, [], _∷_, _++_}
+use mathlib.Core.List.{List, [], _∷_, _++_, map}
 use lib.Dec.{eqb, ltb}
-use lib.ListN.{length, replicate}
+use lib.ListN.{length, getD, replicate}
 use Rattle.lists.specs.Over.{over}
+use Rattle.formula.specs.Format.{Literal}
 use Rattle.formula.specs.declared.Refusal.{Refusal}
 use Rattle.formula.specs.declared.Refusal.the-variants.{ShortPage, BadSerial}
 use Rattle.formula.specs.Refusals.{table-row}
 use Rattle.assumptions.specs.declared.Assumption.{Assumption}
 use Rattle.matched.specs.Acceptance.{Acceptance, accepted, declined, acceptance}
-use Rattle.walk.specs.Checkpoints.{Checkpoint}
+use Rattle.walk.specs.Checkpoints.{Checkpoint, trail-in, start}
 use Rattle.walk.specs.Gaps.{ample-budget}
 use Rattle.walk.specs.Results.{AnswerKind, says-model, says-spent, says-ended, says-refused, Result}
 use Rattle.walk.specs.WalkCall.{walk-call, walk-calls, last-checkpoint}
@@ -46,6 +47,13 @@ next-results s us c k = with-models (walk-calls s us c (ample-budgets k))
 -- S19.2: the checkpoint behind them (request: next marker)
 abbrev pub next-checkpoint : List ℕ → List Assumption → Checkpoint → ℕ → Checkpoint
 next-checkpoint s us c k = last-checkpoint s us c (ample-budgets k)
+
+-- the steps of result i, from 0, and S21.1: its trail, that in the checkpoint which comes back with it
+abbrev pub steps-at : List Result → ℕ → ℕ
+steps-at rs i = getD (map (λ r. r .steps) rs) i 0
+
+abbrev pub trail-at : List Result → ℕ → List Literal
+trail-at rs i = trail-in (getD (map (λ r. r .checkpoint) rs) i start)
 
 -- ---- the page
 

@@ -1,4 +1,5 @@
 pub mod Demands
+pub mod GapLinesLaws
 pub mod GoingLaws
 pub mod LineLaws
 pub mod PrintLaws

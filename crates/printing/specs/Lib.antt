@@ -1,4 +1,5 @@
 pub mod InnerLines
 pub mod Printed
+pub mod PrintedGaps
 pub mod Printing
 pub mod WithoutAssumptions

@@ -205,3 +205,25 @@ module _ (s : List ℕ) (us : List Assumption) (T : Task) (P : Posed T) (walks :
       at says-spent q ih = ih _ _
       at says-refused q ih = ih _ _
       at says-ended q ih = sym (ap (λ (d : Checkpoint). brought (walk-calls s us d bs)) (laws.has-onward s us T P walks c w b .over q) ∙ over-none bs)
+
+  -- ---- one call
+
+  -- the checkpoint that comes back with a model: mode 1, and every variable assigned
+  pub model-mode : (c : Checkpoint) → Has T c → (b : ℕ) → walk-call s us c b .kind ≡ says-model → walk-call s us c b .checkpoint .mode ≡ 1
+  unfolding checkpoint-of
+  model-mode c w b e = ap (λ (d : Checkpoint). d .mode) (laws.call-trail s us T P walks c w b e .1 .returned)
+
+  pub model-length : (c : Checkpoint) → Has T c → (b : ℕ) → walk-call s us c b .kind ≡ says-model → walk-call s us c b .checkpoint .length ≡ to-assign T
+  unfolding checkpoint-of
+  model-length c w b e = let t = laws.call-trail s us T P walks c w b e .1 in ap (λ (d : Checkpoint). d .length) (t .returned) ∙ t .full
+
+  -- a model that a call from such a checkpoint brings
+  pub model-wait : (c : Checkpoint) → Has T c → c .mode ≡ 1 → c .length ≡ to-assign T → (b : ℕ) → walk-call s us c b .kind ≡ says-model
+      → (let y = trail-in (walk-call s us c b .checkpoint) in walk-call s us c b .steps ≡ 2 * (length y - shared (trail-in c) y))
+  unfolding walk-calls gaps-from
+  model-wait c w m l b e = let p = rw e at (laws.model-paced s us T P walks c w m l (b ∷ [])) in omega (arith, p .0)
+
+  -- and one from the start
+  pub start-wait : (b : ℕ) → walk-call s us start b .kind ≡ says-model → walk-call s us start b .steps ≡ to-assign T
+  unfolding walk-calls gaps-from
+  start-wait b e = let p = rw e at (laws.calls-paced s us T P walks (b ∷ [])) in omega (arith, p .0)

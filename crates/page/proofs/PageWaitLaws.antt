@@ -1,0 +1,118 @@
+-- The steps of the results of a page: the waits between the models on its lines.
+use Prim.Native.Nat.{ℕ, zero, suc, _*_, _-_, _<_}
+use mathlib.Core.List.{List, [], _∷_}
+use mathlib.Core.Logic.{_⊎_, inl, inr}
+use mathlib.Core.Path.{_≡_, ap, _∙_}
+use native.Mathlib.Omega.{arith}
+use lib.ListN.{length}
+use Rattle.formula.specs.Format.{Literal}
+use Rattle.assumptions.specs.declared.Assumption.{Assumption}
+use Rattle.walk.specs.Task.{Task, to-assign, Posed}
+use Rattle.walk.specs.Checkpoints.{Checkpoint, trail-in, start}
+use Rattle.walk.specs.PlainMachine.{Has}
+use Rattle.walk.specs.Gaps.{shared, ample-budget}
+use Rattle.walk.specs.Results.{says-model, says-ended, Result}
+use Rattle.walk.specs.WalkCall.{walk-call, walk-calls}
+use Rattle.walk.specs.InnerLocate.{task-call}
+use Rattle.walk.proofs.TaskLaws.{has-onward, has-ample, call-has, start-has}
+use Rattle.walk.proofs.WaitLaws.{model-mode, model-length, model-wait, start-wait}
+use Rattle.page.specs.Pages.{ample-budgets, with-models, next-results, steps-at, trail-at}
+use Rattle.page.proofs.NextLaws.{next-by}
+use Rattle.page.proofs.NextModelLaws.{end-results}
+
+-- results behind a model with the trail x: each one's steps are the wait between it and the one before
+abbrev After : List Literal → List Result → Type 0
+After x [] = Unit {0}
+After x (r ∷ rs) = (let y = trail-in (r .checkpoint) in (r .steps ≡ 2 * (length y - shared x y)) × After y rs)
+
+-- behind the first result
+abbrev AfterFirst : List Result → Type 0
+AfterFirst [] = Unit {0}
+AfterFirst (r ∷ rs) = After (trail-in (r .checkpoint)) rs
+
+-- by index
+after-at : (x : List Literal) (rs : List Result) (i : ℕ) → After x rs → suc i < length rs
+    → steps-at rs (suc i) ≡ 2 * (length (trail-at rs (suc i)) - shared (trail-at rs i) (trail-at rs (suc i)))
+after-at x [] i a h = absurd (omega arith)
+after-at x (r ∷ []) i a h = absurd (omega arith)
+after-at x (r ∷ (q ∷ rs)) zero a h = a .1 .0
+after-at x (r ∷ (q ∷ rs)) (suc i) a h = after-at (trail-in (r .checkpoint)) (q ∷ rs) i (a .1) (omega arith)
+
+first-at : (rs : List Result) (i : ℕ) → AfterFirst rs → suc i < length rs
+    → steps-at rs (suc i) ≡ 2 * (length (trail-at rs (suc i)) - shared (trail-at rs i) (trail-at rs (suc i)))
+first-at [] i a h = absurd (omega arith)
+first-at (r ∷ []) i a h = absurd (omega arith)
+first-at (r ∷ (q ∷ rs)) zero a h = a .0
+first-at (r ∷ (q ∷ rs)) (suc i) a h = after-at (trail-in (r .checkpoint)) (q ∷ rs) i a (omega arith)
+
+module _ (s : List ℕ) (us : List Assumption) (T : Task) (P : Posed T) (walks : (c : Checkpoint) (b : ℕ) → walk-call s us c b ≡ task-call T c b) where
+  -- the results from a checkpoint that the walk has: the first one's call, and those behind it; or none
+  results-first : (c : Checkpoint) → Has T c → (k : ℕ)
+      → ((walk-call s us c ample-budget .kind ≡ says-model) × (next-results s us c (suc k) ≡ walk-call s us c ample-budget ∷ next-results s us (walk-call s us c ample-budget .checkpoint) k))
+      ⊎ (next-results s us c (suc k) ≡ [])
+  results-first c w k = at (has-ample s us T P walks c w ample-budget (omega arith))
+    where
+      at : (walk-call s us c ample-budget .kind ≡ says-model) ⊎ (walk-call s us c ample-budget .kind ≡ says-ended)
+          → ((walk-call s us c ample-budget .kind ≡ says-model) × (next-results s us c (suc k) ≡ walk-call s us c ample-budget ∷ next-results s us (walk-call s us c ample-budget .checkpoint) k))
+          ⊎ (next-results s us c (suc k) ≡ [])
+      at (inl e) = inl (e, next-by s us c k says-model e)
+      at (inr e) =
+          inr (next-by s us c k says-ended e ∙ ap (λ (d : Checkpoint). next-results s us d k) (has-onward s us T P walks c w ample-budget .over e)
+          ∙ end-results s us T P walks k)
+
+  -- from the checkpoint of a model
+  after-model : (k : ℕ) (c : Checkpoint) → Has T c → c .mode ≡ 1 → c .length ≡ to-assign T → After (trail-in c) (next-results s us c k)
+  unfolding ample-budgets walk-calls with-models
+  after-model zero c w m l = tt
+  after-model (suc k) c w m l = at (results-first c w k) (λ e. after-model k _ (call-has s us T P walks c w ample-budget) (model-mode s us T P walks c w ample-budget e) (model-length s us T P walks c w ample-budget e))
+    where
+      r : Result
+      r = walk-call s us c ample-budget
+
+      at : ((r .kind ≡ says-model) × (next-results s us c (suc k) ≡ r ∷ next-results s us (r .checkpoint) k)) ⊎ (next-results s us c (suc k) ≡ [])
+          → (r .kind ≡ says-model → After (trail-in (r .checkpoint)) (next-results s us (r .checkpoint) k)) → After (trail-in c) (next-results s us c (suc k))
+      at (inl (e, q)) ih = rw q (model-wait s us T P walks c w m l ample-budget e, ih e)
+      at (inr q) ih = rw q tt
+
+  -- from any checkpoint that the walk has: behind the first result
+  after-first : (k : ℕ) (c : Checkpoint) → Has T c → AfterFirst (next-results s us c k)
+  unfolding ample-budgets walk-calls with-models
+  after-first zero c w = tt
+  after-first (suc k) c w = at (results-first c w k)
+    where
+      r : Result
+      r = walk-call s us c ample-budget
+
+      at : ((r .kind ≡ says-model) × (next-results s us c (suc k) ≡ r ∷ next-results s us (r .checkpoint) k)) ⊎ (next-results s us c (suc k) ≡ [])
+          → AfterFirst (next-results s us c (suc k))
+      at (inl (e, q)) =
+          rw q (after-model k (r .checkpoint) (call-has s us T P walks c w ample-budget) (model-mode s us T P walks c w ample-budget e) (model-length s us T P walks c w ample-budget e))
+      at (inr q) = rw q tt
+
+  -- so it is on every line but the first,
+  pub waits-between : (c : Checkpoint) → Has T c → (k i : ℕ) → suc i < length (next-results s us c k)
+      → (let rs = next-results s us c k in steps-at rs (suc i) ≡ 2 * (length (trail-at rs (suc i)) - shared (trail-at rs i) (trail-at rs (suc i))))
+  waits-between c w k i h = first-at (next-results s us c k) i (after-first k c w) h
+
+  -- on the first if the checkpoint is that of a model,
+  pub wait-first : (c : Checkpoint) → Has T c → c .mode ≡ 1 → c .length ≡ to-assign T → (k : ℕ) → 0 < length (next-results s us c k)
+      → (let rs = next-results s us c k in steps-at rs 0 ≡ 2 * (length (trail-at rs 0) - shared (trail-in c) (trail-at rs 0)))
+  wait-first c w m l k h = at (next-results s us c k) (after-model k c w m l) h
+    where
+      at : (rs : List Result) → After (trail-in c) rs → 0 < length rs → steps-at rs 0 ≡ 2 * (length (trail-at rs 0) - shared (trail-in c) (trail-at rs 0))
+      at [] a h = absurd (omega arith)
+      at (r ∷ rs) a h = a .0
+
+  -- and on the first from the start
+  pub wait-start : (k : ℕ) → 0 < length (next-results s us start k) → steps-at (next-results s us start k) 0 ≡ to-assign T
+  unfolding ample-budgets walk-calls with-models
+  wait-start zero h = absurd (omega arith)
+  wait-start (suc k) h = at (results-first start (start-has s us T P walks) k)
+    where
+      r : Result
+      r = walk-call s us start ample-budget
+
+      at : ((r .kind ≡ says-model) × (next-results s us start (suc k) ≡ r ∷ next-results s us (r .checkpoint) k)) ⊎ (next-results s us start (suc k) ≡ [])
+          → steps-at (next-results s us start (suc k)) 0 ≡ to-assign T
+      at (inl (e, q)) = rw q (start-wait s us T P walks ample-budget e)
+      at (inr q) = absurd (omega (arith, h, ap length q))
