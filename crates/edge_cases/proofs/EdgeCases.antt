@@ -1,5 +1,5 @@
--- The cases of the tables specs/MarkedCases.antt, specs/AssumedCases.antt, specs/StrippedCases.antt, specs/ViolatorCases.antt and
--- specs/PageCases.antt, and some more, computed from the definitions.
+-- The cases of the tables specs/MarkedCases.antt, specs/AssumedCases.antt, specs/StrippedCases.antt, specs/ViolatorCases.antt,
+-- specs/WaitCases.antt and specs/PageCases.antt, and some more, computed from the definitions.
 use mathlib.Core.Bool.{xor}
 use Prim.Native.Nat.{ℕ, zero, suc, _≤_, _<_}
 use mathlib.Core.List.{List, [], _∷_, _++_, map}
@@ -10,6 +10,7 @@ use lib.ListN.{length, replicate}
 use borrow.Author.Tests.{le-ltb}
 use Rattle.limits.specs.Limits.{max-clauses}
 use Rattle.lists.specs.Over.{over}
+use Rattle.lists.specs.Padded.{padded}
 use Rattle.lists.specs.Tabulated.{tabulated}
 use Rattle.masks.specs.Mask.{bit, members}
 use Rattle.writing.specs.Text.{line-feed, blank, decimal-within, decimal, blanks}
@@ -27,11 +28,11 @@ use Rattle.splitting.specs.Nodes.{less, assign, remaining, satisfied-by, occurs
 use Rattle.splitting.specs.Stripping.{pure, not-naming, strip}
 use Rattle.splitting.specs.Choosing.{matching-of, trial, first-passing, candidates, among, listed, last, emptied, last-listed, choice}
 use Rattle.walk.specs.Task.{Task, under, Posed}
-use Rattle.walk.specs.Checkpoints.{Checkpoint, without-last, last-value, start, past-all, behind, checkpoint-after}
+use Rattle.walk.specs.Checkpoints.{Checkpoint, trail-in, checkpoint-of, without-last, last-value, start, past-all, behind, checkpoint-after}
 use Rattle.walk.specs.WalkCall.{walk-call, walk-calls}
 use Rattle.walk.specs.InnerLocate.{task-call}
 use Rattle.walk.specs.Plain.{assignment, node-walk, plain-walk}
-use Rattle.walk.specs.Gaps.{ample-budget}
+use Rattle.walk.specs.Gaps.{to-model, to-end, gaps-from, gaps, ample-budget}
 use Rattle.walk.specs.PlainMachine.{go-on, plain-call, plain-calls, state-after}
 use Rattle.walk.specs.Results.{Result, plain-result}
 use Rattle.walk.proofs.Demands.{start-zero}
@@ -47,6 +48,7 @@ use Rattle.edge_cases.specs.MarkedCases.{on, off, line, model-at, end-at
 use Rattle.edge_cases.specs.AssumedCases.{assume-on, assume-off, AssumedCases}
 use Rattle.edge_cases.specs.StrippedCases.{StrippedCases}
 use Rattle.edge_cases.specs.ViolatorCases.{ViolatorCases}
+use Rattle.edge_cases.specs.WaitCases.{gaps-under, WaitCases}
 use Rattle.edge_cases.specs.PageCases.{line-of-these, PageCases}
 use Rattle.edge_cases.specs.TextCases.{ascii}
 
@@ -95,6 +97,10 @@ printing = tt
 paging : Unit {0}
 unfolding walking with-models ample-budgets page-line decimal decimal-within tabulated blanks state-after checkpoint-after behind past-all without-last last-value
 paging = tt
+
+waiting : Unit {0}
+unfolding walking gaps-from trail-in checkpoint-of padded checkpoint-after behind past-all without-last last-value
+waiting = tt
 
 -- ---- walks
 
@@ -196,6 +202,33 @@ violator-cases = record {
   short-first = weigh-short _ _;
   reading-second = λ b l. weigh-refused _ _ b l _ refl;
   assumption-third = λ b l. weigh-bad _ _ b l _ _ refl _ refl;
+}
+
+-- ---- waits
+
+-- the gaps of walk calls are those of the plain machine's
+gaps-plain : (s : List ℕ) (us : List Assumption) (n : ℕ) (t : List Literal) (cs : List (List Literal)) (row : List ℕ) → acceptance s us ≡ accepted n t cs row → (bs : List ℕ)
+    → gaps-under s us bs ≡ gaps (map (plain-result (under n t cs)) (plain-calls (under n t cs) 0 bs))
+gaps-plain s us n t cs row e bs =
+    ap (λ (rs : List Result). gaps rs) (calls-plain s us (under n t cs) (accepted-posed s us n t cs row e) (call-accepted s us n t cs row e) bs)
+
+both-gaps : (b d : ℕ) → gaps-under example both-given (b ∷ d ∷ []) ≡ to-model 0 0 [] ∷ to-end 0 0 ∷ []
+unfolding walk-calls gaps-from trail-in checkpoint-of members bit variables
+both-gaps b d = rw (call-first both-task refl example both-given both-posed both-walks b, call-second both-task refl example both-given both-posed both-walks d)
+
+pub wait-cases : WaitCases
+unfolding waiting
+wait-cases = record {
+  pairs-ample = gaps-plain _ _ _ _ _ _ refl _;
+  pairs-one = gaps-plain _ _ _ _ _ _ refl _;
+  pairs-mixed = gaps-plain _ _ _ _ _ _ refl _;
+  pairs-open = gaps-plain _ _ _ _ _ _ refl _;
+  none-made = gaps-plain _ _ _ _ _ _ refl _;
+  wrong-turn = gaps-plain _ _ _ _ _ _ refl _;
+  one-assumed = gaps-plain _ _ _ _ _ _ refl _;
+  pairs-assumed = gaps-plain _ _ _ _ _ _ refl _;
+  stripped-down = gaps-plain _ _ _ _ _ _ refl _;
+  nothing-left = both-gaps;
 }
 
 -- ---- pages

@@ -4,3 +4,4 @@ pub mod PageCases
 pub mod StrippedCases
 pub mod TextCases
 pub mod ViolatorCases
+pub mod WaitCases

@@ -79,10 +79,10 @@ printed-waits s n cs encodes vs pairs =
     let w = walks s [] n cs encodes good vs pairs in
     let size : to-assign (under n [] cs) ≡ n = under-size n [] cs (P .most) good ∙ sub-zero n in (
       ap acceptance-lines (a .1)
-      ∙ ap (λ (l : List ℕ). header n (length cs) ++ l)
-      (lines-calls s n [] cs (a .0) (a .1) max-models ∙ lines-gaps s n cs P w max-models start (start-has s [] (under n [] cs) P w)),
+          ∙ ap (λ (l : List ℕ). header n (length cs) ++ l)
+          (lines-calls s n [] cs (a .0) (a .1) max-models ∙ lines-gaps s n cs P w max-models start (start-has s [] (under n [] cs) P w)),
       subst (λ (k : ℕ). Paced k (step-bound (under n [] cs)) (gaps (walk-calls s [] start (replicate max-models ample-budget)))) size
-      (demand-3 s [] n cs encodes good vs pairs (replicate max-models ample-budget) .paced),
+          (demand-3 s [] n cs encodes good vs pairs (replicate max-models ample-budget) .paced),
     )
 
 -- S18.3: of a readable input of which what stripping leaves is not matched 10 is printed, with the number of marks that judge gives

@@ -295,14 +295,16 @@ module _ (s : List ℕ) (us : List Assumption) (T : Task) (P : Posed T) (walks :
           let t = f .0 in
           let o : Reachable (tree T) (full t) = subst (Reachable (tree T)) (f .1) (call-effect (tree T) alive b p (a .fine) .fine) in
           let m = ap (λ (r : Result). r .model) goes ∙ f .2 in
-          let d = ap (λ (r : Result). r .checkpoint) goes ∙ ap shown (f .1) in
-          (trail-of t, record {
-            returned = d;
-            read = ap trail-in d ∙ told (full t) o;
-            full = length-trail t ∙ o .1;
-            model = m;
-            values = rw m (agrees-trail (tree T .result t) t (splits T P .full-model t (o .0) (o .1) .1));
-          })
+          let d = ap (λ (r : Result). r .checkpoint) goes ∙ ap shown (f .1) in (
+            trail-of t,
+            record {
+              returned = d;
+              read = ap trail-in d ∙ told (full t) o;
+              full = length-trail t ∙ o .1;
+              model = m;
+              values = rw m (agrees-trail (tree T .result t) t (splits T P .full-model t (o .0) (o .1) .1));
+            },
+          )
 
   -- enough steps are not spent
   not-spent : (a : Answer) → (answer-kind a ≡ says-spent → ⊥) → (answer-kind a ≡ says-model) ⊎ (answer-kind a ≡ says-ended)
