@@ -28,7 +28,8 @@ use Rattle.walk.specs.Results.{says-model, says-ended, says-refused, Result}
 use Rattle.walk.specs.Gaps.{shared, ample-budget}
 use Rattle.walk.specs.WalkCall.{walk-call, walk-calls}
 use Rattle.walk.specs.InnerLocate.{task-call}
-use Rattle.walk.proofs.TaskLaws.{answer-unrefused, start-has}
+use Rattle.walk.proofs.TaskLaws.{answer-unrefused}
+use Rattle.walk.proofs.HasLaws.{start-has}
 use Rattle.walk.proofs.Demands as walk
 use Rattle.walk.proofs.Demands.{from-end}
 use Rattle.page.specs.PageLines.{page-lines, line-size, page-size, page-line, blank-line}

@@ -17,7 +17,8 @@ use Rattle.walk.specs.Gaps.{brings, ample-budget}
 use Rattle.walk.specs.Results.{AnswerKind, says-model, says-ended, says-refused, Result}
 use Rattle.walk.specs.WalkCall.{walk-call, walk-calls, last-checkpoint}
 use Rattle.walk.specs.InnerLocate.{task-call}
-use Rattle.walk.proofs.TaskLaws.{Onward, has-onward, has-ample, start-has, call-over}
+use Rattle.walk.proofs.TaskLaws.{Onward, call-over}
+use Rattle.walk.proofs.HasLaws.{has-onward, has-ample, start-has}
 use Rattle.page.specs.Pages.{ample-budgets, with-models, next-results, next-checkpoint}
 use Rattle.page.proofs.NextLaws.{next-append, next-by}
 

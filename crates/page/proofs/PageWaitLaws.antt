@@ -14,7 +14,7 @@ use Rattle.walk.specs.Gaps.{shared, ample-budget}
 use Rattle.walk.specs.Results.{says-model, says-ended, Result}
 use Rattle.walk.specs.WalkCall.{walk-call, walk-calls}
 use Rattle.walk.specs.InnerLocate.{task-call}
-use Rattle.walk.proofs.TaskLaws.{has-onward, has-ample, call-has, start-has}
+use Rattle.walk.proofs.HasLaws.{has-onward, has-ample, call-has, start-has}
 use Rattle.walk.proofs.WaitLaws.{model-mode, model-length, model-wait, start-wait}
 use Rattle.page.specs.Pages.{ample-budgets, with-models, next-results, steps-at, trail-at}
 use Rattle.page.proofs.NextLaws.{next-by}

@@ -22,6 +22,7 @@ use Rattle.walk.specs.Gaps.{ample-budget}
 use Rattle.walk.specs.WalkCall.{walk-call}
 use Rattle.walk.specs.InnerLocate.{task-call}
 use Rattle.walk.proofs.RefusalLaws.{call-declined, call-accepted, accepted-posed}
+use Rattle.walk.proofs.HasLaws.{start-has}
 use Rattle.page.specs.PageLines.{page-lines, page-size}
 use Rattle.page.specs.Pages.{next-results, next-checkpoint, line-at, joined, PageCall, accepted-variables, max-serial, page-call}
 use Rattle.page.proofs.JoinedLaws.{joined-sixty}

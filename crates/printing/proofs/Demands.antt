@@ -26,7 +26,7 @@ use Rattle.walk.specs.Task.{Task, under, to-assign}
 use Rattle.walk.specs.Checkpoints.{start}
 use Rattle.walk.specs.WalkCall.{walk-calls}
 use Rattle.walk.specs.Gaps.{gaps, step-bound, ample-budget, Paced}
-use Rattle.walk.proofs.TaskLaws.{start-has}
+use Rattle.walk.proofs.HasLaws.{start-has}
 use Rattle.walk.proofs.Demands.{under-size, demand-3, accepted-row, posed, walks, task-unassumed}
 use Rattle.printing.specs.Printed.{header, refused-line, max-models, walk-lines, acceptance-lines, printed}
 use Rattle.printing.specs.PrintedGaps.{gap-lines}

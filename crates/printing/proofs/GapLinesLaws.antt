@@ -14,7 +14,8 @@ use Rattle.walk.specs.WalkCall.{walk-call, walk-calls}
 use Rattle.walk.specs.InnerLocate.{task-call}
 use Rattle.walk.specs.Results.{AnswerKind, says-model, says-ended, Result}
 use Rattle.walk.specs.Gaps.{gap-after, gaps-from, gaps, ample-budget}
-use Rattle.walk.proofs.TaskLaws.{call-trail, has-ample, call-has}
+use Rattle.walk.proofs.TaskLaws.{call-trail}
+use Rattle.walk.proofs.HasLaws.{has-ample, call-has}
 use Rattle.printing.specs.InnerLines.{kind-lines, result-lines}
 use Rattle.printing.specs.PrintedGaps.{gap-lines}
 

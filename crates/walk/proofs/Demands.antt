@@ -40,6 +40,7 @@ use Rattle.walk.specs.Gaps.{brought, SaysEnded, Gap, to-model, so-far, g
 use Rattle.walk.specs.Proper.{Proper}
 use Rattle.walk.proofs.SharedLaws as shares
 use Rattle.walk.proofs.TaskLaws as laws
+use Rattle.walk.proofs.HasLaws as has
 use Rattle.walk.proofs.WaitLaws as waits
 use Rattle.walk.proofs.NothingLeftLaws as lefts
 use Rattle.walk.proofs.UnderLaws as unders
@@ -150,7 +151,7 @@ module _ (s : List ℕ) (us : List Assumption) (n : ℕ) (cs : List (List Litera
 
   -- and the trails in the gaps are those of the models that are brought, in order. So neighbours there are neighbours of the listing.
   pub gap-models : (bs : List ℕ) → map (λ x. assignment (map literal-of us ++ x)) (gap-trails (gaps (walk-calls s us start bs))) ≡ brought (walk-calls s us start bs)
-  gap-models bs = waits.trails-brought s us task posed walks bs start (laws.start-has s us task posed walks) 0 0
+  gap-models bs = waits.trails-brought s us task posed walks bs start (has.start-has s us task posed walks) 0 0
 
   -- S21.2: two neighbours, d steps between them: the later trail has a variable as true where the earlier has it as false, at the place where
   -- they part. So some variable is assigned behind it, and the wait is even and at least 2.

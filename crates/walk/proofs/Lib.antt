@@ -19,6 +19,7 @@ pub mod TreeLaws
 pub mod UnderLaws
 pub mod ProperLaws
 pub mod TaskLaws
+pub mod HasLaws
 pub mod WaitLaws
 pub mod NothingLeftLaws
 pub mod RefusalLaws

@@ -490,22 +490,3 @@ module _ (s : List ℕ) (us : List Assumption) (T : Task) (P : Posed T) (walks :
         none = λ x. at-models v ∙ ended-stops (tree T) alive b p (a .fine) x .1;
         over = λ x. ap shown (ended-stops (tree T) alive b p (a .fine) x .0);
       })
-
-  -- the same by the checkpoint itself
-  pub has-onward : (c : Checkpoint) (w : Has T c) (b : ℕ) → Onward (state-after T 0 (w .0)) (state-after T 0 (w .0 ++ (b ∷ []))) (walk-call s us c b)
-  has-onward c w b =
-      subst (λ (d : Checkpoint). Onward (state-after T 0 (w .0)) (state-after T 0 (w .0 ++ (b ∷ []))) (walk-call s us d b)) (w .1) (call-onward (w .0) b)
-
-  -- an ample budget brings a model or the end
-  pub has-ample : (c : Checkpoint) → Has T c → (b : ℕ) → ample-budget ≤ b → (walk-call s us c b .kind ≡ says-model) ⊎ (walk-call s us c b .kind ≡ says-ended)
-  has-ample c w b h =
-      subst (λ (d : Checkpoint). (walk-call s us d b .kind ≡ says-model) ⊎ (walk-call s us d b .kind ≡ says-ended)) (last-plain (w .0) ∙ w .1) (calls-ample (w .0) b h)
-
-  -- the walk has the checkpoint that comes back
-  pub call-has : (c : Checkpoint) → Has T c → (b : ℕ) → Has T (walk-call s us c b .checkpoint)
-  call-has c w b = (w .0 ++ (b ∷ []), has-onward c w b .returned)
-
-  -- and the start checkpoint
-  unfoldable pub start-has : Has T start
-  unfolding last-checkpoint
-  start-has = ([], sym (last-plain []))

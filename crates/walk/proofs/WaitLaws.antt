@@ -19,6 +19,7 @@ use Rattle.walk.specs.Gaps.{brings, brought, Gap, to-model, to-end, so-f
 use Rattle.walk.proofs.BudgetLaws.{calls-append}
 use Rattle.walk.proofs.PaceLaws.{PartedLater, PartedAll}
 use Rattle.walk.proofs.TaskLaws as laws
+use Rattle.walk.proofs.HasLaws as has
 
 -- ---- behind a model among gaps
 
@@ -176,7 +177,7 @@ module _ (s : List ℕ) (us : List Assumption) (T : Task) (P : Posed T) (walks :
   unfolding walk-calls
   calls-trails [] c w = tt
   calls-trails (b ∷ bs) c w =
-      (laws.call-trail s us T P walks c w b, calls-trails bs (walk-call s us c b .checkpoint) (laws.call-has s us T P walks c w b))
+      (laws.call-trail s us T P walks c w b, calls-trails bs (walk-call s us c b .checkpoint) (has.call-has s us T P walks c w b))
 
   -- past the end no call brings a model
   over-none : (bs : List ℕ) → brought (walk-calls s us (checkpoint-of 4 []) bs) ≡ []
@@ -191,7 +192,7 @@ module _ (s : List ℕ) (us : List Assumption) (T : Task) (P : Posed T) (walks :
   trails-brought [] c w k e = refl
   trails-brought (b ∷ bs) c w k e =
       let r = walk-call s us c b in
-      at (r .kind) refl (λ k′ e′. trails-brought bs (r .checkpoint) (laws.call-has s us T P walks c w b) k′ e′)
+      at (r .kind) refl (λ k′ e′. trails-brought bs (r .checkpoint) (has.call-has s us T P walks c w b) k′ e′)
     where
       at : (a : AnswerKind) → walk-call s us c b .kind ≡ a
           → ((k e : ℕ) → map (λ x. assignment (T .before ++ x)) (gap-trails (gaps-from k e (walk-calls s us (walk-call s us c b .checkpoint) bs)))
@@ -204,7 +205,7 @@ module _ (s : List ℕ) (us : List Assumption) (T : Task) (P : Posed T) (walks :
           ap₂ {C = List ℕ} (λ m ms. m ∷ ms) (ap (λ (x : List Literal). assignment (T .before ++ x)) (t .read) ∙ sym (t .model)) (ih 0 0)
       at says-spent q ih = ih _ _
       at says-refused q ih = ih _ _
-      at says-ended q ih = sym (ap (λ (d : Checkpoint). brought (walk-calls s us d bs)) (laws.has-onward s us T P walks c w b .over q) ∙ over-none bs)
+      at says-ended q ih = sym (ap (λ (d : Checkpoint). brought (walk-calls s us d bs)) (has.has-onward s us T P walks c w b .over q) ∙ over-none bs)
 
   -- ---- one call
 
