@@ -1,5 +1,5 @@
 //! What the tests and the benchmark make inputs with: random numbers that are the same in every run, encoded formulas and DIMACS
-//! texts, whole and damaged, and what else calls get.
+//! texts, whole and damaged, and what else calls get; and by what the waits of a list of calls are measured.
 
 #![forbid(unsafe_code)]
 #![deny(missing_docs)]
@@ -10,6 +10,7 @@ mod formulas;
 mod inputs;
 mod random;
 mod texts;
+mod waits;
 
 pub use assumptions::some_assumptions;
 pub use calls::{
@@ -19,3 +20,4 @@ pub use formulas::{encode, longest_path, stairs, stripped, Clauses, Stripping};
 pub use inputs::{some_accepted_formula, some_input};
 pub use random::Random;
 pub use texts::some_text;
+pub use waits::{shared, trail_in, Stop, Wait, Waits};

@@ -1,0 +1,234 @@
+//! The waits between models, to the step: over lists of walk calls, whatever their budgets, and on the lines of pages.
+
+use norwythai::{
+    page, walk, Answer, Assignment, Assumption, Checkpoint, LINE_SIZE, PAGE_LINES, PAGE_SIZE,
+};
+use norwythai_reference as reference;
+use norwythai_samples::{
+    encode, shared, some_accepted_formula, some_assumptions, some_budget, trail_in, Random, Stop,
+    Wait, Waits,
+};
+
+/// The example of the specification, S12.3: (1, 2) and (not 1, not 2).
+const EXAMPLE: &[u8] = &[1, 2, 2, 1, 2, 2, 4, 3, 1, 3, 2, 4, 5];
+
+fn is_accepted(input: &[u8]) -> bool {
+    reference::judge(input, &[], &mut [0; 96]).is_ok()
+}
+
+fn stop_of(answer: Answer) -> Stop {
+    match answer {
+        Answer::Model(_) => Stop::Model,
+        Answer::Spent => Stop::Spent,
+        Answer::Ended => Stop::Ended,
+    }
+}
+
+/// Walks from the start, with these budgets one after the other and the last of them again and again, up to the end. Gives the steps of
+/// each wait, each of them the one that the trails tell.
+fn waits_of(input: &[u8], assumptions: &[Assumption], budgets: &[u32]) -> Vec<u64> {
+    let last = budgets.last().unwrap();
+    let mut budgets = budgets.iter();
+    let mut checkpoint = Checkpoint::start();
+    let mut waits = Waits::default();
+    let mut steps = Vec::new();
+    loop {
+        let budget = *budgets.next().unwrap_or(last);
+        let walked = walk(input, assumptions, &mut checkpoint, budget).unwrap();
+        let stop = stop_of(walked.answer);
+        if let Some(wait) = waits.call(stop, walked.steps, checkpoint.as_bytes()) {
+            assert_eq!(wait.steps, wait.told);
+            steps.push(wait.steps);
+        }
+        if stop == Stop::Ended {
+            return steps;
+        }
+    }
+}
+
+#[test]
+fn the_waits_do_not_depend_on_the_budgets() {
+    let pairs = encode(3, &[vec![1, 2], vec![1, 3], vec![2, 3]]);
+    let turn = encode(2, &[vec![1, 2], vec![1, -2]]);
+    let stripped = encode(1, &[vec![1], vec![1]]);
+    let cases: [(&[u8], &[Assumption], &[u64]); 7] = [
+        (&pairs, &[], &[3, 6, 4, 2, 3]),
+        (&pairs, &[Assumption::positive(3)], &[2, 4, 2, 2]),
+        (&turn, &[], &[2, 4, 2]),
+        (&stripped, &[], &[1, 1]),
+        (EXAMPLE, &[], &[2, 4, 2]),
+        (EXAMPLE, &[Assumption::positive(1)], &[1, 1]),
+        // Nothing is left to assign.
+        (
+            EXAMPLE,
+            &[Assumption::positive(1), Assumption::negative(2)],
+            &[0, 0],
+        ),
+    ];
+    let budgets: [&[u32]; 7] = [
+        &[1],
+        &[2],
+        &[95],
+        &[96],
+        &[97],
+        &[u32::MAX],
+        &[2, 0, 7, 1, 0, 0, 3, 1],
+    ];
+    for (input, assumptions, expected) in cases {
+        for budgets in budgets {
+            let waits = waits_of(input, assumptions, budgets);
+            assert_eq!(waits, expected, "{input:?} {assumptions:?} {budgets:?}");
+        }
+    }
+}
+
+/// What was seen along some chains.
+#[derive(Debug, Default)]
+struct Seen {
+    firsts: usize,
+    between: usize,
+    ends: usize,
+    divided: usize,
+    assuming: usize,
+    nothing_left: usize,
+    stripped: usize,
+}
+
+impl Seen {
+    /// Makes calls on one input from the start, and compares each wait with the trails, and each trail with its model.
+    fn chain(
+        &mut self,
+        random: &mut Random,
+        input: &[u8],
+        assumptions: &[Assumption],
+        left: usize,
+    ) {
+        let mut checkpoint = Checkpoint::start();
+        let mut waits = Waits::default();
+        let small = random.percent(50);
+        for _ in 0..random.between(1, 60) {
+            let budget = if small {
+                random.below(8) as u32
+            } else {
+                some_budget(random)
+            };
+            let earlier = waits.trail().map(<[u8]>::to_vec);
+            let walked = walk(input, assumptions, &mut checkpoint, budget).unwrap();
+            let stop = stop_of(walked.answer);
+            let Some(wait) = waits.call(stop, walked.steps, checkpoint.as_bytes()) else {
+                continue;
+            };
+            assert_eq!(wait.steps, wait.told, "{input:02x?} {assumptions:?}");
+            self.divided += usize::from(wait.calls > 1);
+            if let Answer::Model(model) = walked.answer {
+                self.model(model, checkpoint.as_bytes(), earlier.as_deref(), wait, left);
+            } else {
+                assert_eq!(wait.steps, left as u64);
+                self.ends += 1;
+            }
+        }
+    }
+
+    /// A model, with the checkpoint that came with it and the trail of the one before.
+    fn model(
+        &mut self,
+        model: Assignment,
+        checkpoint: &[u8; Checkpoint::LENGTH],
+        earlier: Option<&[u8]>,
+        wait: Wait,
+        left: usize,
+    ) {
+        let later = trail_in(checkpoint);
+        assert_eq!((checkpoint[0], later.len()), (1, left));
+        for byte in later {
+            let bit = model.bits() >> ((byte & 127) - 1) & 1;
+            assert_eq!(bit == 1, *byte > 128);
+        }
+        let Some(earlier) = earlier else {
+            assert_eq!(wait.steps, left as u64);
+            self.firsts += 1;
+            return;
+        };
+        // Where they part, the variable was false and is true.
+        let parting = shared(earlier, later);
+        assert_eq!(later[parting], earlier[parting] + 128);
+        assert!(wait.steps >= 2 && wait.steps.is_multiple_of(2) && wait.steps <= 2 * left as u64);
+        self.between += 1;
+    }
+}
+
+#[test]
+fn along_ten_thousand_chains_the_waits_are_those_of_the_trails() {
+    let mut random = Random::new(8);
+    let mut seen = Seen::default();
+    let mut chains = 0;
+    while chains < 10_000 {
+        let input = some_accepted_formula(&mut random, is_accepted);
+        let mut list = some_assumptions(&mut random, &input);
+        let mut row = [0; 96];
+        let assumed: Vec<reference::Assumption> = list.iter().map(|a| (*a).into()).collect();
+        if reference::judge(&input, &assumed, &mut row).is_err() {
+            list.clear();
+            reference::judge(&input, &[], &mut row).unwrap();
+        }
+        let left = usize::from(input[1]) - list.len();
+        let assumptions: Vec<Assumption> = list
+            .iter()
+            .map(|(variable, value)| Assumption {
+                variable: *variable,
+                value: *value,
+            })
+            .collect();
+        seen.chain(&mut random, &input, &assumptions, left);
+        seen.assuming += usize::from(!list.is_empty());
+        seen.nothing_left += usize::from(left == 0);
+        seen.stripped += usize::from(row.iter().any(|byte| *byte > 128));
+        chains += 1;
+    }
+    println!("{chains} chains: {seen:?}");
+    assert!(seen.firsts > 8_000 && seen.between > 20_000 && seen.ends > 1_000);
+    assert!(seen.divided > 10_000 && seen.assuming > 2_000);
+    assert!(seen.nothing_left > 100 && seen.stripped > 500);
+}
+
+/// The steps on the lines of a page.
+fn steps_on(page: &[u8; PAGE_SIZE], lines: usize) -> Vec<u64> {
+    page.chunks(LINE_SIZE)
+        .take(lines)
+        .map(|line| {
+            let steps = std::str::from_utf8(&line[56..59]).unwrap();
+            steps.trim().parse().unwrap()
+        })
+        .collect()
+}
+
+#[test]
+fn the_lines_of_pages_have_the_waits() {
+    let mut random = Random::new(9);
+    let (mut lines, mut later) = (0, 0);
+    while lines < 20_000 {
+        let input = some_accepted_formula(&mut random, is_accepted);
+        // Two pages from the start: the second begins at the checkpoint of a model, the last of the first.
+        let mut paged = Checkpoint::start();
+        let mut walked = Checkpoint::start();
+        let mut waits = Waits::default();
+        for number in 0..2 {
+            let mut text = [0; PAGE_SIZE];
+            let filled = page(&input, &[], &mut paged, 1, &mut text).unwrap().lines;
+            for steps in steps_on(&text, filled) {
+                let call = walk(&input, &[], &mut walked, 96).unwrap();
+                let wait = waits
+                    .call(stop_of(call.answer), call.steps, walked.as_bytes())
+                    .unwrap();
+                assert_eq!(steps, wait.told, "{input:02x?}");
+                lines += 1;
+                later += number;
+            }
+            if filled < PAGE_LINES {
+                break;
+            }
+        }
+    }
+    println!("{lines} lines, {later} of them on second pages");
+    assert!(later > 1_000);
+}
