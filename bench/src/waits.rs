@@ -1,10 +1,11 @@
-//! How long one waits for the next model, in steps and in expansions, beside the proved bounds.
+//! How long one waits for the next model, in steps and in expansions, beside what is proved of it.
 
 use crate::families::{Case, FAMILIES};
 use crate::listers::{Lister, Proved};
 use crate::measure::{BUDGET, START};
 use crate::table::{count_text, print_table, row};
 use norwythai_reference::{decode, Answer, Walker};
+use norwythai_samples::{Stop, Waits};
 
 /// The walk of a formula is followed for so many models.
 const MODELS: usize = 10_000;
@@ -14,7 +15,7 @@ const ASKED: usize = 20;
 
 /// The longest that was seen. Those for the first model and for the end count, too.
 #[derive(Clone, Copy, Default)]
-struct Waits {
+struct Longest {
     models: u64,
     /// The steps of all waits.
     all_steps: u64,
@@ -27,9 +28,9 @@ struct Waits {
     choice: u64,
 }
 
-impl Waits {
-    fn longer(self, other: Waits) -> Self {
-        Waits {
+impl Longest {
+    fn longer(self, other: Longest) -> Self {
+        Longest {
             models: self.models + other.models,
             all_steps: self.all_steps + other.all_steps,
             first: self.first.max(other.first),
@@ -39,7 +40,7 @@ impl Waits {
         }
     }
 
-    fn within(&self, bounds: &Waits) -> bool {
+    fn within(&self, bounds: &Longest) -> bool {
         self.first == bounds.first
             && self.steps <= bounds.steps
             && self.expansions <= bounds.expansions
@@ -47,11 +48,11 @@ impl Waits {
     }
 }
 
-/// What is proved for so many variables to assign and so many clauses: the first model comes after exactly n steps, the others are at
-/// most 2 n apart.
-fn bounds(case: &Case) -> Waits {
+/// What is proved for so many variables to assign and so many clauses, whatever the trails are: the first model comes after exactly n steps,
+/// and no two are more than 2 n apart.
+fn bounds(case: &Case) -> Longest {
     let (n, m) = (case.left_to_assign() as u64, case.clauses as u64);
-    Waits {
+    Longest {
         models: 0,
         all_steps: 0,
         first: n,
@@ -95,16 +96,22 @@ fn next_wait(walker: &mut Walker) -> Wait {
     }
 }
 
-/// The waits of a formula: counted by the reference, whose steps can be made one by one, and asked of the library.
-fn waits_of(case: &Case) -> Waits {
+/// The waits of a formula: counted by the reference, whose steps can be made one by one, compared with those that the trails tell, and
+/// asked of the library.
+fn waits_of(case: &Case) -> Longest {
     let mut formula = decode(&case.input).expect("a formula");
     let assumed = formula.assume(&case.assumptions.rust);
     let assumed = assumed.expect("good assumptions");
     let mut walker = Walker::start(&formula, assumed).expect("an accepted formula");
     let mut checkpoint = START;
-    let mut longest = Waits::default();
+    let mut longest = Longest::default();
+    let mut waits = Waits::default();
     for index in 0..MODELS {
         let wait = next_wait(&mut walker);
+        let stop = wait.model.map_or(Stop::Ended, |_| Stop::Model);
+        let exact = waits.call(stop, wait.steps, &walker.checkpoint());
+        let exact = exact.expect("a model or the end").told;
+        assert_eq!(u64::from(wait.steps), exact, "{}", case.name);
         if index < ASKED {
             let walked = Proved.walk(&case.input, &case.assumptions, &mut checkpoint, BUDGET);
             let walked = walked.expect("a checkpoint of the walk");
@@ -115,7 +122,7 @@ fn waits_of(case: &Case) -> Waits {
                 case.name
             );
         }
-        longest = longest.longer(Waits {
+        longest = longest.longer(Longest {
             models: wait.model.is_some().into(),
             all_steps: wait.steps.into(),
             first: if index == 0 { wait.steps.into() } else { 0 },
@@ -135,11 +142,11 @@ fn waits_row(title: &str, cases: &[Case]) -> Vec<String> {
     let seen = cases
         .iter()
         .map(waits_of)
-        .fold(Waits::default(), Waits::longer);
+        .fold(Longest::default(), Longest::longer);
     let bounds = cases
         .iter()
         .map(bounds)
-        .fold(Waits::default(), Waits::longer);
+        .fold(Longest::default(), Longest::longer);
     let beside = |seen, bound| format!("{} of {}", count_text(seen), count_text(bound));
     row(&[
         title,

@@ -224,7 +224,8 @@ pub enum Answer {
 pub struct Walked {
     /// What stopped it.
     pub answer: Answer,
-    /// The steps that it made: each assigns a variable or undoes the last assigned one.
+    /// The steps that it made: each assigns a variable or undoes the last assigned one. How many lead to the next model: see
+    /// [`walk`](walk#waits).
     pub steps: u32,
     /// The clauses taken off the queues of all matchings that were tried in choosing variables.
     pub expansions: u64,
@@ -250,6 +251,36 @@ pub struct Walked {
 /// let walked = walk(&input, &all, &mut checkpoint, 0)?;
 /// assert_eq!(walked.answer, Answer::Model(Assignment::from_bits(0b01)));
 /// assert_eq!(walk(&input, &all, &mut checkpoint, 0)?.answer, Answer::Ended);
+/// # Ok::<(), norwythai::Refusal>(())
+/// ```
+///
+/// # Waits
+///
+/// How many steps lie between two models is known exactly, however the budgets divide them over calls. With n variables that are not
+/// assumed, the first model comes after n steps, and the end n steps after the last model. Between two neighbours it is twice the number
+/// of variables that are assigned after the longest beginning that their trails share. A model's trail stands in the checkpoint that comes
+/// with it, behind mode and length: n bytes, a variable each in the order of assignment, and 128 more if it is true. Nobody knows the next
+/// trail before the walk has come to it. So a display that counts down to the next model asks on a copy of the checkpoint how many steps
+/// are still to come:
+///
+/// ```
+/// use norwythai::{walk, Answer, Checkpoint};
+///
+/// let input = [1, 3, 2, 1, 2, 2, 4, 2, 1, 2, 3, 4, 2, 2, 2, 3, 4, 5]; // (1, 2) (1, 3) (2, 3)
+/// let mut checkpoint = Checkpoint::start();
+/// assert_eq!(walk(&input, &[], &mut checkpoint, 96)?.steps, 3);
+/// let earlier = checkpoint;
+///
+/// // Four steps are made towards the second model, and two are to come.
+/// let walked = walk(&input, &[], &mut checkpoint, 4)?;
+/// assert_eq!((walked.answer, walked.steps), (Answer::Spent, 4));
+/// let mut later = checkpoint;
+/// assert_eq!(walk(&input, &[], &mut later, 96)?.steps, 2);
+///
+/// // Variable 3 is assigned first, and was false: the trails share nothing.
+/// assert_eq!(earlier.as_bytes()[2..5], [3, 128 + 2, 128 + 1]);
+/// assert_eq!(later.as_bytes()[2..5], [128 + 3, 2, 128 + 1]);
+/// assert_eq!(4 + 2, 2 * (3 - 0));
 /// # Ok::<(), norwythai::Refusal>(())
 /// ```
 pub fn walk(
@@ -342,9 +373,10 @@ impl Paged {
 
 /// Writes the next models of an accepted formula as a page for the notice board: [`PAGE_LINES`] lines of text in the first
 /// [`PAGE_SIZE`](crate::PAGE_SIZE) bytes of the slice, of which it must have that many. A line has the model's serial, a digit for each
-/// variable in 48 columns, and the steps from the line before to it, on the first line from the checkpoint; a blank stands between two
-/// of these, and a line feed at the end. The first line has the given serial, which is 1 to [`MAX_SERIAL`](crate::MAX_SERIAL), and each
-/// other one a serial that is one above that of the line before. Lines without a model are blank.
+/// variable in 48 columns, and the steps from the line before to it, which are those of [`walk`](walk#waits), on the first line from the
+/// checkpoint; a blank stands between two of these, and a line feed at the end. The first line has the given serial, which is 1 to
+/// [`MAX_SERIAL`](crate::MAX_SERIAL), and each other one a serial that is one above that of the line before. Lines without a model are
+/// blank.
 ///
 /// The checkpoint becomes the one to go on from, under the same assumptions, as after [`walk`] calls with a budget of 96. The bytes
 /// behind the page stay as they are; at a refusal all do, and the checkpoint, too.

@@ -29,7 +29,8 @@ impl Checkpoint {
         Checkpoint(ffi::start())
     }
 
-    /// A checkpoint from its bytes: mode, length, and a byte for each assigned variable, else 0.
+    /// A checkpoint from its bytes: mode, length, and the trail, a byte for each assigned variable in order, its number and 128 more if it
+    /// is true; else 0.
     pub fn from_bytes(bytes: [u8; Checkpoint::LENGTH]) -> Self {
         Checkpoint(bytes)
     }

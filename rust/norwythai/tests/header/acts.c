@@ -187,6 +187,34 @@ static int test_walk(void) {
     return 0;
 }
 
+/* (1, 2) (1, 3) (2, 3) */
+static const uint8_t PAIRS[] = {1, 3, 2, 1, 2, 2, 4, 2, 1, 2, 3, 4, 2, 2, 2, 3, 4, 5};
+
+/* The steps to each model and to the end, summed over calls of one budget, beside what the trails tell. */
+static int test_waits(uint32_t budget) {
+    const uint8_t byte = 0;
+    uint8_t checkpoint[NORWYTHAI_CHECKPOINT], earlier[NORWYTHAI_CHECKPOINT] = {0};
+    uint64_t results[NORWYTHAI_RESULTS], steps = 0, models = 0;
+
+    REQUIRE(norwythai_start(checkpoint, sizeof checkpoint) == 0);
+    do {
+        REQUIRE(norwythai_walk(PAIRS, sizeof PAIRS, &byte, 0, checkpoint, sizeof checkpoint, budget, results, NORWYTHAI_RESULTS) == 0);
+        steps += results[4];
+        if (results[0] == NORWYTHAI_MODEL) {
+            uint64_t shared = 0;
+            while (shared < 3 && earlier[2 + shared] == checkpoint[2 + shared])
+                shared++;
+            REQUIRE(checkpoint[0] == 1 && checkpoint[1] == 3);
+            REQUIRE(steps == (models == 0 ? 3 : 2 * (3 - shared)));
+            memcpy(earlier, checkpoint, sizeof earlier);
+            models++;
+            steps = 0;
+        }
+    } while (results[0] != NORWYTHAI_ENDED);
+    REQUIRE(steps == 3 && models == 4);
+    return 0;
+}
+
 static int test_list(void) {
     const uint8_t byte = 0;
     uint8_t checkpoint[NORWYTHAI_CHECKPOINT], before[NORWYTHAI_CHECKPOINT];
@@ -405,6 +433,7 @@ static int test_lengths(void) {
 
 int main(void) {
     return test_check() || test_judge() || test_judge_by_stripping() || test_judge_under_assumptions() || test_weigh() ||
-           test_walk() || test_list() || test_list_by_stripping() || test_walk_under_assumptions() || test_all_assumed() ||
+           test_walk() || test_waits(1) || test_waits(4) || test_waits(96) || test_list() || test_list_by_stripping() ||
+           test_walk_under_assumptions() || test_all_assumed() ||
            test_page() || test_refused_page() || test_from_dimacs() || test_to_dimacs() || test_lengths();
 }
