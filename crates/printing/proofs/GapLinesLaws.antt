@@ -12,7 +12,7 @@ use Rattle.walk.specs.Checkpoints.{Checkpoint, trail-in}
 use Rattle.walk.specs.PlainMachine.{Has}
 use Rattle.walk.specs.WalkCall.{walk-call, walk-calls}
 use Rattle.walk.specs.InnerLocate.{task-call}
-use Rattle.walk.specs.Results.{AnswerKind, says-model, says-ended, Result}
+use Rattle.walk.specs.Results.{says-model, says-ended, Result}
 use Rattle.walk.specs.Gaps.{gap-after, gaps-from, gaps, ample-budget}
 use Rattle.walk.proofs.TaskLaws.{call-trail}
 use Rattle.walk.proofs.HasLaws.{has-ample, call-has}

@@ -41,7 +41,7 @@ use Rattle.walk.proofs.ListingLaws.{walk-lists, walk-distinct, node-mod
 use Rattle.walk.proofs.CallLaws.{HandedOut, call-effect, resumes, last-position, results, brought-first, brought-all, never-spent, over-stops, resume-within, spent-all, models-next, model-full, model-mode, ended-stops}
 use Rattle.walk.proofs.LoopLaws.{loop-over}
 use Rattle.walk.proofs.CostLaws.{walk-cheap}
-use Rattle.walk.proofs.PaceLaws.{PartedLater, PartedAll, pace, pace-full}
+use Rattle.walk.proofs.PaceLaws.{PartedAll, pace, pace-full}
 use Rattle.walk.proofs.MetLaws.{start-stops, down-spent, all-got}
 use Rattle.walk.proofs.AcceptLaws.{stack-replayed, shown-bytes, shown-trail, shown-position, call-shown, accepted-stopped, stopped-accepted}
 use Rattle.walk.proofs.ProperLaws.{stop-proper, proper-stop}

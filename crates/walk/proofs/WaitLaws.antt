@@ -1,8 +1,8 @@
 -- The gaps of a list of calls: where models are neighbours, and one call more.
-use Prim.Native.Nat.{ℕ, suc, _+_, _*_, _-_, _≤_, _<_}
+use Prim.Native.Nat.{ℕ, _+_, _*_, _-_, _≤_, _<_}
 use mathlib.Core.List.{List, [], _∷_, _++_, append-assoc, map}
 use mathlib.Core.Logic.{_⊎_, inl, inr}
-use mathlib.Core.Path.{_≡_, refl, sym, ap, ap₂, _∙_, subst}
+use mathlib.Core.Path.{_≡_, refl, sym, ap, ap₂, _∙_}
 use native.Mathlib.Omega.{arith}
 use lib.ListN.{length, length-append, length-drop}
 use Rattle.lists.specs.Every.{Every}
@@ -31,7 +31,7 @@ module _ (n B : ℕ) where
   later-behind (so-far d f ∷ gs) hs c e x y p = later-behind gs hs c e x y (p .2)
 
   -- the waits behind a model
-  pub paced-behind : (gs hs : List Gap) (c e : ℕ) (y : List Literal) → Paced n B (gs ++ (to-model c e y ∷ hs)) → PacedLater n B y hs
+  paced-behind : (gs hs : List Gap) (c e : ℕ) (y : List Literal) → Paced n B (gs ++ (to-model c e y ∷ hs)) → PacedLater n B y hs
   paced-behind [] hs c e y p = p .2
   paced-behind (to-model d f z ∷ gs) hs c e y p = later-behind gs hs c e z y (p .2)
   paced-behind (to-end d f ∷ gs) hs c e y p = absurd p
@@ -44,7 +44,7 @@ later-parted (to-end d f ∷ gs) hs c e x y p = later-parted gs hs c e x y p
 later-parted (so-far d f ∷ gs) hs c e x y p = later-parted gs hs c e x y p
 
 -- where the trails behind it part
-pub parted-behind : (gs hs : List Gap) (c e : ℕ) (y : List Literal) → PartedAll (gs ++ (to-model c e y ∷ hs)) → PartedLater y hs
+parted-behind : (gs hs : List Gap) (c e : ℕ) (y : List Literal) → PartedAll (gs ++ (to-model c e y ∷ hs)) → PartedLater y hs
 parted-behind [] hs c e y p = p
 parted-behind (to-model d f z ∷ gs) hs c e y p = later-parted gs hs c e z y p
 parted-behind (to-end d f ∷ gs) hs c e y p = parted-behind gs hs c e y p
@@ -57,11 +57,11 @@ parting-some x y p = omega (arith, ap length (p .has .1), length-drop (shared x 
 -- ---- one call more
 
 -- an open gap, and a result behind it
-abbrev pub then : ℕ → ℕ → Result → List Gap
+abbrev then : ℕ → ℕ → Result → List Gap
 then c e r = gap-after (r .kind) (c + r .steps) (e + r .expansions) (trail-in (r .checkpoint)) (λ c′ e′. so-far c′ e′ ∷ [])
 
 -- the gaps of results whose last gap is open, and of one more
-pub gaps-more : (rs : List Result) (r : Result) (c e d f : ℕ) (gs : List Gap) → gaps-from c e rs ≡ gs ++ (so-far d f ∷ []) → gaps-from c e (rs ++ (r ∷ [])) ≡ gs ++ then d f r
+gaps-more : (rs : List Result) (r : Result) (c e d f : ℕ) (gs : List Gap) → gaps-from c e rs ≡ gs ++ (so-far d f ∷ []) → gaps-from c e (rs ++ (r ∷ [])) ≡ gs ++ then d f r
 unfolding gaps-from
 gaps-more [] r c e d f [] h = let p : c ≡ d = cc in let q : e ≡ f = cc in rw (p, q) refl
 gaps-more [] r c e d f (g ∷ []) h = let z : _≡_ {A = ℕ} 0 1 = cc in absurd (omega arith)
@@ -94,7 +94,7 @@ brought-append (r ∷ rs) ts =
 
 module _ (s : List ℕ) (us : List Assumption) (T : Task) (P : Posed T) (walks : (c : Checkpoint) (b : ℕ) → walk-call s us c b ≡ task-call T c b) where
   -- what two neighbours are: the wait between them, and where their trails part
-  abbrev pub Apart : ℕ → List Literal → List Literal → Type 0
+  abbrev Apart : ℕ → List Literal → List Literal → Type 0
   Apart d x y = (d ≡ 2 * (length y - shared x y)) × Parting x y
 
   -- the gaps of a list of calls
