@@ -20,7 +20,7 @@ pub record Checkpoint : Type 0 where
 abbrev pub byte : Literal → ℕ
 byte l = cond (l .positive) (l .variable + 1 + 128) (l .variable + 1)
 
--- a byte's variable, from 1, and its value; and so its literal
+-- and back: a byte's variable, from 1, and its value; and so its literal
 abbrev pub byte-number : ℕ → ℕ
 byte-number x = cond (leb 128 x) (x - 128) x
 
@@ -30,7 +30,7 @@ byte-value x = leb 128 x
 abbrev pub byte-literal : ℕ → Literal
 byte-literal x = record { variable = byte-number x - 1; positive = byte-value x }
 
--- the trail in a checkpoint: the literals of its first `length` bytes
+-- S21.1: the trail in a checkpoint: the literals of its first `length` bytes
 unfoldable pub trail-in : Checkpoint → List Literal
 trail-in c = map byte-literal (take (c .length) (c .bytes))
 
