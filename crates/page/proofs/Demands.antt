@@ -25,7 +25,7 @@ use Rattle.walk.specs.Plain.{plain-walk, models-of, listing}
 use Rattle.walk.specs.Checkpoints.{Checkpoint, trail-in, checkpoint-of, start}
 use Rattle.walk.specs.PlainMachine.{ended, state-after, Has}
 use Rattle.walk.specs.Results.{says-model, says-ended, says-refused, Result}
-use Rattle.walk.specs.Gaps.{shared, ample-budget}
+use Rattle.walk.specs.Gaps.{ModelTrail, shared, ample-budget}
 use Rattle.walk.specs.WalkCall.{walk-call, walk-calls}
 use Rattle.walk.specs.InnerLocate.{task-call}
 use Rattle.walk.proofs.TaskLaws.{answer-unrefused}
@@ -162,8 +162,12 @@ module _ (s : List ℕ) (us : List Assumption) (n : ℕ) (cs : List (List Litera
     pub page-has : Has task (next-checkpoint s us c k)
     page-has = nexts.nexts s us task posed walks k c w .has
 
-    -- S21.4: from the second line on the steps on a line (`line-told`) are the wait between its model and that of the line before: twice the
-    -- variables that are assigned after the longest beginning that their trails share.
+    -- S21.1: each of its results has the trail of its model,
+    pub page-trails : Every (λ r. (x : List Literal) × ModelTrail task r x) (next-results s us c k)
+    page-trails = waits.next-trails s us task posed walks k c w
+
+    -- S21.4: and from the second line on the steps on a line (`line-told`) are the wait between its model and that of the line before: twice
+    -- the variables that are assigned after the longest beginning that their trails share.
     pub page-waits : (i : ℕ) → suc i < length (next-results s us c k)
         → (let rs = next-results s us c k in steps-at rs (suc i) ≡ 2 * (length (trail-at rs (suc i)) - shared (trail-at rs i) (trail-at rs (suc i))))
     page-waits = waits.waits-between s us task posed walks c w k
@@ -173,9 +177,20 @@ module _ (s : List ℕ) (us : List Assumption) (n : ℕ) (cs : List (List Litera
         → (let rs = next-results s us c k in steps-at rs 0 ≡ 2 * (length (trail-at rs 0) - shared (trail-in c) (trail-at rs 0)))
     page-wait-first m l h = waits.wait-first s us task posed walks c w m l k h
 
-  -- and from the start the first line has as many steps as there are variables to assign.
+  -- from the start the first line has as many steps as there are variables to assign.
   pub page-wait-start : (k : ℕ) → 0 < length (next-results s us start k) → steps-at (next-results s us start k) 0 ≡ to-assign task
   page-wait-start = waits.wait-start s us task posed walks
+
+  -- So stand the bytes of every line but the first of a page that is not refused.
+  pub page-line-waits : (c : Checkpoint) → Has task c → (serial : ℕ) (before : List ℕ) → page-call s us c serial before .answer .number ≡ 0 → (i : ℕ) → suc i < page-lines
+      → (let rs = next-results s us c page-lines in suc i < length rs
+      → take line-size (drop (line-size * suc i) (page-call s us c serial before .page))
+      ≡ page-line (serial + suc i) n (getD (map (λ r. r .model) rs) (suc i) 0) (2 * (length (trail-at rs (suc i)) - shared (trail-at rs i) (trail-at rs (suc i)))))
+  page-line-waits c w serial before h i l m =
+      let rs = next-results s us c page-lines in
+      line-stands s us c serial before h (suc i) l
+      ∙ line-told (accepted-variables (acceptance s us)) serial rs (suc i) m
+      ∙ rw (page-variables, page-waits c w page-lines i m)
 
   -- S19.2: such a page is written;
   pub page-filled : (c : Checkpoint) → Has task c → (serial : ℕ) (before : List ℕ) → page-size ≤ length before → 0 < serial → serial ≤ max-serial

@@ -5,17 +5,19 @@ use mathlib.Core.Logic.{_⊎_, inl, inr}
 use mathlib.Core.Path.{_≡_, ap, _∙_}
 use native.Mathlib.Omega.{arith}
 use lib.ListN.{length}
+use Rattle.lists.specs.Every.{Every}
 use Rattle.formula.specs.Format.{Literal}
 use Rattle.assumptions.specs.declared.Assumption.{Assumption}
 use Rattle.walk.specs.Task.{Task, to-assign, Posed}
 use Rattle.walk.specs.Checkpoints.{Checkpoint, trail-in, start}
 use Rattle.walk.specs.PlainMachine.{Has}
-use Rattle.walk.specs.Gaps.{shared, ample-budget}
+use Rattle.walk.specs.Gaps.{ModelTrail, shared, ample-budget}
 use Rattle.walk.specs.Results.{says-model, says-ended, Result}
 use Rattle.walk.specs.WalkCall.{walk-call, walk-calls}
 use Rattle.walk.specs.InnerLocate.{task-call}
+use Rattle.walk.proofs.TaskLaws.{call-trail}
 use Rattle.walk.proofs.HasLaws.{has-onward, has-ample, call-has, start-has}
-use Rattle.walk.proofs.WaitLaws.{model-mode, model-length, model-wait, start-wait}
+use Rattle.walk.proofs.WaitLaws.{model-length, model-wait, start-wait}
 use Rattle.page.specs.Pages.{ample-budgets, with-models, next-results, steps-at, trail-at}
 use Rattle.page.proofs.NextLaws.{next-by}
 use Rattle.page.proofs.NextModelLaws.{end-results}
@@ -31,19 +33,12 @@ AfterFirst [] = Unit {0}
 AfterFirst (r ∷ rs) = After (trail-in (r .checkpoint)) rs
 
 -- by index
-after-at : (x : List Literal) (rs : List Result) (i : ℕ) → After x rs → suc i < length rs
-    → steps-at rs (suc i) ≡ 2 * (length (trail-at rs (suc i)) - shared (trail-at rs i) (trail-at rs (suc i)))
-after-at x [] i a h = absurd (omega arith)
-after-at x (r ∷ []) i a h = absurd (omega arith)
-after-at x (r ∷ (q ∷ rs)) zero a h = a .1 .0
-after-at x (r ∷ (q ∷ rs)) (suc i) a h = after-at (trail-in (r .checkpoint)) (q ∷ rs) i (a .1) (omega arith)
-
 first-at : (rs : List Result) (i : ℕ) → AfterFirst rs → suc i < length rs
     → steps-at rs (suc i) ≡ 2 * (length (trail-at rs (suc i)) - shared (trail-at rs i) (trail-at rs (suc i)))
 first-at [] i a h = absurd (omega arith)
 first-at (r ∷ []) i a h = absurd (omega arith)
 first-at (r ∷ (q ∷ rs)) zero a h = a .0
-first-at (r ∷ (q ∷ rs)) (suc i) a h = after-at (trail-in (r .checkpoint)) (q ∷ rs) i a (omega arith)
+first-at (r ∷ (q ∷ rs)) (suc i) a h = first-at (q ∷ rs) i (a .1) (omega arith)
 
 module _ (s : List ℕ) (us : List Assumption) (T : Task) (P : Posed T) (walks : (c : Checkpoint) (b : ℕ) → walk-call s us c b ≡ task-call T c b) where
   -- the results from a checkpoint that the walk has: the first one's call, and those behind it; or none
@@ -61,10 +56,10 @@ module _ (s : List ℕ) (us : List Assumption) (T : Task) (P : Posed T) (walks :
           ∙ end-results s us T P walks k)
 
   -- from the checkpoint of a model
-  after-model : (k : ℕ) (c : Checkpoint) → Has T c → c .mode ≡ 1 → c .length ≡ to-assign T → After (trail-in c) (next-results s us c k)
+  waits-after : (k : ℕ) (c : Checkpoint) → Has T c → c .mode ≡ 1 → c .length ≡ to-assign T → After (trail-in c) (next-results s us c k)
   unfolding ample-budgets walk-calls with-models
-  after-model zero c w m l = tt
-  after-model (suc k) c w m l = at (results-first c w k) (λ e. after-model k _ (call-has s us T P walks c w ample-budget) (model-mode s us T P walks c w ample-budget e) (model-length s us T P walks c w ample-budget e))
+  waits-after zero c w m l = tt
+  waits-after (suc k) c w m l = at (results-first c w k) (λ e. waits-after k _ (call-has s us T P walks c w ample-budget) (has-onward s us T P walks c w ample-budget .mode e) (model-length s us T P walks c w ample-budget e))
     where
       r : Result
       r = walk-call s us c ample-budget
@@ -74,7 +69,21 @@ module _ (s : List ℕ) (us : List Assumption) (T : Task) (P : Posed T) (walks :
       at (inl (e, q)) ih = rw q (model-wait s us T P walks c w m l ample-budget e, ih e)
       at (inr q) ih = rw q tt
 
-  -- from any checkpoint that the walk has: behind the first result
+  -- from any checkpoint that the walk has: the results have the trails of their models,
+  pub next-trails : (k : ℕ) (c : Checkpoint) → Has T c → Every (λ r. (x : List Literal) × ModelTrail T r x) (next-results s us c k)
+  unfolding ample-budgets walk-calls with-models
+  next-trails zero c w = tt
+  next-trails (suc k) c w = at (results-first c w k) (next-trails k (walk-call s us c ample-budget .checkpoint) (call-has s us T P walks c w ample-budget))
+    where
+      r : Result
+      r = walk-call s us c ample-budget
+
+      at : ((r .kind ≡ says-model) × (next-results s us c (suc k) ≡ r ∷ next-results s us (r .checkpoint) k)) ⊎ (next-results s us c (suc k) ≡ [])
+          → Every (λ r. (x : List Literal) × ModelTrail T r x) (next-results s us (r .checkpoint) k) → Every (λ r. (x : List Literal) × ModelTrail T r x) (next-results s us c (suc k))
+      at (inl (e, q)) ih = rw q (call-trail s us T P walks c w ample-budget e, ih)
+      at (inr q) ih = rw q tt
+
+  -- and the waits behind the first
   after-first : (k : ℕ) (c : Checkpoint) → Has T c → AfterFirst (next-results s us c k)
   unfolding ample-budgets walk-calls with-models
   after-first zero c w = tt
@@ -86,7 +95,7 @@ module _ (s : List ℕ) (us : List Assumption) (T : Task) (P : Posed T) (walks :
       at : ((r .kind ≡ says-model) × (next-results s us c (suc k) ≡ r ∷ next-results s us (r .checkpoint) k)) ⊎ (next-results s us c (suc k) ≡ [])
           → AfterFirst (next-results s us c (suc k))
       at (inl (e, q)) =
-          rw q (after-model k (r .checkpoint) (call-has s us T P walks c w ample-budget) (model-mode s us T P walks c w ample-budget e) (model-length s us T P walks c w ample-budget e))
+          rw q (waits-after k (r .checkpoint) (call-has s us T P walks c w ample-budget) (has-onward s us T P walks c w ample-budget .mode e) (model-length s us T P walks c w ample-budget e))
       at (inr q) = rw q tt
 
   -- so it is on every line but the first,
@@ -97,7 +106,7 @@ module _ (s : List ℕ) (us : List Assumption) (T : Task) (P : Posed T) (walks :
   -- on the first if the checkpoint is that of a model,
   pub wait-first : (c : Checkpoint) → Has T c → c .mode ≡ 1 → c .length ≡ to-assign T → (k : ℕ) → 0 < length (next-results s us c k)
       → (let rs = next-results s us c k in steps-at rs 0 ≡ 2 * (length (trail-at rs 0) - shared (trail-in c) (trail-at rs 0)))
-  wait-first c w m l k h = at (next-results s us c k) (after-model k c w m l) h
+  wait-first c w m l k h = at (next-results s us c k) (waits-after k c w m l) h
     where
       at : (rs : List Result) → After (trail-in c) rs → 0 < length rs → steps-at rs 0 ≡ 2 * (length (trail-at rs 0) - shared (trail-in c) (trail-at rs 0))
       at [] a h = absurd (omega arith)

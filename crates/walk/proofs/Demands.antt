@@ -36,7 +36,7 @@ use Rattle.walk.specs.WalkCall.{call-on, walk-call, walk-calls, last-che
 use Rattle.walk.specs.WithoutAssumptions.{plain-call-on}
 use Rattle.walk.specs.InnerLocate.{task-call}
 use Rattle.walk.specs.Results.{says-model, says-spent, says-ended, says-refused, Result, answered, refusing, plain-result}
-use Rattle.walk.specs.Gaps.{brought, SaysEnded, Gap, to-model, so-far, gaps, gap-trails, TrailOf, shared, Longest, Parting, step-bound, ample-budget, PacedLater, Paced}
+use Rattle.walk.specs.Gaps.{brought, SaysEnded, Gap, to-model, so-far, gaps, gap-trails, ModelTrail, shared, Longest, Parting, step-bound, ample-budget, PacedLater, Paced}
 use Rattle.walk.specs.Proper.{Proper}
 use Rattle.walk.proofs.SharedLaws as shares
 use Rattle.walk.proofs.TaskLaws as laws
@@ -146,7 +146,7 @@ module _ (s : List ℕ) (us : List Assumption) (n : ℕ) (cs : List (List Litera
 
   -- S21.1: the trail of every model that calls bring, from the start or from any other checkpoint that the walk has, is that in the
   -- checkpoint which comes back with it;
-  pub model-trails : (bs : List ℕ) (c : Checkpoint) → Has task c → Every (λ r. r .kind ≡ says-model → (x : List Literal) × TrailOf task r x) (walk-calls s us c bs)
+  pub model-trails : (bs : List ℕ) (c : Checkpoint) → Has task c → Every (λ r. r .kind ≡ says-model → (x : List Literal) × ModelTrail task r x) (walk-calls s us c bs)
   model-trails = waits.calls-trails s us task posed walks
 
   -- and the trails in the gaps are those of the models that are brought, in order. So neighbours there are neighbours of the listing.
@@ -158,7 +158,7 @@ module _ (s : List ℕ) (us : List Assumption) (n : ℕ) (cs : List (List Litera
   pub neighbours : (bs : List ℕ) (gs hs : List Gap) (c e d f : ℕ) (x y : List Literal) → gaps (walk-calls s us start bs) ≡ gs ++ (to-model c e x ∷ to-model d f y ∷ hs)
       → (d ≡ 2 * (length y - shared x y)) × Parting x y × (0 < length y - shared x y) × (2 ≤ d)
   neighbours bs gs hs c e d f x y h =
-      let w = waits.neighbours s us task posed walks bs gs hs c e d f x y h in
+      let w = waits.next-waited s us task posed walks bs gs hs c e d f x y h in
       let z = waits.parting-some x y (w .1) in
       (w .0, w .1, z, omega (arith, w .0))
 
@@ -170,20 +170,27 @@ module _ (s : List ℕ) (us : List Assumption) (n : ℕ) (cs : List (List Litera
       let y = trail-in (r .checkpoint) in
       ((r .kind ≡ says-model) × (c + r .steps ≡ 2 * (length y - shared x y))) ⊎ ((r .kind ≡ says-ended) × (c + r .steps ≡ to-assign task)))
   countdown bs gs c e d f x h b l =
-      ⊎-elim (λ w. inl (w .0, w .1 .0)) (λ w. inr w) (waits.countdown s us task posed walks bs gs c e d f x h b l)
+      ⊎-elim (λ w. inl (w .0, w .1 .0)) (λ w. inr w) (waits.ample-closes s us task posed walks bs gs c e d f x h b l)
 
   -- A list that stops c steps behind the start, before any model: such a call brings the first, after n steps in all.
   pub countdown-first : (bs : List ℕ) (c e : ℕ) → gaps (walk-calls s us start bs) ≡ so-far c e ∷ [] → (b : ℕ) → ample-budget ≤ b
       → (let r = walk-call s us (last-checkpoint s us start bs) b in (r .kind ≡ says-model) × (c + r .steps ≡ to-assign task))
-  countdown-first = waits.countdown-first s us task posed walks
+  countdown-first = waits.ample-first s us task posed walks
 
   -- And a list that stops behind the last model, before the end, has made at most n steps since.
   pub after-last : (bs : List ℕ) (gs : List Gap) (c e d f : ℕ) (x : List Literal) → gaps (walk-calls s us start bs) ≡ gs ++ (to-model d f x ∷ so-far c e ∷ [])
       → brought (walk-calls s us start bs) ≡ listing task → c ≤ to-assign task
   after-last = waits.after-last s us task posed walks
 
-  -- S21.2: the same waits for calls that begin at the checkpoint of a model, mode 1 with every variable to assign in its trail, whoever
-  -- hands it in.
+  -- S21.2: a checkpoint of the walk that has mode 1 and all variables to assign is that of a model, the assignment of its trail, and calls
+  -- that begin there have the same waits, whoever hands it in.
+  pub model-checkpoint : (c : Checkpoint) → Has task c → c .mode ≡ 1 → c .length ≡ to-assign task
+      → (c ≡ checkpoint-of 1 (trail-in c)) × Model n cs (assignment (map literal-of us ++ trail-in c)) × Agrees (bit (assignment (map literal-of us ++ trail-in c))) (map literal-of us)
+  model-checkpoint c w m l =
+      let x = laws.full-model s us task posed walks c w m l in
+      let y = under-models n us cs (assignment (map literal-of us ++ trail-in c)) .0 (x .1) in
+      (x .0, y .0, y .1)
+
   pub paced-after : (c : Checkpoint) → Has task c → c .mode ≡ 1 → c .length ≡ to-assign task
       → (bs : List ℕ) → PacedLater (to-assign task) (step-bound task) (trail-in c) (gaps (walk-calls s us c bs))
   paced-after = laws.model-paced s us task posed walks

@@ -21,13 +21,13 @@ use Rattle.assumptions.specs.declared.Assumption.{Assumption}
 use Rattle.splitting.specs.Terms as terms
 use Rattle.splitting.specs.Terms.{opened}
 use Rattle.walk.specs.Task.{Task, to-assign, choice-at, ModelFor, Posed}
-use Rattle.walk.specs.Plain.{Entry, assigns, plain-walk, models-of, listing}
+use Rattle.walk.specs.Plain.{Entry, assigns, assignment, plain-walk, models-of, listing}
 use Rattle.walk.specs.Checkpoints.{Checkpoint, Behind, trail-in, checkpoint-of, start, past-all, behind, checkpoint-after}
 use Rattle.walk.specs.PlainMachine.{Answer, found, spent, ended, Call, plain-call, plain-calls, state-after, Has}
 use Rattle.walk.specs.WalkCall.{walk-call, walk-calls, last-checkpoint}
 use Rattle.walk.specs.InnerLocate.{Located, at-state, nowhere, located, by-state, task-call}
 use Rattle.walk.specs.Results.{says-model, says-spent, says-ended, says-refused, Result, answer-kind, answered, refusing, plain-result}
-use Rattle.walk.specs.Gaps.{brings, brought, SaysEnded, gaps, TrailOf, PacedLater, Paced, step-bound, ample-budget}
+use Rattle.walk.specs.Gaps.{brings, brought, SaysEnded, gaps, ModelTrail, PacedLater, Paced, step-bound, ample-budget}
 use Rattle.walk.specs.Proper.{Proper}
 use Rattle.walk.specs.InnerStack.{Stack, empty, push, depth, trail-of, tree}
 use Rattle.walk.specs.InnerMachine.{Position, down, full, back, over, Next, nothing, hands, ends, steps, next, halted, onward, resume}
@@ -46,7 +46,7 @@ use Rattle.walk.proofs.MetLaws.{start-stops, down-spent, all-got}
 use Rattle.walk.proofs.AcceptLaws.{stack-replayed, shown-bytes, shown-trail, shown-position, call-shown, accepted-stopped, stopped-accepted}
 use Rattle.walk.proofs.ProperLaws.{stop-proper, proper-stop}
 use Rattle.walk.proofs.ByteLaws.{Below}
-use Rattle.walk.proofs.TreeLaws.{walk-same, trail-over, trail-agrees, agrees-trail, trail-below, live, open-model, model-open, splits, cheap, cheap-sound}
+use Rattle.walk.proofs.TreeLaws.{walk-same, trail-over, trail-agrees, agrees-trail, trail-below, live, open-model, model-open, full-every, splits, cheap, cheap-sound}
 
 module _ (T : Task) where
   -- the mode and the trail behind k entries, and their checkpoint, are those of the position
@@ -265,10 +265,19 @@ module _ (s : List ℕ) (us : List Assumption) (T : Task) (P : Posed T) (walks :
     at-full (back false t) o q e = absurd (omega (arith, ap (λ (d : Checkpoint). d .mode) e))
     at-full over o q e = absurd (omega (arith, ap (λ (d : Checkpoint). d .mode) e))
 
+    stands-full : (t : Stack) × (Replayed (tree T) t × (depth t ≡ to-assign T)) × (shown (full t) ≡ c)
+    stands-full = let a = standing-at (w .0) in at-full (standing (w .0)) (a .fine) (standing-stops (w .0)) (sym (at-checkpoint T a) ∙ w .1)
+
+    -- it is the checkpoint of its own trail, whose assignment is a model
+    pub full-model : (c ≡ checkpoint-of 1 (trail-in c)) × ModelFor T (assignment (T .before ++ trail-in c))
+    full-model =
+        let x = stands-full in
+        let e : trail-in c ≡ trail-of (x .0) = ap trail-in (sym (x .2)) ∙ told (full (x .0)) (x .1) in
+        rw e (sym (x .2), splits T P .full-model (x .0) (x .1 .0) (x .1 .1) .0)
+
     pub model-paced : (bs : List ℕ) → PacedLater (to-assign T) (step-bound T) (trail-in c) (gaps (walk-calls s us c bs))
     model-paced bs =
-        let a = standing-at (w .0) in
-        let x = at-full (standing (w .0)) (a .fine) (standing-stops (w .0)) (sym (at-checkpoint T a) ∙ w .1) in
+        let x = stands-full in
         let t = x .0 in
         let o = x .1 in
         subst (λ (d : Checkpoint). PacedLater (to-assign T) (step-bound T) (trail-in d) (gaps (walk-calls s us d bs))) (x .2)
@@ -276,7 +285,7 @@ module _ (s : List ℕ) (us : List Assumption) (T : Task) (P : Posed T) (walks :
         (pace-full (tree T) alive (step-bound T) (λ u _. cheap T P u) told bs t (o .0) (o .1) .0))
 
   -- a call that says model returns the checkpoint of the model's trail
-  pub call-trail : (c : Checkpoint) → Has T c → (b : ℕ) → walk-call s us c b .kind ≡ says-model → (x : List Literal) × TrailOf T (walk-call s us c b) x
+  pub call-trail : (c : Checkpoint) → Has T c → (b : ℕ) → walk-call s us c b .kind ≡ says-model → (x : List Literal) × ModelTrail T (walk-call s us c b) x
   call-trail c w b e = at (model-full (tree T) alive b p (a .fine) (sym (ap (λ (r : Result). r .kind) goes) ∙ e))
     where
       p : Position
@@ -290,7 +299,7 @@ module _ (s : List ℕ) (us : List Assumption) (T : Task) (P : Posed T) (walks :
           ap (λ (d : Checkpoint). walk-call s us d b) (sym (w .1) ∙ at-checkpoint T (standing-at (w .0)))
           ∙ call-goes b (standing (w .0)) (standing-at (w .0) .fine) (standing-stops (w .0))
 
-      at : HandedOut (tree T) (resumed-result (resume (tree T) b p) .model) (resume (tree T) b p .position) → (x : List Literal) × TrailOf T (walk-call s us c b) x
+      at : HandedOut (tree T) (resumed-result (resume (tree T) b p) .model) (resume (tree T) b p .position) → (x : List Literal) × ModelTrail T (walk-call s us c b) x
       at f =
           let t = f .0 in
           let o : Reachable (tree T) (full t) = subst (Reachable (tree T)) (f .1) (call-effect (tree T) alive b p (a .fine) .fine) in
@@ -301,6 +310,7 @@ module _ (s : List ℕ) (us : List Assumption) (T : Task) (P : Posed T) (walks :
               returned = d;
               read = ap trail-in d ∙ told (full t) o;
               full = length-trail t ∙ o .1;
+              every = full-every T P t (o .0) (o .1);
               model = m;
               values = rw m (agrees-trail (tree T .result t) t (splits T P .full-model t (o .0) (o .1) .1));
             },

@@ -222,10 +222,15 @@ module _ (T : Task) (P : Posed T) where
           at a m g false e = absurd (true≢false (sym (model-open t r h false a m (e, g)) ∙ o))
 
   -- a full trail assigns every variable to assign
+  own-assigns : (t : Stack) → Node t → depth t ≡ to-assign T → Assigns (T .scope) (trail-of t)
+  own-assigns t N h = trail-full (T .variables) (T .scope) (trail-of t) fits (P .below) (N .own) (N .inside) (length-trail t ∙ h)
+
   full-assigns : (t : Stack) → Node t → depth t ≡ to-assign T → Assigns (T .scope) (assigned t)
-  full-assigns t N h v b =
-      names-append (T .before) (trail-of t) v
-      ∙ or-right (names (T .before) v) _ (trail-full (T .variables) (T .scope) (trail-of t) fits (P .below) (N .own) (N .inside) (length-trail t ∙ h) v b)
+  full-assigns t N h v b = names-append (T .before) (trail-of t) v ∙ or-right (names (T .before) v) _ (own-assigns t N h v b)
+
+  -- so does that of a full node
+  pub full-every : (t : Stack) → Replayed (tree T) t → depth t ≡ to-assign T → Assigns (T .scope) (trail-of t)
+  full-every t r h = own-assigns t (node t r) h
 
   -- its assignment is a model
   full-at : (t : Stack) → Node t → depth t ≡ to-assign T → ModelAt (T .variables) (T .scope) (T .clauses) (assigned t) (assignment (assigned t))

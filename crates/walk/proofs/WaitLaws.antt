@@ -15,13 +15,27 @@ use Rattle.walk.specs.PlainMachine.{Has}
 use Rattle.walk.specs.WalkCall.{walk-call, walk-calls, last-checkpoint}
 use Rattle.walk.specs.InnerLocate.{task-call}
 use Rattle.walk.specs.Results.{AnswerKind, says-model, says-spent, says-ended, says-refused, Result}
-use Rattle.walk.specs.Gaps.{brings, brought, Gap, to-model, to-end, so-far, gap-after, gaps-from, gaps, gap-trails, TrailOf, shared, Parting, step-bound, ample-budget, PacedLater, Paced}
+use Rattle.walk.specs.Gaps.{brings, brought, Gap, to-model, to-end, so-far, gap-after, gaps-from, gaps, gap-trails, ModelTrail, shared, Parting, step-bound, ample-budget, PacedLater, Paced}
 use Rattle.walk.proofs.BudgetLaws.{calls-append}
 use Rattle.walk.proofs.PaceLaws.{PartedLater, PartedAll}
 use Rattle.walk.proofs.TaskLaws as laws
 use Rattle.walk.proofs.HasLaws as has
 
 -- ---- behind a model among gaps
+
+-- behind an open gap there is no other
+open-last : {C : Type 0} (rs : List Result) (c e d f : ℕ) (g : Gap) (gs hs : List Gap) → gaps-from c e rs ≡ so-far d f ∷ (gs ++ (g ∷ hs)) → C
+unfolding gaps-from
+open-last [] c e d f g [] hs h = let z : _≡_ {A = ℕ} 0 1 = cc in absurd (omega arith)
+open-last [] c e d f g (k ∷ gs) hs h = let z : _≡_ {A = ℕ} 0 1 = cc in absurd (omega arith)
+open-last {C} (r ∷ rs) c e d f g gs hs h = at (r .kind) h (λ c′ e′. open-last rs c′ e′ d f g gs hs)
+  where
+    at : (k : AnswerKind) → gap-after k (c + r .steps) (e + r .expansions) (trail-in (r .checkpoint)) (λ c′ e′. gaps-from c′ e′ rs) ≡ so-far d f ∷ (gs ++ (g ∷ hs))
+        → ((c e : ℕ) → gaps-from c e rs ≡ so-far d f ∷ (gs ++ (g ∷ hs)) → C) → C
+    at says-model h ih = let z : _≡_ {A = ℕ} 0 1 = cc in absurd (omega arith)
+    at says-spent h ih = ih _ _ h
+    at says-refused h ih = ih _ _ h
+    at says-ended h ih = let z : _≡_ {A = ℕ} 0 1 = cc in absurd (omega arith)
 
 module _ (n B : ℕ) where
   later-behind : (gs hs : List Gap) (c e : ℕ) (x y : List Literal) → PacedLater n B x (gs ++ (to-model c e y ∷ hs)) → PacedLater n B y hs
@@ -31,11 +45,14 @@ module _ (n B : ℕ) where
   later-behind (so-far d f ∷ gs) hs c e x y p = later-behind gs hs c e x y (p .2)
 
   -- the waits behind a model
-  paced-behind : (gs hs : List Gap) (c e : ℕ) (y : List Literal) → Paced n B (gs ++ (to-model c e y ∷ hs)) → PacedLater n B y hs
-  paced-behind [] hs c e y p = p .2
-  paced-behind (to-model d f z ∷ gs) hs c e y p = later-behind gs hs c e z y (p .2)
-  paced-behind (to-end d f ∷ gs) hs c e y p = absurd p
-  paced-behind (so-far d f ∷ gs) hs c e y p = paced-behind gs hs c e y (p .2)
+  paced-behind : (rs : List Result) (gs hs : List Gap) (c e : ℕ) (y : List Literal) → gaps rs ≡ gs ++ (to-model c e y ∷ hs) → Paced n B (gaps rs) → PacedLater n B y hs
+  paced-behind rs gs hs c e y h p = at gs h (rw h at p)
+    where
+      at : (gs : List Gap) → gaps rs ≡ gs ++ (to-model c e y ∷ hs) → Paced n B (gs ++ (to-model c e y ∷ hs)) → PacedLater n B y hs
+      at [] h p = p .2
+      at (to-model d f z ∷ gs) h p = later-behind gs hs c e z y (p .2)
+      at (to-end d f ∷ gs) h p = absurd p
+      at (so-far d f ∷ gs) h p = open-last rs 0 0 d f _ gs hs h
 
 later-parted : (gs hs : List Gap) (c e : ℕ) (x y : List Literal) → PartedLater x (gs ++ (to-model c e y ∷ hs)) → PartedLater y hs
 later-parted [] hs c e x y p = p .1
@@ -94,96 +111,96 @@ brought-append (r ∷ rs) ts =
 
 module _ (s : List ℕ) (us : List Assumption) (T : Task) (P : Posed T) (walks : (c : Checkpoint) (b : ℕ) → walk-call s us c b ≡ task-call T c b) where
   -- what two neighbours are: the wait between them, and where their trails part
-  abbrev Apart : ℕ → List Literal → List Literal → Type 0
-  Apart d x y = (d ≡ 2 * (length y - shared x y)) × Parting x y
+  abbrev Waited : ℕ → List Literal → List Literal → Type 0
+  Waited d x y = (d ≡ 2 * (length y - shared x y)) × Parting x y
 
   -- the gaps of a list of calls
-  abbrev dealt : List ℕ → List Gap
-  dealt bs = gaps (walk-calls s us start bs)
+  abbrev gaps-of : List ℕ → List Gap
+  gaps-of bs = gaps (walk-calls s us start bs)
 
-  pub neighbours : (bs : List ℕ) (gs hs : List Gap) (c e d f : ℕ) (x y : List Literal) → dealt bs ≡ gs ++ (to-model c e x ∷ to-model d f y ∷ hs) → Apart d x y
-  neighbours bs gs hs c e d f x y h = (
-    paced-behind (to-assign T) (step-bound T) gs (to-model d f y ∷ hs) c e x (rw h at (laws.calls-paced s us T P walks bs)) .0,
+  pub next-waited : (bs : List ℕ) (gs hs : List Gap) (c e d f : ℕ) (x y : List Literal) → gaps-of bs ≡ gs ++ (to-model c e x ∷ to-model d f y ∷ hs) → Waited d x y
+  next-waited bs gs hs c e d f x y h = (
+    paced-behind (to-assign T) (step-bound T) (walk-calls s us start bs) gs (to-model d f y ∷ hs) c e x h (laws.calls-paced s us T P walks bs) .0,
     parted-behind gs (to-model d f y ∷ hs) c e x (rw h at (laws.calls-parted s us T P walks bs)) .0,
   )
 
   -- the call behind a list of calls
-  abbrev behind : List ℕ → ℕ → Result
-  behind bs b = walk-call s us (last-checkpoint s us start bs) b
+  abbrev call-after : List ℕ → ℕ → Result
+  call-after bs b = walk-call s us (last-checkpoint s us start bs) b
 
-  dealt-more : (bs : List ℕ) (b c e : ℕ) (gs : List Gap) → dealt bs ≡ gs ++ (so-far c e ∷ []) → dealt (bs ++ (b ∷ [])) ≡ gs ++ then c e (behind bs b)
+  gaps-of-more : (bs : List ℕ) (b c e : ℕ) (gs : List Gap) → gaps-of bs ≡ gs ++ (so-far c e ∷ []) → gaps-of (bs ++ (b ∷ [])) ≡ gs ++ then c e (call-after bs b)
   unfolding walk-calls
-  dealt-more bs b c e gs h =
-      ap (λ (rs : List Result). gaps rs) (calls-append s us bs (b ∷ []) start) ∙ gaps-more (walk-calls s us start bs) (behind bs b) 0 0 c e gs h
+  gaps-of-more bs b c e gs h =
+      ap (λ (rs : List Result). gaps rs) (calls-append s us bs (b ∷ []) start) ∙ gaps-more (walk-calls s us start bs) (call-after bs b) 0 0 c e gs h
 
   -- behind a model with the trail x, at c steps: an ample budget brings the next one or the end
-  pub countdown : (bs : List ℕ) (gs : List Gap) (c e d f : ℕ) (x : List Literal) → dealt bs ≡ gs ++ (to-model d f x ∷ so-far c e ∷ []) → (b : ℕ) → ample-budget ≤ b
-      → (let r = behind bs b in
-      ((r .kind ≡ says-model) × Apart (c + r .steps) x (trail-in (r .checkpoint))) ⊎ ((r .kind ≡ says-ended) × (c + r .steps ≡ to-assign T)))
-  countdown bs gs c e d f x h b l = at (laws.calls-ample s us T P walks bs b l)
+  pub ample-closes : (bs : List ℕ) (gs : List Gap) (c e d f : ℕ) (x : List Literal) → gaps-of bs ≡ gs ++ (to-model d f x ∷ so-far c e ∷ []) → (b : ℕ) → ample-budget ≤ b
+      → (let r = call-after bs b in
+      ((r .kind ≡ says-model) × Waited (c + r .steps) x (trail-in (r .checkpoint))) ⊎ ((r .kind ≡ says-ended) × (c + r .steps ≡ to-assign T)))
+  ample-closes bs gs c e d f x h b l = at (laws.calls-ample s us T P walks bs b l)
     where
-      more : dealt (bs ++ (b ∷ [])) ≡ gs ++ (to-model d f x ∷ then c e (behind bs b))
+      more : gaps-of (bs ++ (b ∷ [])) ≡ gs ++ (to-model d f x ∷ then c e (call-after bs b))
       more =
-          dealt-more bs b c e (gs ++ (to-model d f x ∷ [])) (h ∙ sym (append-assoc gs (to-model d f x ∷ []) (so-far c e ∷ [])))
-          ∙ append-assoc gs (to-model d f x ∷ []) (then c e (behind bs b))
+          gaps-of-more bs b c e (gs ++ (to-model d f x ∷ [])) (h ∙ sym (append-assoc gs (to-model d f x ∷ []) (so-far c e ∷ [])))
+          ∙ append-assoc gs (to-model d f x ∷ []) (then c e (call-after bs b))
 
-      at : (behind bs b .kind ≡ says-model) ⊎ (behind bs b .kind ≡ says-ended)
-          → (let r = behind bs b in
-          ((r .kind ≡ says-model) × Apart (c + r .steps) x (trail-in (r .checkpoint))) ⊎ ((r .kind ≡ says-ended) × (c + r .steps ≡ to-assign T)))
-      at (inl k) = inl (k, neighbours (bs ++ (b ∷ [])) gs (so-far 0 0 ∷ []) d f _ _ x _ (rw k at more))
+      at : (call-after bs b .kind ≡ says-model) ⊎ (call-after bs b .kind ≡ says-ended)
+          → (let r = call-after bs b in
+          ((r .kind ≡ says-model) × Waited (c + r .steps) x (trail-in (r .checkpoint))) ⊎ ((r .kind ≡ says-ended) × (c + r .steps ≡ to-assign T)))
+      at (inl k) = inl (k, next-waited (bs ++ (b ∷ [])) gs (so-far 0 0 ∷ []) d f _ _ x _ (rw k at more))
       at (inr k) =
-          inr (k, paced-behind (to-assign T) (step-bound T) gs _ d f x (rw (rw k at more) at (laws.calls-paced s us T P walks (bs ++ (b ∷ [])))) .0)
+          inr (k, paced-behind (to-assign T) (step-bound T) (walk-calls s us start (bs ++ (b ∷ []))) gs _ d f x (rw k at more) (laws.calls-paced s us T P walks (bs ++ (b ∷ []))) .0)
 
   -- from the start
-  pub countdown-first : (bs : List ℕ) (c e : ℕ) → dealt bs ≡ so-far c e ∷ [] → (b : ℕ) → ample-budget ≤ b
-      → (let r = behind bs b in (r .kind ≡ says-model) × (c + r .steps ≡ to-assign T))
-  countdown-first bs c e h b l = at (laws.calls-ample s us T P walks bs b l)
+  pub ample-first : (bs : List ℕ) (c e : ℕ) → gaps-of bs ≡ so-far c e ∷ [] → (b : ℕ) → ample-budget ≤ b
+      → (let r = call-after bs b in (r .kind ≡ says-model) × (c + r .steps ≡ to-assign T))
+  ample-first bs c e h b l = at (laws.calls-ample s us T P walks bs b l)
     where
-      at : (behind bs b .kind ≡ says-model) ⊎ (behind bs b .kind ≡ says-ended) → (let r = behind bs b in (r .kind ≡ says-model) × (c + r .steps ≡ to-assign T))
-      at (inl k) = (k, (rw (rw k at (dealt-more bs b c e [] h)) at (laws.calls-paced s us T P walks (bs ++ (b ∷ [])))) .0)
-      at (inr k) = absurd (rw (rw k at (dealt-more bs b c e [] h)) at (laws.calls-paced s us T P walks (bs ++ (b ∷ []))))
+      at : (call-after bs b .kind ≡ says-model) ⊎ (call-after bs b .kind ≡ says-ended) → (let r = call-after bs b in (r .kind ≡ says-model) × (c + r .steps ≡ to-assign T))
+      at (inl k) = (k, (rw (rw k at (gaps-of-more bs b c e [] h)) at (laws.calls-paced s us T P walks (bs ++ (b ∷ [])))) .0)
+      at (inr k) = absurd (rw (rw k at (gaps-of-more bs b c e [] h)) at (laws.calls-paced s us T P walks (bs ++ (b ∷ []))))
 
   -- once the listing is brought, no further call brings a model
-  none-more : (bs : List ℕ) (b : ℕ) → brought (walk-calls s us start bs) ≡ listing T → behind bs b .kind ≡ says-model → ⊥
+  none-behind-last : (bs : List ℕ) (b : ℕ) → brought (walk-calls s us start bs) ≡ listing T → call-after bs b .kind ≡ says-model → ⊥
   unfolding walk-calls brought
-  none-more bs b h k =
+  none-behind-last bs b h k =
       let w = laws.calls-first s us T P walks (bs ++ (b ∷ [])) in
-      let one : brought (walk-calls s us start (bs ++ (b ∷ []))) ≡ brought (walk-calls s us start bs) ++ (behind bs b .model ∷ []) =
-      ap brought (calls-append s us bs (b ∷ []) start) ∙ brought-append (walk-calls s us start bs) (behind bs b ∷ [])
-      ∙ ap (λ (a : AnswerKind). brought (walk-calls s us start bs) ++ (brings a (behind bs b .model) ++ [])) k in
+      let one : brought (walk-calls s us start (bs ++ (b ∷ []))) ≡ brought (walk-calls s us start bs) ++ (call-after bs b .model ∷ []) =
+      ap brought (calls-append s us bs (b ∷ []) start) ∙ brought-append (walk-calls s us start bs) (call-after bs b ∷ [])
+      ∙ ap (λ (a : AnswerKind). brought (walk-calls s us start bs) ++ (brings a (call-after bs b .model) ++ [])) k in
       omega (
         arith,
         ap length (w .1),
         length-append (brought (walk-calls s us start (bs ++ (b ∷ [])))) (w .0),
         ap length one,
-        length-append (brought (walk-calls s us start bs)) (behind bs b .model ∷ []),
+        length-append (brought (walk-calls s us start bs)) (call-after bs b .model ∷ []),
         ap length h,
       )
 
   -- so behind the last model at most n steps are made
-  pub after-last : (bs : List ℕ) (gs : List Gap) (c e d f : ℕ) (x : List Literal) → dealt bs ≡ gs ++ (to-model d f x ∷ so-far c e ∷ [])
+  pub after-last : (bs : List ℕ) (gs : List Gap) (c e d f : ℕ) (x : List Literal) → gaps-of bs ≡ gs ++ (to-model d f x ∷ so-far c e ∷ [])
       → brought (walk-calls s us start bs) ≡ listing T → c ≤ to-assign T
-  after-last bs gs c e d f x h all = at (countdown bs gs c e d f x h ample-budget (omega arith))
+  after-last bs gs c e d f x h all = at (ample-closes bs gs c e d f x h ample-budget (omega arith))
     where
-      at : (let r = behind bs ample-budget in
-          ((r .kind ≡ says-model) × Apart (c + r .steps) x (trail-in (r .checkpoint))) ⊎ ((r .kind ≡ says-ended) × (c + r .steps ≡ to-assign T))) → c ≤ to-assign T
-      at (inl w) = absurd (none-more bs ample-budget all (w .0))
+      at : (let r = call-after bs ample-budget in
+          ((r .kind ≡ says-model) × Waited (c + r .steps) x (trail-in (r .checkpoint))) ⊎ ((r .kind ≡ says-ended) × (c + r .steps ≡ to-assign T))) → c ≤ to-assign T
+      at (inl w) = absurd (none-behind-last bs ample-budget all (w .0))
       at (inr w) = omega (arith, w .1)
 
   -- ---- the trails
 
   -- the trail of every model that calls bring
-  pub calls-trails : (bs : List ℕ) (c : Checkpoint) → Has T c → Every (λ r. r .kind ≡ says-model → (x : List Literal) × TrailOf T r x) (walk-calls s us c bs)
+  pub calls-trails : (bs : List ℕ) (c : Checkpoint) → Has T c → Every (λ r. r .kind ≡ says-model → (x : List Literal) × ModelTrail T r x) (walk-calls s us c bs)
   unfolding walk-calls
   calls-trails [] c w = tt
   calls-trails (b ∷ bs) c w =
       (laws.call-trail s us T P walks c w b, calls-trails bs (walk-call s us c b .checkpoint) (has.call-has s us T P walks c w b))
 
   -- past the end no call brings a model
-  over-none : (bs : List ℕ) → brought (walk-calls s us (checkpoint-of 4 []) bs) ≡ []
+  end-brings-none : (bs : List ℕ) → brought (walk-calls s us (checkpoint-of 4 []) bs) ≡ []
   unfolding walk-calls brought
-  over-none [] = refl
-  over-none (b ∷ bs) = rw (laws.call-over s us T P walks b) (over-none bs)
+  end-brings-none [] = refl
+  end-brings-none (b ∷ bs) = rw (laws.call-over s us T P walks b) (end-brings-none bs)
 
   -- the models of the trails are those that are brought
   pub trails-brought : (bs : List ℕ) (c : Checkpoint) → Has T c → (k e : ℕ)
@@ -205,15 +222,11 @@ module _ (s : List ℕ) (us : List Assumption) (T : Task) (P : Posed T) (walks :
           ap₂ {C = List ℕ} (λ m ms. m ∷ ms) (ap (λ (x : List Literal). assignment (T .before ++ x)) (t .read) ∙ sym (t .model)) (ih 0 0)
       at says-spent q ih = ih _ _
       at says-refused q ih = ih _ _
-      at says-ended q ih = sym (ap (λ (d : Checkpoint). brought (walk-calls s us d bs)) (has.has-onward s us T P walks c w b .over q) ∙ over-none bs)
+      at says-ended q ih = sym (ap (λ (d : Checkpoint). brought (walk-calls s us d bs)) (has.has-onward s us T P walks c w b .over q) ∙ end-brings-none bs)
 
   -- ---- one call
 
-  -- the checkpoint that comes back with a model: mode 1, and every variable assigned
-  pub model-mode : (c : Checkpoint) → Has T c → (b : ℕ) → walk-call s us c b .kind ≡ says-model → walk-call s us c b .checkpoint .mode ≡ 1
-  unfolding checkpoint-of
-  model-mode c w b e = ap (λ (d : Checkpoint). d .mode) (laws.call-trail s us T P walks c w b e .1 .returned)
-
+  -- in the checkpoint that comes back with a model every variable is assigned
   pub model-length : (c : Checkpoint) → Has T c → (b : ℕ) → walk-call s us c b .kind ≡ says-model → walk-call s us c b .checkpoint .length ≡ to-assign T
   unfolding checkpoint-of
   model-length c w b e = let t = laws.call-trail s us T P walks c w b e .1 in ap (λ (d : Checkpoint). d .length) (t .returned) ∙ t .full
