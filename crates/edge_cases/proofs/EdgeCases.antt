@@ -220,11 +220,13 @@ pub wait-cases : WaitCases
 unfolding waiting
 wait-cases = record {
   pairs-ample = gaps-plain _ _ _ _ _ _ refl _;
+  pairs-behind = gaps-plain _ _ _ _ _ _ refl _;
   pairs-one = gaps-plain _ _ _ _ _ _ refl _;
   pairs-mixed = gaps-plain _ _ _ _ _ _ refl _;
   pairs-open = gaps-plain _ _ _ _ _ _ refl _;
   none-made = gaps-plain _ _ _ _ _ _ refl _;
   wrong-turn = gaps-plain _ _ _ _ _ _ refl _;
+  example-waits = gaps-plain _ _ _ _ _ _ refl _;
   one-assumed = gaps-plain _ _ _ _ _ _ refl _;
   pairs-assumed = gaps-plain _ _ _ _ _ _ refl _;
   stripped-down = gaps-plain _ _ _ _ _ _ refl _;

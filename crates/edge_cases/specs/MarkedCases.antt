@@ -91,6 +91,14 @@ UnmatchedAt s p marks = UnmatchedUnder s [] p marks
 abbrev pub example : List ℕ
 example = 1 ∷ 2 ∷ 2 ∷ 1 ∷ 2 ∷ 2 ∷ 4 ∷ 3 ∷ 1 ∷ 3 ∷ 2 ∷ 4 ∷ 5 ∷ []
 
+-- 3 variables, clauses (1, 2), (1, 3), (2, 3)
+abbrev pub pairs-of-three : List ℕ
+pairs-of-three = formula-bytes 3 ((on 1 ∷ on 2 ∷ []) ∷ (on 1 ∷ on 3 ∷ []) ∷ (on 2 ∷ on 3 ∷ []) ∷ [])
+
+-- 2 variables, clauses (1, 2), (1, ¬2)
+abbrev pub turn : List ℕ
+turn = formula-bytes 2 ((on 1 ∷ on 2 ∷ []) ∷ (on 1 ∷ off 2 ∷ []) ∷ [])
+
 -- 1 variable and an empty clause
 abbrev pub nothing-named : List ℕ
 nothing-named = 1 ∷ 1 ∷ 4 ∷ 5 ∷ []
@@ -110,11 +118,11 @@ pub record MarkedCases : Type 0 where
       ++ (48 ∷ 49 ∷ blank ∷ 50 ∷ blank ∷ 50 ∷ line-feed ∷ [])
       ++ (49 ∷ 48 ∷ blank ∷ 52 ∷ blank ∷ 48 ∷ line-feed ∷ [])
       ++ (end-word ++ (blank ∷ 50 ∷ blank ∷ 48 ∷ line-feed ∷ []))
-  -- 3 variables, clauses (1, 2), (1, 3), (2, 3): stripping leaves nothing, so no expansion is made
-  pub three-pairs : walked (formula-bytes 3 ((on 1 ∷ on 2 ∷ []) ∷ (on 1 ∷ on 3 ∷ []) ∷ (on 2 ∷ on 3 ∷ []) ∷ [])) 5
+  -- the three pairs: stripping leaves nothing, so no expansion is made
+  pub three-pairs : walked pairs-of-three 5
       ≡ model-at (1 ∷ 1 ∷ 0 ∷ []) 3 0 ∷ model-at (1 ∷ 0 ∷ 1 ∷ []) 6 0 ∷ model-at (0 ∷ 1 ∷ 1 ∷ []) 4 0 ∷ model-at (1 ∷ 1 ∷ 1 ∷ []) 2 0 ∷ end-at 3 0 ∷ []
-  -- 2 variables, clauses (1, 2), (1, ¬2): with 1 false no clause is empty yet, but no model is left; the walk never assigns it so
-  pub wrong-turn : walked (formula-bytes 2 ((on 1 ∷ on 2 ∷ []) ∷ (on 1 ∷ off 2 ∷ []) ∷ [])) 3
+  -- the turn: with 1 false no clause is empty yet, but no model is left; the walk never assigns it so
+  pub wrong-turn : walked turn 3
       ≡ model-at (1 ∷ 0 ∷ []) 2 0 ∷ model-at (1 ∷ 1 ∷ []) 4 0 ∷ end-at 2 0 ∷ []
   -- 2 variables and no clause: all four assignments are models
   pub no-clauses : walked (1 ∷ 2 ∷ 5 ∷ []) 5
