@@ -64,7 +64,7 @@ fn bounds(case: &Case) -> Longest {
 
 /// One wait: steps and expansions until the next model or the end.
 #[derive(PartialEq, Eq, Debug)]
-struct Wait {
+struct Followed {
     model: Option<u64>,
     steps: u32,
     expansions: u64,
@@ -73,8 +73,8 @@ struct Wait {
 }
 
 /// Follows the walk to the next model, step by step.
-fn next_wait(walker: &mut Walker) -> Wait {
-    let mut wait = Wait {
+fn next_wait(walker: &mut Walker) -> Followed {
+    let mut wait = Followed {
         model: None,
         steps: 0,
         expansions: 0,

@@ -278,9 +278,10 @@ pub struct Walked {
 /// assert_eq!(walk(&input, &[], &mut later, 96)?.steps, 2);
 ///
 /// // Variable 3 is assigned first, and was false: the trails share nothing.
-/// assert_eq!(earlier.as_bytes()[2..5], [3, 128 + 2, 128 + 1]);
-/// assert_eq!(later.as_bytes()[2..5], [128 + 3, 2, 128 + 1]);
-/// assert_eq!(4 + 2, 2 * (3 - 0));
+/// let (earlier, later) = (&earlier.as_bytes()[2..5], &later.as_bytes()[2..5]);
+/// assert_eq!((earlier, later), (&[3, 128 + 2, 128 + 1][..], &[128 + 3, 2, 128 + 1][..]));
+/// let shared = earlier.iter().zip(later).take_while(|(x, y)| x == y).count();
+/// assert_eq!(4 + 2, 2 * (later.len() - shared));
 /// # Ok::<(), norwythai::Refusal>(())
 /// ```
 pub fn walk(

@@ -82,6 +82,30 @@ fn the_waits_do_not_depend_on_the_budgets() {
     }
 }
 
+/// The variables of an input that are not assumed, as a mask.
+fn free_variables(input: &[u8], assumptions: &[Assumption]) -> u64 {
+    assumptions.iter().fold((1 << input[1]) - 1, |free, a| {
+        free & !(1 << (a.variable - 1))
+    })
+}
+
+/// An accepted formula and a list of assumptions under which it is accepted, often an empty one; and whether stripping drops some clause.
+fn some_accepted(random: &mut Random) -> (Vec<u8>, Vec<Assumption>, bool) {
+    let input = some_accepted_formula(random, is_accepted);
+    let mut list = some_assumptions(random, &input);
+    let mut row = [0; 96];
+    let assumed: Vec<reference::Assumption> = list.iter().map(|a| (*a).into()).collect();
+    if reference::judge(&input, &assumed, &mut row).is_err() {
+        list.clear();
+        reference::judge(&input, &[], &mut row).unwrap();
+    }
+    let assumptions = list
+        .into_iter()
+        .map(|(variable, value)| Assumption { variable, value })
+        .collect();
+    (input, assumptions, row.iter().any(|byte| *byte > 128))
+}
+
 /// What was seen along some chains.
 #[derive(Debug, Default)]
 struct Seen {
@@ -96,21 +120,17 @@ struct Seen {
 
 impl Seen {
     /// Makes calls on one input from the start, and compares each wait with the trails, and each trail with its model.
-    fn chain(
-        &mut self,
-        random: &mut Random,
-        input: &[u8],
-        assumptions: &[Assumption],
-        left: usize,
-    ) {
+    fn chain(&mut self, random: &mut Random, input: &[u8], assumptions: &[Assumption]) {
+        let free = free_variables(input, assumptions);
+        let left = free.count_ones() as usize;
         let mut checkpoint = Checkpoint::start();
         let mut waits = Waits::default();
         let small = random.percent(50);
         for _ in 0..random.between(1, 60) {
-            let budget = if small {
-                random.below(8) as u32
-            } else {
-                some_budget(random)
+            let budget = match random.below(8) {
+                0 => 97,
+                _ if small => random.below(8) as u32,
+                _ => some_budget(random),
             };
             let earlier = waits.trail().map(<[u8]>::to_vec);
             let walked = walk(input, assumptions, &mut checkpoint, budget).unwrap();
@@ -121,7 +141,7 @@ impl Seen {
             assert_eq!(wait.steps, wait.told, "{input:02x?} {assumptions:?}");
             self.divided += usize::from(wait.calls > 1);
             if let Answer::Model(model) = walked.answer {
-                self.model(model, checkpoint.as_bytes(), earlier.as_deref(), wait, left);
+                self.model(model, checkpoint.as_bytes(), earlier.as_deref(), wait, free);
             } else {
                 assert_eq!(wait.steps, left as u64);
                 self.ends += 1;
@@ -136,14 +156,19 @@ impl Seen {
         checkpoint: &[u8; Checkpoint::LENGTH],
         earlier: Option<&[u8]>,
         wait: Wait,
-        left: usize,
+        free: u64,
     ) {
+        let left = free.count_ones() as usize;
         let later = trail_in(checkpoint);
         assert_eq!((checkpoint[0], later.len()), (1, left));
+        let mut assigned = 0;
         for byte in later {
-            let bit = model.bits() >> ((byte & 127) - 1) & 1;
-            assert_eq!(bit == 1, *byte > 128);
+            let variable = 1 << ((byte & 127) - 1);
+            assert_eq!(model.bits() & variable != 0, *byte > 128);
+            assigned |= variable;
         }
+        // Each variable that is not assumed, once.
+        assert_eq!(assigned, free);
         let Some(earlier) = earlier else {
             assert_eq!(wait.steps, left as u64);
             self.firsts += 1;
@@ -161,31 +186,14 @@ impl Seen {
 fn along_ten_thousand_chains_the_waits_are_those_of_the_trails() {
     let mut random = Random::new(8);
     let mut seen = Seen::default();
-    let mut chains = 0;
-    while chains < 10_000 {
-        let input = some_accepted_formula(&mut random, is_accepted);
-        let mut list = some_assumptions(&mut random, &input);
-        let mut row = [0; 96];
-        let assumed: Vec<reference::Assumption> = list.iter().map(|a| (*a).into()).collect();
-        if reference::judge(&input, &assumed, &mut row).is_err() {
-            list.clear();
-            reference::judge(&input, &[], &mut row).unwrap();
-        }
-        let left = usize::from(input[1]) - list.len();
-        let assumptions: Vec<Assumption> = list
-            .iter()
-            .map(|(variable, value)| Assumption {
-                variable: *variable,
-                value: *value,
-            })
-            .collect();
-        seen.chain(&mut random, &input, &assumptions, left);
-        seen.assuming += usize::from(!list.is_empty());
-        seen.nothing_left += usize::from(left == 0);
-        seen.stripped += usize::from(row.iter().any(|byte| *byte > 128));
-        chains += 1;
+    for _ in 0..10_000 {
+        let (input, assumptions, stripped) = some_accepted(&mut random);
+        seen.chain(&mut random, &input, &assumptions);
+        seen.assuming += usize::from(!assumptions.is_empty());
+        seen.nothing_left += usize::from(free_variables(&input, &assumptions) == 0);
+        seen.stripped += usize::from(stripped);
     }
-    println!("{chains} chains: {seen:?}");
+    println!("{seen:?}");
     assert!(seen.firsts > 8_000 && seen.between > 20_000 && seen.ends > 1_000);
     assert!(seen.divided > 10_000 && seen.assuming > 2_000);
     assert!(seen.nothing_left > 100 && seen.stripped > 500);
@@ -205,30 +213,48 @@ fn steps_on(page: &[u8; PAGE_SIZE], lines: usize) -> Vec<u64> {
 #[test]
 fn the_lines_of_pages_have_the_waits() {
     let mut random = Random::new(9);
-    let (mut lines, mut later) = (0, 0);
+    let (mut lines, mut within, mut behind, mut assuming) = (0, 0, 0, 0);
     while lines < 20_000 {
-        let input = some_accepted_formula(&mut random, is_accepted);
-        // Two pages from the start: the second begins at the checkpoint of a model, the last of the first.
-        let mut paged = Checkpoint::start();
-        let mut walked = Checkpoint::start();
+        let (input, assumptions, _) = some_accepted(&mut random);
         let mut waits = Waits::default();
+        let mut checkpoint = Checkpoint::start();
+        // Some pages begin after a call: at a model, or within a gap, of which some steps are made then.
+        let mut made = 0;
+        if random.percent(50) {
+            let budget = some_budget(&mut random);
+            let call = walk(&input, &assumptions, &mut checkpoint, budget).unwrap();
+            let stop = stop_of(call.answer);
+            if waits
+                .call(stop, call.steps, checkpoint.as_bytes())
+                .is_none()
+            {
+                made = u64::from(call.steps);
+            }
+        }
+        let mut walked = checkpoint;
+        // The second page begins at the checkpoint of a model, the last of the first.
         for number in 0..2 {
             let mut text = [0; PAGE_SIZE];
-            let filled = page(&input, &[], &mut paged, 1, &mut text).unwrap().lines;
-            for steps in steps_on(&text, filled) {
-                let call = walk(&input, &[], &mut walked, 96).unwrap();
-                let wait = waits
-                    .call(stop_of(call.answer), call.steps, walked.as_bytes())
-                    .unwrap();
-                assert_eq!(steps, wait.told, "{input:02x?}");
+            let paged = page(&input, &assumptions, &mut checkpoint, 1, &mut text).unwrap();
+            for steps in steps_on(&text, paged.lines) {
+                let call = walk(&input, &assumptions, &mut walked, 96).unwrap();
+                let wait = waits.call(stop_of(call.answer), call.steps, walked.as_bytes());
+                assert_eq!(
+                    steps + made,
+                    wait.unwrap().told,
+                    "{input:02x?} {assumptions:?}"
+                );
+                within += usize::from(made > 0);
+                made = 0;
                 lines += 1;
-                later += number;
+                behind += number;
             }
-            if filled < PAGE_LINES {
+            if paged.lines < PAGE_LINES {
                 break;
             }
         }
+        assuming += usize::from(!assumptions.is_empty());
     }
-    println!("{lines} lines, {later} of them on second pages");
-    assert!(later > 1_000);
+    println!("{lines} lines, {behind} on second pages, {within} first ones within a gap; {assuming} formulas under assumptions");
+    assert!(within > 20 && behind > 1_000 && assuming > 100);
 }

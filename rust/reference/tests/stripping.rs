@@ -6,7 +6,8 @@ use norwythai_reference::{
     Refusal, Walker, LIST_BUDGET,
 };
 use norwythai_samples::{
-    encode, some_accepted_formula, some_assumptions, some_checkpoint, some_input, Random,
+    encode, some_accepted_formula, some_assumptions, some_checkpoint, some_input, Random, Stop,
+    Waits,
 };
 use std::collections::BTreeMap;
 
@@ -348,6 +349,7 @@ fn a_walk_lists_all_models_and_waits_as_long_as_others() {
         let assumed = formula.assume(&assumptions).unwrap();
         let mut walker = Walker::start(&formula, assumed).unwrap();
         let to_assign = assumed.left_to_assign(&formula) as u32;
+        let mut waits = Waits::default();
         let mut found = Vec::new();
         loop {
             let checkpoint = walker.checkpoint();
@@ -361,7 +363,8 @@ fn a_walk_lists_all_models_and_waits_as_long_as_others() {
                 break;
             };
             assert!(progress.steps == to_assign || !found.is_empty());
-            assert!(progress.steps <= 2 * to_assign);
+            let wait = waits.call(Stop::Model, progress.steps, &walked.checkpoint);
+            assert_eq!(u64::from(progress.steps), wait.unwrap().told);
             found.push(model);
         }
         found.sort();

@@ -4,7 +4,7 @@ use norwythai_reference::{
     decode, judge, print, start_checkpoint, walk, Answer, Assumption, Walker, LIST_BUDGET,
 };
 use norwythai_samples::{
-    encode, some_accepted_formula, some_assumptions, some_budget, Random, Stop, Waits,
+    some_accepted_formula, some_assumptions, some_budget, Random, Stop, Waits,
 };
 
 fn is_accepted(input: &[u8]) -> bool {
@@ -53,19 +53,27 @@ fn the_walker_has_the_waits_of_its_trails() {
 
 #[test]
 fn the_print_has_them_on_its_lines() {
-    let pairs = encode(3, &[vec![1, 2], vec![1, 3], vec![2, 3]]);
-    let mut checkpoint = start_checkpoint();
-    let mut waits = Waits::default();
-    let printed = print(&pairs);
-    let mut lines = 0;
-    for line in printed.lines().skip(1) {
-        let walked = walk(&pairs, &[], &checkpoint, LIST_BUDGET).unwrap();
-        checkpoint = walked.checkpoint;
-        let progress = walked.progress;
-        let wait = waits.call(stop_of(progress.answer), progress.steps, &checkpoint);
-        let steps = line.split(' ').nth(1).unwrap();
-        assert_eq!(steps.parse(), Ok(wait.unwrap().told));
-        lines += 1;
+    let mut random = Random::new(9);
+    let (mut lines, mut ends) = (0, 0);
+    for _ in 0..300 {
+        let input = some_accepted_formula(&mut random, is_accepted);
+        let mut checkpoint = start_checkpoint();
+        let mut waits = Waits::default();
+        let printed = print(&input);
+        for line in printed.lines().skip(1) {
+            if line == "more" {
+                break;
+            }
+            let walked = walk(&input, &[], &checkpoint, LIST_BUDGET).unwrap();
+            checkpoint = walked.checkpoint;
+            let progress = walked.progress;
+            let wait = waits.call(stop_of(progress.answer), progress.steps, &checkpoint);
+            let steps = line.split(' ').nth(1).unwrap();
+            assert_eq!(steps.parse(), Ok(wait.unwrap().told), "{input:02x?}");
+            lines += 1;
+            ends += usize::from(line.starts_with("end "));
+        }
     }
-    assert_eq!(lines, 5);
+    println!("{lines} lines, {ends} of them ends");
+    assert!(lines > 10_000 && ends > 50);
 }

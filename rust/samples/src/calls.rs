@@ -3,7 +3,7 @@
 use crate::random::Random;
 
 /// The bytes of a checkpoint.
-type Checkpoint = [u8; 50];
+pub(crate) type Checkpoint = [u8; 50];
 
 /// An assignment that may well be a model, or one with any bits.
 pub fn some_assignment(random: &mut Random, input: &[u8]) -> u64 {

@@ -1,7 +1,6 @@
 //! The steps between the models of a list of walk calls, added up over the calls, and what the trails say that they are.
 
-/// The bytes of a checkpoint.
-type Checkpoint = [u8; 50];
+use crate::calls::Checkpoint;
 
 /// How a walk call ended.
 #[derive(Clone, Copy, Debug, PartialEq, Eq)]
@@ -56,13 +55,16 @@ impl Waits {
     }
 
     /// Takes the next call of the list, by its steps and by the checkpoint that came back. Gives the wait that it closes, if it brings a
-    /// model or, for the first time, the end.
+    /// model or, for the first time, the end. Behind the end each call must say ended again, with no step made.
     pub fn call(&mut self, stop: Stop, steps: u32, checkpoint: &Checkpoint) -> Option<Wait> {
+        if self.ended {
+            assert_eq!((stop, steps), (Stop::Ended, 0), "behind the end");
+            return None;
+        }
         self.steps += u64::from(steps);
         self.calls += 1;
         let assigned = match stop {
             Stop::Spent => return None,
-            Stop::Ended if self.ended => return None,
             Stop::Ended => self.trail.as_ref().expect("a model comes first").len(),
             Stop::Model => {
                 let later = trail_in(checkpoint);
