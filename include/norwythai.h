@@ -117,8 +117,8 @@
  *   byte  6         a blank
  *   bytes 7 to 54   48 columns: the digit of variable v, 1 if it is true and 0 if not, is byte 6 + v; behind that of variable n are blanks
  *   byte  55        a blank
- *   bytes 56 to 58  the steps from the line before to its model, right-aligned, those that norwythai_walk's comment has; on the first
- *                   line those from the checkpoint handed in
+ *   bytes 56 to 58  the steps from the line before to its model, right-aligned: as many as norwythai_walk makes between the two; on the
+ *                   first line those from the checkpoint handed in
  *   byte  59        a line feed (0A)
  *
  * A line without a model is 59 blanks and a line feed.
@@ -243,9 +243,9 @@ uint32_t norwythai_start(uint8_t *checkpoint, size_t checkpoint_length);
  * of 96 always brings a model or the end. Where all variables are assumed there are no steps: on any budget, 0 too, the call from the
  * start brings the one model, and the next one the end.
  * The steps, added up over the calls, are exact (theorem demand-3-called in crates/capi/proofs/Theorems.antt). With n variables that are
- * not assumed it is n steps to the first model, and n from the last one to the end. Between two neighbours it is twice the number of
- * variables assigned after the longest beginning that their trails share: 2 * (n - k), where of the n bytes behind mode and length the
- * checkpoints that came with the two models have the first k alike. How many are still to come, a call of budget 96 on a copy of the
+ * not assumed it is n steps to the first model, and n from the last one to the end. From a model to the next it is two for each variable
+ * from the point on where their trails part: 2 * (n - k), where of the n bytes behind mode and length in the checkpoints that came with
+ * the two models the first k are the same and the next one is not. How many are still to come, a call of budget 96 on a copy of the
  * checkpoint says.
  * With `input_length` or `assumptions_length` 0, `input` or `assumptions` is the address of any byte and not null.
  */

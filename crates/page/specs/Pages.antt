@@ -1,4 +1,4 @@
--- S19.2 to S19.5: the act page, over walk calls of an ample budget, and pages one after the other.
+-- S19.2 to S19.5: the act page, over walk calls of an ample budget, and pages one after the other; S21.4: the steps on its lines.
 use Prim.Native.Nat.{ℕ, zero, suc, _+_}
 use mathlib.Core.Bool.{cond, _||_}
 use mathlib.Core.List.{List, [], _∷_, _++_, map}

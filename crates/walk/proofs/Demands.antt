@@ -154,7 +154,7 @@ module _ (s : List ℕ) (us : List Assumption) (n : ℕ) (cs : List (List Litera
   gap-models bs = waits.trails-brought s us task posed walks bs start (has.start-has s us task posed walks) 0 0
 
   -- S21.2: two neighbours, d steps between them: the later trail has a variable as true where the earlier has it as false, at the place where
-  -- they part. So some variable is assigned behind it, and the wait is even and at least 2.
+  -- they part. So some variable is assigned behind what they share, and the wait is even and at least 2.
   pub neighbours : (bs : List ℕ) (gs hs : List Gap) (c e d f : ℕ) (x y : List Literal) → gaps (walk-calls s us start bs) ≡ gs ++ (to-model c e x ∷ to-model d f y ∷ hs)
       → (d ≡ 2 * (length y - shared x y)) × Parting x y × (0 < length y - shared x y) × (2 ≤ d)
   neighbours bs gs hs c e d f x y h =

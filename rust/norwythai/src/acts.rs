@@ -257,11 +257,10 @@ pub struct Walked {
 /// # Waits
 ///
 /// How many steps lie between two models is known exactly, however the budgets divide them over calls. With n variables that are not
-/// assumed, the first model comes after n steps, and the end n steps after the last model. Between two neighbours it is twice the number
-/// of variables that are assigned after the longest beginning that their trails share. A model's trail stands in the checkpoint that comes
-/// with it, behind mode and length: n bytes, a variable each in the order of assignment, and 128 more if it is true. Nobody knows the next
-/// trail before the walk has come to it. So a display that counts down to the next model asks on a copy of the checkpoint how many steps
-/// are still to come:
+/// assumed, the first model comes after n steps, and the end n steps after the last model. From a model to the next it is two steps for
+/// each variable from the point on where their trails part. A model's trail stands in the checkpoint that comes with it, behind mode and
+/// length: n bytes, a variable each in the order of assignment, and 128 more if it is true. Nobody knows the next trail before the walk has
+/// come to it. So a display that counts down to the next model asks on a copy of the checkpoint how many steps are still to come:
 ///
 /// ```
 /// use norwythai::{walk, Answer, Checkpoint};
