@@ -30,8 +30,8 @@ budget-count v = (v .end - v .output) / 4
 abbrev pub budgets-of : List ℕ → Vector → List ℕ
 budgets-of s v = budgets-from s (v .output) (budget-count v)
 
--- After a model with the trail x. To the next one: twice what its trail y has behind the beginning that the two share. To the end: as many
--- steps as x has literals.
+-- After a model with the trail x. To the next one: twice as many steps as its trail y has literals behind the beginning that the two share.
+-- To the end: as many as x has. So far: at most twice as many.
 unfoldable pub later-hold : List Literal → List Gap → Bool
 later-hold x [] = true
 later-hold x (to-model c e y ∷ gs) = eqb c (2 * (length y - shared x y)) && later-hold y gs
@@ -104,7 +104,7 @@ pub record NoneYet (r : Waits) : Type 0 where
   pub steps : r .steps ≡ 0
   pub models : r .models ≡ 0
 
--- with other steps, and another checkpoint that the last call returned
+-- after a call that brings neither a model nor the end: other steps, and another checkpoint that was returned
 abbrev pub going-on : Waits → ℕ → Checkpoint → Waits
 going-on w c reached =
     record { came = w .came; last = w .last; steps = c; models = w .models; right = w .right; ended = w .ended; reached = reached }

@@ -19,8 +19,9 @@ use vectors::corpus::four_bytes;
 use vectors::corpus::wide;
 use vectors::report;
 
-// What is known after some calls of a chain: whether a model came, the checkpoint behind the last one, the steps since, how many models
-// came, whether every wait was right, whether the end came, and the checkpoint that the last call returned.
+// What is known after some calls of a chain: whether a model came, the checkpoint that came back with the last one (the start checkpoint
+// before any), the steps since, how many models came, whether every wait was right, whether the end came, and the checkpoint that the last
+// call returned.
 pub struct Waits {
     pub came: bool,
     pub last: Checkpoint,
@@ -47,6 +48,7 @@ fn none_yet() -> Waits
     }
 }
 
+// The number in a checkpoint's byte.
 fn number_of(b: u8) -> u8
     ensures { λ r. ⌜ r ≡ byte-number b ⌝ }
 {
@@ -56,7 +58,7 @@ fn number_of(b: u8) -> u8
     b
 }
 
-// The variable of a checkpoint's byte, from 0.
+// The variable of a checkpoint's byte, from 0; a byte without a number has that of number 1.
 fn variable_of(b: u8) -> u8
     ensures { λ r. ⌜ r ≡ byte-number b - 1 ⌝ }
 {
@@ -145,7 +147,7 @@ fn both(a: bool, b: bool) -> bool
     false
 }
 
-// No model and no end came, and the last call returned a checkpoint.
+// After a call that brings neither a model nor the end, or one behind the end.
 fn going_on(w: Waits, steps: u64, reached: Checkpoint) -> Waits
     ensures { λ r. ⌜ r ≡ going-on w steps reached ⌝ }
 {
@@ -210,7 +212,7 @@ fn next_call(bytes: &[u8], v: Vector, w: Waits, at: usize) -> Waits
     after_call(w, q)
 }
 
-// What is known after all of the vector's calls.
+// What is known after all of the vector's calls. A file is no longer than 65,536 bytes, so that the sums of steps fit.
 fn waits_of(bytes: &[u8], v: Vector) -> Waits
     requires { ⌜ Lies (now bytes) v 4 × (length (now bytes) ≤ 65536) ⌝ }
     ensures { λ r. ⌜ found r [] ≡ found-in (calls-of (now (bytes .entry)) v) ⌝ }
@@ -226,7 +228,7 @@ fn waits_of(bytes: &[u8], v: Vector) -> Waits
     w
 }
 
-// Whether every wait was right, with that since the last model, which may not be over.
+// Whether every wait was right, and that since the last model, which is not over, no longer than one can be.
 fn all_right(w: Waits) -> bool
     ensures { λ r. ⌜ r ≡ found w [] .right ⌝ }
 {
