@@ -3,7 +3,8 @@
 
 VECTORS has one JSON object a line: "act", its input and the expected answer. Vectors of an act that has no coder below are
 left out. So is one that does not fit the format, and that is said. If all of them together don't fit, nothing is written. Every
-readable input among them is also written as a text, and that text read again; and what each judge leaves in the buffer is weighed.
+readable input among them is also written as a text, and that text read again; what each judge leaves in the buffer is weighed; and the
+steps between the models of each chain are compared with their trails.
 
 Format. A file holds vectors of one act, one after the other, and nothing else; it has at most 65,536 bytes, so an act has
 files NAMEa, NAMEb, .., at most 26; start has one, start, and the edge cases of an act have one, NAME_edges, and for judge, weigh and
@@ -11,12 +12,12 @@ walk under assumptions a second one, NAME_assumed. Numbers are little-endian. A 
 
     2 bytes   its number: the line of VECTORS, from 1, or from 60,000 for a vector of this script
     2 bytes   the length of its input
-    2 bytes   the length of its assumptions, which judge, weigh, walk, chain, listing, list, page and formulas may have
-    2 bytes   the length of the bytes that it expects, which read_text, write_text, list, page and printed have
+    2 bytes   the length of its assumptions, which judge, weigh, walk, chain, wait, listing, list, page and formulas may have
+    2 bytes   the length of the bytes that it expects, which read_text, write_text, list, page and printed have, and wait as budgets
     ..        its input
     ..        its assumptions, two bytes each: the variable, then 1 for true or 0 for false
     ..        the bytes that it expects
-    6 bytes   the expected answer; start and printed have none
+    6 bytes   the expected answer; start, wait and printed have none
     ..        its own fields, by act
 
 An answer:
@@ -76,6 +77,11 @@ Own fields of walk, 121 bytes:
 A chain of VECTORS is a list of calls on one input under one list of assumptions, which may be empty: here a vector of walk for each
 call, with the number of the chain; the first gets the start checkpoint and each other what the call before it returned. Where a chain
 goes on in a further file, the first call there gets the checkpoint that the call before it must return.
+
+A chain is a vector of wait too. The bytes that it expects are the budgets of its calls, 4 bytes each. Its own field, 4 bytes: how many of
+the calls bring a model. The calls are made again, and the steps are summed over the calls between two models: to the first model they must
+be as many as its trail has literals, from one to the next twice those that its trail has behind the longest beginning that the two share,
+and from the last one to the end as many as its trail has.
 
 A listing of VECTORS is a whole walk. Here it is a vector of listing for each of its calls, on an ample budget, and one of list.
 
@@ -260,6 +266,17 @@ def chain_vector(number, v):
     return groups
 
 
+def waiting(number, given, budgets, models):
+    """The vector of the waits of a chain, whose calls have these budgets and bring this many models."""
+    return coded(number, given, b'', little(models, 4), b''.join(little(budget, 4) for budget in budgets))
+
+
+def wait_vector(number, v):
+    """From a chain: its waits."""
+    budgets, answers = [budget for budget, *_ in v['calls']], [answer for _, answer, *_ in v['calls']]
+    return [[waiting(number, assumed_input(v), budgets, answers.count('set-up'))]]
+
+
 def listing_vector(number, v):
     """A vector for each call. No checkpoint is known, so all stand in one file."""
     calls = [(MODEL, int(model, 16), *counts) for model, *counts in v['setups']] + [(ENDED, 0, *v['end'])]
@@ -295,8 +312,9 @@ def printed_vector(number, v):
 
 
 ACTS = {'check': check_vector, 'judge': judge_vector, 'weigh': weigh_vector, 'read_text': read_vector, 'write_text': write_vector,
-        'start': start_vector, 'walk': walk_vector, 'chain': chain_vector, 'listing': listing_vector, 'list': list_vector,
-        'page': page_vector, 'printed': printed_vector}
+        'start': start_vector, 'walk': walk_vector, 'chain': chain_vector, 'wait': wait_vector, 'listing': listing_vector,
+        'list': list_vector, 'page': page_vector, 'printed': printed_vector}
+UNITS = {'chain': 'calls', 'wait': 'chains', 'listing': 'calls'}  # what is counted, if not vectors
 
 
 def read(given):
@@ -1074,6 +1092,62 @@ WALK_ASSUMED = [
     *foreign(checkpoint(1, 0), (EXAMPLE, '01 01'), (TWO_FREE, '02 00'), (ALL_FREE, ALL_TRUE[:-6])),
 ]
 
+# wait: input, the budgets of the calls, and how many models come
+THREE_PAIRS = '01 03 02 01 02 02 04 02 01 02 03 04 02 02 02 03 04 05'  # clauses (1, 2), (1, 3) and (2, 3): 3 is assigned first
+# S9.5: inputs, and the steps to each model and from the last one to the end, by hand; none where the calls are refused
+WAITS = [
+    (THREE_PAIRS, [3, 6, 4, 2, 3]),  # trails -3 2 1, 3 -2 1, 3 2 -1, 3 2 1
+    (PURE_LAST, [2, 4, 2]),
+    (EXAMPLE, [2, 4, 2]),
+    (AGAIN, [2, 4, 2]),
+    ((EXAMPLE, '01 01'), [1, 1]),
+    ((EXAMPLE, '02 01'), [1, 1]),
+    # nothing is left to assign: a model and the end, of no step
+    ((EXAMPLE, '01 00 02 01'), [0, 0]),
+    ((EXAMPLE, '02 00 01 01'), [0, 0]),
+    ((ALL_FREE, ALL_TRUE), [0, 0]),
+    (CLOSED_TRUE, [1, 1]),
+    (TWO_FREE, [2, 2, 4, 2, 2]),
+    ((THREE_FREE, '02 01'), [2, 2, 4, 2, 2]),
+    ((THREE_FREE, '03 00 01 01'), [1, 2, 1]),
+    # formulas that strip down
+    (TWICE, [1, 1]),
+    (MOST_TRUE, [1, 1]),
+    (PARTLY, [3, 6, 3]),
+    ((PARTLY, '02 01'), [2, 2]),
+    # refused by 3, 10 and 16
+    (UNREADABLE, []),
+    (UNMATCHED, []),
+    ((EXAMPLE, '01 01 02 01'), []),
+    ((EXAMPLE, '01 01 01 01'), []),
+]
+BUDGETS = [
+    [], [0], 3 * [0], 24 * [1], 12 * [2], 3 * [95], 3 * [96], 3 * [97], 8 * [96], [MOST, 0, MOST, 0, 0, MOST], [2, 0, 7, 1], [96, 1, 0, 95],
+    [1, 0, 1, 1, 2, 0, 4, 3, 2, 1, 0, 6, 5, 0, 97, 0],
+]
+# 48 variables and no clause: in the k-th model after the first the last variables change up to the lowest bit of k, as in counting
+COUNTING = [48, *(2 * (k & -k).bit_length() for k in range(1, 1000))]
+
+
+def brought(waits, budgets):
+    """How many models come: a call makes its steps up to the next model or the end, or as many as its budget."""
+    waits, models = list(waits), 0
+    for budget in budgets:
+        if waits and waits[0] <= budget:
+            waits.pop(0)
+            models += bool(waits)
+        elif waits:
+            waits[0] -= budget
+    return models
+
+
+WAIT_EDGES = [
+    *((given, budgets, brought(waits, budgets)) for given, waits in WAITS for budgets in BUDGETS),
+    *((ALL_FREE, budgets, brought(COUNTING, budgets)) for budgets in [
+        *BUDGETS, [47, 0, 1, 1, 1], [48, 1, 1, 95, 3], 40 * [96], 48 * [95], 64 * [2], 100 * [1], 60 * [0, 3, 1, 12], 300 * [96],
+    ]),
+]
+
 # list: input, the checkpoint that it gets, the room, what the last answer says, the refusal's number and place, the checkpoint returned,
 # and the models
 LIST_EDGES = [
@@ -1466,6 +1540,7 @@ EDGES = {'check': [('check_edges', 60000, CHECK_EDGES, check_edge)],
          'judge': [('judge_edges', 61000, JUDGE_EDGES, buffer_edge), ('judge_assumed', 61500, JUDGE_ASSUMED, buffer_edge)],
          'weigh': [('weigh_edges', 61200, WEIGH_EDGES, buffer_edge), ('weigh_assumed', 61700, WEIGH_ASSUMED, buffer_edge)],
          'walk': [('walk_edges', 62000, WALK_EDGES, walk_edge), ('walk_assumed', 62500, WALK_ASSUMED, walk_edge)],
+         'wait': [('wait_edges', 62650, WAIT_EDGES, waiting)],
          'list': [('list_edges', 63100, LIST_EDGES, list_edge)],
          'page': [('page_edges', 63600, PAGE_EDGES, page_edge)],
          'printed': [('printed_edges', 63000, PRINTED_EDGES, printed_text)],
@@ -1521,6 +1596,8 @@ def groups_of(lines):
             add(v['act'], ACTS[v['act']], number, v)
         if v['act'] == 'judge':
             add('weigh', weigh_vector, number, v)
+        if v['act'] == 'chain':
+            add('wait', wait_vector, number, v)
         if v['act'] == 'listing':
             add('list', list_vector, number, v)
         if 'sheet' in v or 'stdin' in v:
@@ -1542,7 +1619,7 @@ def main():
     sets = []
     for act, found in groups.items():
         names = [act] if act == 'start' else [act + letter for letter in LETTERS]
-        sets.append((act, names, found, 'calls' if act in ('chain', 'listing') else 'vectors'))
+        sets.append((act, names, found, UNITS.get(act, 'vectors')))
         for name, *edges in EDGES.get(act, []):
             sets.append((name, [name], [[v] for v in edge_vectors(*edges)], 'vectors'))
     files, report = {}, ''

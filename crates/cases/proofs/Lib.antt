@@ -7,5 +7,6 @@ pub mod PagingLaws
 pub mod PrintsLaws
 pub mod RunLaws
 pub mod TryingLaws
+pub mod WaitingLaws
 pub mod WalkingLaws
 pub mod WeighingLaws

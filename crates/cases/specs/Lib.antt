@@ -6,5 +6,6 @@ pub mod Paging
 pub mod Prints
 pub mod Runs
 pub mod Trying
+pub mod Waiting
 pub mod Walking
 pub mod Weighing

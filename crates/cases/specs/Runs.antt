@@ -9,7 +9,7 @@ use Rattle.walk.specs.Checkpoints.{Checkpoint, start}
 use Rattle.vectors.specs.declared.corpus.Vector.{Vector}
 use Rattle.vectors.specs.declared.corpus.Framed.the-variants.{Whole, Broken}
 use Rattle.cases.specs.declared.runs.Act.{Act}
-use Rattle.cases.specs.declared.runs.Act.the-variants.{Check, Judge, Weigh, ReadText, WriteText, Start, Walk, Listing, Models, Page, Compare, Print}
+use Rattle.cases.specs.declared.runs.Act.the-variants.{Check, Judge, Weigh, ReadText, WriteText, Start, Walk, Wait, Listing, Models, Page, Compare, Print}
 use Rattle.cases.specs.declared.runs.Run.{Run}
 use Rattle.vectors.specs.declared.totals.Totals.{Totals}
 use Rattle.vectors.specs.Checking.{check-agrees}
@@ -21,6 +21,7 @@ use Rattle.cases.specs.Paging.{page-agrees, page-leaves}
 use Rattle.cases.specs.Prints.{print-agrees}
 use Rattle.vectors.specs.Totals.{counted, Grown}
 use Rattle.cases.specs.Trying.{compare-agrees}
+use Rattle.cases.specs.Waiting.{waits-agree}
 use Rattle.cases.specs.Walking.{stored-checkpoint-size, start-agrees, walk-agrees, walk-leaves}
 use Rattle.cases.specs.Weighing.{weigh-agrees}
 
@@ -33,6 +34,7 @@ size-of ReadText = 9
 size-of WriteText = 9
 size-of Start = stored-checkpoint-size
 size-of Walk = 127
+size-of Wait = 4
 size-of Listing = 23
 size-of Models = 125
 size-of Page = 114
@@ -53,6 +55,7 @@ act-agrees ReadText s v last = convert-agrees true s v
 act-agrees WriteText s v last = convert-agrees false s v
 act-agrees Start s v last = start-agrees s v
 act-agrees Walk s v last = walk-agrees s v last
+act-agrees Wait s v last = waits-agree s v
 act-agrees Listing s v last = listing-agrees s v last
 act-agrees Models s v last = list-agrees s v last
 act-agrees Page s v last = page-agrees s v last
@@ -68,6 +71,7 @@ leaves ReadText s v last = last
 leaves WriteText s v last = last
 leaves Start s v last = last
 leaves Walk s v last = walk-leaves s v last
+leaves Wait s v last = last
 leaves Listing s v last = listing-leaves s v last
 leaves Models s v last = list-leaves s v last
 leaves Page s v last = page-leaves s v last

@@ -1,4 +1,5 @@
 // The vectors of a file, each by its act.
+ghost use Prim.Native.Nat.{_≤_};
 ghost use lib.ListN.{length};
 ghost use Rattle.enumeration.specs.Values.{checkpoint-values};
 ghost use Rattle.vectors.specs.Corpus.{Lies};
@@ -12,6 +13,7 @@ use crate::listing::listing_vector;
 use crate::paging::page_vector;
 use crate::prints::print_vector;
 use crate::trying::compare_vector;
+use crate::waiting::wait_vector;
 use crate::walking::CHECKPOINT_SIZE;
 use crate::walking::Compared;
 use crate::walking::start_vector;
@@ -33,6 +35,7 @@ pub enum Act {
     WriteText,
     Start,
     Walk,
+    Wait,
     Listing,
     Models,
     Page,
@@ -58,6 +61,7 @@ fn fields_of(act: Act) -> usize
         Act::WriteText => 9,
         Act::Start => CHECKPOINT_SIZE,
         Act::Walk => 127,
+        Act::Wait => 4,
         Act::Listing => 23,
         Act::Models => 125,
         Act::Page => 114,
@@ -68,7 +72,7 @@ fn fields_of(act: Act) -> usize
 
 // Whether the act gives what the vector expects, and the checkpoint of the last walk call; a difference is printed.
 fn run_vector(bytes: &[u8], v: Vector, act: Act, last: Checkpoint) -> Compared
-    requires { ⌜ Lies (now bytes) v (size-of act) ⌝ }
+    requires { ⌜ Lies (now bytes) v (size-of act) × (length (now bytes) ≤ 65536) ⌝ }
     ensures { λ r. ⌜ Gives (act-agrees act (now (bytes .entry)) v (checkpoint-values last)) (leaves act (now (bytes .entry)) v (checkpoint-values last)) r ⌝ }
 {
     match act {
@@ -97,6 +101,10 @@ fn run_vector(bytes: &[u8], v: Vector, act: Act, last: Checkpoint) -> Compared
             last,
         },
         Act::Walk => walk_vector(bytes, v, last),
+        Act::Wait => Compared {
+            agrees: wait_vector(bytes, v),
+            last,
+        },
         Act::Listing => listing_vector(bytes, v, last),
         Act::Models => list_vector(bytes, v, last),
         Act::Page => page_vector(bytes, v, last),
@@ -113,7 +121,7 @@ fn run_vector(bytes: &[u8], v: Vector, act: Act, last: Checkpoint) -> Compared
 
 // All vectors of a file, up to one that runs past its end, counted on from the totals so far.
 pub fn run_all(bytes: &[u8], act: Act, t: Totals) -> Run
-    requires { ⌜ RoomFor (length (now bytes)) t ⌝ }
+    requires { ⌜ RoomFor (length (now bytes)) t × (length (now bytes) ≤ 65536) ⌝ }
     ensures { λ r. ⌜ Ran act (now (bytes .entry)) t r ⌝ }
 {
     let fields = fields_of(act);

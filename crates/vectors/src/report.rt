@@ -61,6 +61,13 @@ pub fn other_checkpoint(vector: u64) {
     text(b": another checkpoint\n");
 }
 
+// A vector whose calls have other steps between two models than their trails say, or another number of models.
+pub fn other_waits(vector: u64) {
+    text(b"vector ");
+    number(vector);
+    text(b": other waits\n");
+}
+
 // A vector whose printed text is another from a byte on, counted from 0.
 pub fn other_text(vector: u64, at: usize, wanted: &[u8], got: &[u8]) {
     text(b"vector ");

@@ -67,7 +67,7 @@ placed c = within _ _ _ _ (sym (c .before .before .frame .ensures) ∙ c .v .giv
 
 run-vector-requires : tie.Need-run-vector-requires Inv-loop μ-loop
 run-vector-requires c κs =
-    rw (c .before .before .before .before .before .loop .inv .3) at (placed (c .before) .lies)
+    (rw (c .before .before .before .before .before .loop .inv .3) at (placed (c .before) .lies), search needs)
 
 count-requires : tie.Need-count-requires Inv-loop μ-loop
 count-requires c κs = search needs
