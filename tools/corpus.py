@@ -1094,7 +1094,7 @@ WALK_ASSUMED = [
 
 # wait: input, the budgets of the calls, and how many models come
 THREE_PAIRS = '01 03 02 01 02 02 04 02 01 02 03 04 02 02 02 03 04 05'  # clauses (1, 2), (1, 3) and (2, 3): 3 is assigned first
-# S9.5: inputs, and the steps to each model and from the last one to the end, by hand; none where the calls are refused
+# S21: inputs, and the steps to each model and from the last one to the end, by hand; none where the calls are refused
 WAITS = [
     (THREE_PAIRS, [3, 6, 4, 2, 3]),  # trails -3 2 1, 3 -2 1, 3 2 -1, 3 2 1
     (PURE_LAST, [2, 4, 2]),

@@ -30,7 +30,7 @@ use Rattle.vectors.specs.declared.corpus.Vector.{Vector}
 use Rattle.vectors.specs.Corpus.{four-bytes, input-of}
 use Rattle.cases.specs.declared.waiting.Waits.{Waits}
 use Rattle.cases.specs.Assuming.{assumptions-of}
-use Rattle.cases.specs.Waiting.{budgets-from, budgets-of, later-hold, waits-hold, calls-of, waits-agree, trail-of, LengthOf, due, Found, found-in, rest-hold, found-on, found, NoneYet, going-on, AfterCall, calls-left, AfterNext}
+use Rattle.cases.specs.Waiting.{budgets-from, budgets-of, later-hold, waits-hold, calls-of, waits-agree, checkpoint-trail, LengthOf, due, Found, found-in, rest-hold, found-on, found, NoneYet, going-on, AfterCall, calls-left, AfterNext}
 use Rattle.cases.proofs.WalkingLaws.{checkpoint-kept}
 
 -- ---- literals
@@ -263,7 +263,7 @@ call-steps-kept q = steps-kept (q .answer) (q .steps) (q .expansions) (checkpoin
 
 module _ (w : Waits) (q : Walked) where
   abbrev trail : List Literal
-  trail = trail-of (w .last)
+  trail = checkpoint-trail (w .last)
 
   abbrev told : Answer → Result
   told a = answer-values a (q .steps) (q .expansions) (checkpoint-values (q .checkpoint))
@@ -281,7 +281,7 @@ module _ (w : Waits) (q : Walked) where
     pub after-model :
         (a : ℕ) (steps : ℕ) (right : Bool)
         → q .answer ≡ Model a
-        → steps ≡ due (w .came) trail (trail-of (q .checkpoint))
+        → steps ≡ due (w .came) trail (checkpoint-trail (q .checkpoint))
         → right ≡ w .right && eqb (w .steps + q .steps) steps
         → AfterCall w (walked-values q)
         (record { came = true; last = q .checkpoint; steps = 0; models = w .models + 1; right = right; ended = false; reached = q .checkpoint })
@@ -376,5 +376,5 @@ pub compared :
 unfolding waits-agree
 compared s v w right wanted f r e =
     let m : w .models ≡ length (gap-trails (gaps (calls-of s v))) =
-    sym (models-found (w .ended) (w .came) (trail-of (w .last)) (w .steps) (w .models) (w .right)) ∙ ap (λ (x : Found). x .models) f in
+    sym (models-found (w .ended) (w .came) (checkpoint-trail (w .last)) (w .steps) (w .models) (w .right)) ∙ ap (λ (x : Found). x .models) f in
     rw (r ∙ ap (λ (x : Found). x .right) f, m, e)

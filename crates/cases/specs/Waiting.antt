@@ -1,5 +1,5 @@
--- The waits of a chain (S9.5): the steps between two models, over all of its calls, compared with the trails in the checkpoints that come back
--- with the models.
+-- The waits of a chain (S21): the steps between two models, over all of its calls, compared with the trails in the checkpoints that come
+-- back with the models.
 use Prim.Native.Nat.{ℕ, zero, suc, _+_, _*_, _-_, _/_, _≤_}
 use mathlib.Core.Bool.{Bool, true, false, _&&_}
 use mathlib.Core.List.{List, [], _∷_, map}
@@ -58,14 +58,14 @@ waits-agree s v =
 -- ---- call by call
 
 -- the trail in a checkpoint
-abbrev pub trail-of : Checkpoint → List Literal
-trail-of c = walk.trail-in (checkpoint-values c)
+abbrev pub checkpoint-trail : Checkpoint → List Literal
+checkpoint-trail c = walk.trail-in (checkpoint-values c)
 
 -- its length, up to which it is the literals of the bytes
 pub record LengthOf (c : Checkpoint) (r : ℕ) : Type 0 where
-  pub value : r ≡ length (trail-of c)
+  pub value : r ≡ length (checkpoint-trail c)
   pub small : r ≤ max-variables
-  pub trail : trail-of c ≡ map walk.byte-literal (take r (c .bytes))
+  pub trail : checkpoint-trail c ≡ map walk.byte-literal (take r (c .bytes))
 
 -- the steps that are due to a model with the trail y: from a model with the trail x, or from the start
 abbrev pub due : Bool → List Literal → List Literal → ℕ
@@ -95,7 +95,7 @@ found-on false came x c m right rs =
     record { right = right && rest-hold came x gs; models = m + length (gap-trails gs) }
 
 abbrev pub found : Waits → List Result → Found
-found w rs = found-on (w .ended) (w .came) (trail-of (w .last)) (w .steps) (w .models) (w .right) rs
+found w rs = found-on (w .ended) (w .came) (checkpoint-trail (w .last)) (w .steps) (w .models) (w .right) rs
 
 -- before the first call
 pub record NoneYet (r : Waits) : Type 0 where

@@ -1,6 +1,6 @@
 // The vectors of waits: the calls of a chain, and the steps between two models compared with the trails of these.
 ghost use Prim.Native.Nat.{_+_, _-_, _*_, _<_, _≤_, _^_};
-ghost use mathlib.Core.Bool.{Bool, _&&_};
+ghost use mathlib.Core.Bool.{_&&_};
 ghost use mathlib.Core.List.{[]};
 ghost use mathlib.Core.Path.{_≡_};
 ghost use lib.Dec.{eqb};
@@ -9,7 +9,7 @@ ghost use Rattle.walk.specs.Checkpoints.{byte-number, byte-literal};
 ghost use Rattle.walk.specs.Gaps.{same-literal, shared};
 ghost use Rattle.enumeration.specs.Values.{walked-values};
 ghost use Rattle.vectors.specs.Corpus.{four-bytes, Lies};
-ghost use Rattle.cases.specs.Waiting.{trail-of, LengthOf, due, found-in, found, NoneYet, going-on, AfterCall, AfterNext, calls-of, waits-agree};
+ghost use Rattle.cases.specs.Waiting.{checkpoint-trail, LengthOf, due, found-in, found, NoneYet, going-on, AfterCall, AfterNext, calls-of, waits-agree};
 use crate::walking::call_from;
 use enumeration::Answer;
 use enumeration::Checkpoint;
@@ -96,7 +96,7 @@ fn length_of(c: Checkpoint) -> u64
 
 // The length of the longest beginning that the trails in two checkpoints share.
 fn shared_of(x: Checkpoint, y: Checkpoint) -> u64
-    ensures { λ r. ⌜ r ≡ shared (trail-of x) (trail-of y) ⌝ }
+    ensures { λ r. ⌜ r ≡ shared (checkpoint-trail x) (checkpoint-trail y) ⌝ }
 {
     let earlier = x.bytes;
     let later = y.bytes;
@@ -117,7 +117,7 @@ fn shared_of(x: Checkpoint, y: Checkpoint) -> u64
 
 // The steps that are due from the last model, or from the start, to a model with the checkpoint c.
 fn due_to(w: Waits, c: Checkpoint) -> u64
-    ensures { λ r. ⌜ r ≡ due (w .came) (trail-of (w .last)) (trail-of c) ⌝ }
+    ensures { λ r. ⌜ r ≡ due (w .came) (checkpoint-trail (w .last)) (checkpoint-trail c) ⌝ }
 {
     let size = length_of(c);
     if w.came {
@@ -129,7 +129,7 @@ fn due_to(w: Waits, c: Checkpoint) -> u64
 
 // Whether the end may come after the steps: a model came, and they are as many as its trail has literals.
 fn may_end(w: Waits, steps: u64) -> bool
-    ensures { λ r. ⌜ r ≡ w .came && eqb steps (length (trail-of (w .last))) ⌝ }
+    ensures { λ r. ⌜ r ≡ w .came && eqb steps (length (checkpoint-trail (w .last))) ⌝ }
 {
     if w.came {
         let last = w.last;

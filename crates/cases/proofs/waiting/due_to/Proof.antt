@@ -1,7 +1,7 @@
 -- `due_to`: by whether a model came.
 use native.Mathlib.Omega.{arith}
 use Rattle.walk.proofs.SharedLaws.{shared-longest}
-use Rattle.cases.specs.Waiting.{trail-of}
+use Rattle.cases.specs.Waiting.{checkpoint-trail}
 use borrow.Author.Needs.{needs}
 use Rattle.cases.proofs.waiting.due_to.Statement.{statement}
 use Rattle.cases.proofs.waiting.due_to.Tie as tie
@@ -17,7 +17,7 @@ sub-result c =
     let a = c .before .before .before .before .args in
     let e = c .shared-of .ensures in
     let n = c .before .before .before .length-of .ensures .value in
-    omega (arith, shared-longest (trail-of (a .w .last)) (trail-of (a .c)) .in-later)
+    omega (arith, shared-longest (checkpoint-trail (a .w .last)) (checkpoint-trail (a .c)) .in-later)
 
 mul-result : tie.Need-mul-result
 mul-result c = search needs
