@@ -172,25 +172,10 @@ module _ (s : List ℕ) (us : List Assumption) (n : ℕ) (cs : List (List Litera
         → (let rs = next-results s us c k in steps-at rs (suc i) ≡ 2 * (length (trail-at rs (suc i)) - shared (trail-at rs i) (trail-at rs (suc i))))
     page-waits = waits.waits-between s us task posed walks c w k
 
-    -- On the first line it is so if the checkpoint that is handed in is that of a model, mode 1 with every variable to assign in its trail;
+    -- On the first line it is so if the checkpoint that is handed in is that of a model, mode 1 with every variable to assign in its trail.
     pub page-wait-first : c .mode ≡ 1 → c .length ≡ to-assign task → 0 < length (next-results s us c k)
         → (let rs = next-results s us c k in steps-at rs 0 ≡ 2 * (length (trail-at rs 0) - shared (trail-in c) (trail-at rs 0)))
     page-wait-first m l h = waits.wait-first s us task posed walks c w m l k h
-
-  -- from the start the first line has as many steps as there are variables to assign.
-  pub page-wait-start : (k : ℕ) → 0 < length (next-results s us start k) → steps-at (next-results s us start k) 0 ≡ to-assign task
-  page-wait-start = waits.wait-start s us task posed walks
-
-  -- So stand the bytes of every line but the first of a page that is not refused.
-  pub page-line-waits : (c : Checkpoint) → Has task c → (serial : ℕ) (before : List ℕ) → page-call s us c serial before .answer .number ≡ 0 → (i : ℕ) → suc i < page-lines
-      → (let rs = next-results s us c page-lines in suc i < length rs
-      → take line-size (drop (line-size * suc i) (page-call s us c serial before .page))
-      ≡ page-line (serial + suc i) n (getD (map (λ r. r .model) rs) (suc i) 0) (2 * (length (trail-at rs (suc i)) - shared (trail-at rs i) (trail-at rs (suc i)))))
-  page-line-waits c w serial before h i l m =
-      let rs = next-results s us c page-lines in
-      line-stands s us c serial before h (suc i) l
-      ∙ line-told (accepted-variables (acceptance s us)) serial rs (suc i) m
-      ∙ rw (page-variables, page-waits c w page-lines i m)
 
   -- S19.2: such a page is written;
   pub page-filled : (c : Checkpoint) → Has task c → (serial : ℕ) (before : List ℕ) → page-size ≤ length before → 0 < serial → serial ≤ max-serial
@@ -205,6 +190,21 @@ module _ (s : List ℕ) (us : List Assumption) (n : ℕ) (cs : List (List Litera
   page-from-end serial before room some most =
       page-written s us (checkpoint-of 4 []) serial before room some most (rw (from-end s us n cs encodes good vs pairs ample-budget) (answer-unrefused ended))
       ∙ rw (nexts.end-results s us task posed walks page-lines, nexts.end-checkpoint s us task posed walks page-lines)
+
+  -- S21.4: from the start the first line has as many steps as there are variables to assign.
+  pub page-wait-start : (k : ℕ) → 0 < length (next-results s us start k) → steps-at (next-results s us start k) 0 ≡ to-assign task
+  page-wait-start = waits.wait-start s us task posed walks
+
+  -- The bytes of every line but the first of a page that is not refused, with its wait.
+  pub page-line-waits : (c : Checkpoint) → Has task c → (serial : ℕ) (before : List ℕ) → page-call s us c serial before .answer .number ≡ 0 → (i : ℕ) → suc i < page-lines
+      → (let rs = next-results s us c page-lines in suc i < length rs
+      → take line-size (drop (line-size * suc i) (page-call s us c serial before .page))
+      ≡ page-line (serial + suc i) n (getD (map (λ r. r .model) rs) (suc i) 0) (2 * (length (trail-at rs (suc i)) - shared (trail-at rs i) (trail-at rs (suc i)))))
+  page-line-waits c w serial before h i l m =
+      let rs = next-results s us c page-lines in
+      line-stands s us c serial before h (suc i) l
+      ∙ line-told (accepted-variables (acceptance s us)) serial rs (suc i) m
+      ∙ rw (page-variables, page-waits c w page-lines i m)
 
   -- S19.5: pages one after the other, from the start checkpoint and the serial `first`, each into one of the lent `buffers`, no serial
   -- handed in above the highest

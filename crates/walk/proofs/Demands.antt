@@ -142,7 +142,8 @@ module _ (s : List ℕ) (us : List Assumption) (n : ℕ) (cs : List (List Litera
   pub paced-sharper : (bs : List ℕ) → Paced (to-assign task) (to-assign task * (n * suc n)) (gaps (walk-calls s us start bs))
   paced-sharper = laws.calls-paced-sound s us task posed walks
 
-  -- ---- S21: the waits, which `paced` has as one statement about the whole list of calls
+  -- ---- S21: the waits, which `paced` has as one statement about the whole list of calls. Those are n steps, or twice what trails do not
+  -- share, where n is `to-assign task`, the variables that are not assumed (`under-size`).
 
   -- S21.1: the trail of every model that calls bring, from the start or from any other checkpoint that the walk has, is that in the
   -- checkpoint which comes back with it;
@@ -182,8 +183,8 @@ module _ (s : List ℕ) (us : List Assumption) (n : ℕ) (cs : List (List Litera
       → brought (walk-calls s us start bs) ≡ listing task → c ≤ to-assign task
   after-last = waits.after-last s us task posed walks
 
-  -- S21.2: a checkpoint of the walk that has mode 1 and all variables to assign is that of a model, the assignment of its trail, and calls
-  -- that begin there have the same waits, whoever hands it in.
+  -- S21.2: a checkpoint of the walk that has mode 1 and all variables to assign is that of a model, the assignment of the assumptions and of
+  -- its trail,
   pub model-checkpoint : (c : Checkpoint) → Has task c → c .mode ≡ 1 → c .length ≡ to-assign task
       → (c ≡ checkpoint-of 1 (trail-in c)) × Model n cs (assignment (map literal-of us ++ trail-in c)) × Agrees (bit (assignment (map literal-of us ++ trail-in c))) (map literal-of us)
   model-checkpoint c w m l =
@@ -191,11 +192,12 @@ module _ (s : List ℕ) (us : List Assumption) (n : ℕ) (cs : List (List Litera
       let y = under-models n us cs (assignment (map literal-of us ++ trail-in c)) .0 (x .1) in
       (x .0, y .0, y .1)
 
+  -- and calls that begin there have the same waits, whoever hands it in.
   pub paced-after : (c : Checkpoint) → Has task c → c .mode ≡ 1 → c .length ≡ to-assign task
       → (bs : List ℕ) → PacedLater (to-assign task) (step-bound task) (trail-in c) (gaps (walk-calls s us c bs))
   paced-after = laws.model-paced s us task posed walks
 
-  -- ----
+  -- ---- the listing, single calls and checkpoints
 
   -- S10, demands 2 and 3: the listing has the models of the formula that keep the assumptions and no others: `exact`, over the formula
   -- itself
