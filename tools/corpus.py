@@ -1,10 +1,10 @@
 #!/usr/bin/env python3
 """corpus.py VECTORS: write the corpus of the program cases, crates/cases/data/, and its expected output, crates/cases/stdout.
 
-VECTORS has one JSON object a line: "act", its input and the expected answer. Vectors of an act that has no coder below are
-left out. So is one that does not fit the format, and that is said. If all of them together don't fit, nothing is written. Every
-readable input among them is also written as a text, and that text read again; what each judge leaves in the buffer is weighed; and the
-steps between the models of each chain are compared with their trails.
+VECTORS has one JSON object a line: "act", its input and the expected answer. Vectors of an act that has no coder below are left out. So
+is one that does not fit the format, and that is said. If all of them together don't fit, nothing is written. Every readable input among
+them is also written as a text, and that text read again; what each judge leaves in the buffer is weighed; and the steps between the
+models of each chain, and before and behind them, are compared with their trails.
 
 Format. A file holds vectors of one act, one after the other, and nothing else; it has at most 65,536 bytes, so an act has
 files NAMEa, NAMEb, .., at most 26; start has one, start, and the edge cases of an act have one, NAME_edges, and for judge, weigh and
@@ -78,10 +78,10 @@ A chain of VECTORS is a list of calls on one input under one list of assumptions
 call, with the number of the chain; the first gets the start checkpoint and each other what the call before it returned. Where a chain
 goes on in a further file, the first call there gets the checkpoint that the call before it must return.
 
-A chain is a vector of wait too. The bytes that it expects are the budgets of its calls, 4 bytes each. Its own field, 4 bytes: how many of
-the calls bring a model. The calls are made again, and the steps are summed over the calls between two models: to the first model they must
-be as many as its trail has literals, from one to the next twice those that its trail has behind the longest beginning that the two share,
-and from the last one to the end as many as its trail has.
+A chain is a vector of wait too. The bytes that it expects are the budgets of its calls, 4 bytes each. Its own field, 4 bytes: how many
+waits are over, one for each model and one for the end. The calls are made again, and the steps are summed over the calls between two
+models: to the first model they must be as many as its trail has literals, from one to the next twice those that its trail has behind the
+longest beginning that the two share, and from the last one to the end as many as its trail has.
 
 A listing of VECTORS is a whole walk. Here it is a vector of listing for each of its calls, on an ample budget, and one of list.
 
@@ -266,15 +266,15 @@ def chain_vector(number, v):
     return groups
 
 
-def waiting(number, given, budgets, models):
-    """The vector of the waits of a chain, whose calls have these budgets and bring this many models."""
-    return coded(number, given, b'', little(models, 4), b''.join(little(budget, 4) for budget in budgets))
+def waiting(number, given, budgets, over):
+    """The vector of the waits of a chain, whose calls have these budgets and close this many."""
+    return coded(number, given, b'', little(over, 4), b''.join(little(budget, 4) for budget in budgets))
 
 
 def wait_vector(number, v):
     """From a chain: its waits."""
     budgets, answers = [budget for budget, *_ in v['calls']], [answer for _, answer, *_ in v['calls']]
-    return [[waiting(number, assumed_input(v), budgets, answers.count('set-up'))]]
+    return [[waiting(number, assumed_input(v), budgets, answers.count('set-up') + ('ended' in answers))]]
 
 
 def listing_vector(number, v):
@@ -1092,9 +1092,9 @@ WALK_ASSUMED = [
     *foreign(checkpoint(1, 0), (EXAMPLE, '01 01'), (TWO_FREE, '02 00'), (ALL_FREE, ALL_TRUE[:-6])),
 ]
 
-# wait: input, the budgets of the calls, and how many models come
+# wait: input, the budgets of the calls, and how many waits are over
 THREE_PAIRS = '01 03 02 01 02 02 04 02 01 02 03 04 02 02 02 03 04 05'  # clauses (1, 2), (1, 3) and (2, 3): 3 is assigned first
-# S21: inputs, and the steps to each model and from the last one to the end, by hand; none where the calls are refused
+# S21: inputs, and the steps to each model and from the last one to the end, by hand
 WAITS = [
     (THREE_PAIRS, [3, 6, 4, 2, 3]),  # trails -3 2 1, 3 -2 1, 3 2 -1, 3 2 1
     (PURE_LAST, [2, 4, 2]),
@@ -1115,12 +1115,7 @@ WAITS = [
     (MOST_TRUE, [1, 1]),
     (PARTLY, [3, 6, 3]),
     ((PARTLY, '02 01'), [2, 2]),
-    # refused by 3, 10 and 16
-    (UNREADABLE, []),
-    (UNMATCHED, []),
-    ((EXAMPLE, '01 01 02 01'), []),
-    ((EXAMPLE, '01 01 01 01'), []),
-]
+    ]
 BUDGETS = [
     [], [0], 3 * [0], 24 * [1], 12 * [2], 3 * [95], 3 * [96], 3 * [97], 8 * [96], [MOST, 0, MOST, 0, 0, MOST], [2, 0, 7, 1], [96, 1, 0, 95],
     [1, 0, 1, 1, 2, 0, 4, 3, 2, 1, 0, 6, 5, 0, 97, 0],
@@ -1129,21 +1124,20 @@ BUDGETS = [
 COUNTING = [48, *(2 * (k & -k).bit_length() for k in range(1, 1000))]
 
 
-def brought(waits, budgets):
-    """How many models come: a call makes its steps up to the next model or the end, or as many as its budget."""
-    waits, models = list(waits), 0
+def closed(waits, budgets):
+    """How many waits are over: a call makes its steps up to the next model or the end, or as many as its budget."""
+    left = list(waits)
     for budget in budgets:
-        if waits and waits[0] <= budget:
-            waits.pop(0)
-            models += bool(waits)
-        elif waits:
-            waits[0] -= budget
-    return models
+        if left and left[0] <= budget:
+            left.pop(0)
+        elif left:
+            left[0] -= budget
+    return len(waits) - len(left)
 
 
 WAIT_EDGES = [
-    *((given, budgets, brought(waits, budgets)) for given, waits in WAITS for budgets in BUDGETS),
-    *((ALL_FREE, budgets, brought(COUNTING, budgets)) for budgets in [
+    *((given, budgets, closed(waits, budgets)) for given, waits in WAITS for budgets in BUDGETS),
+    *((ALL_FREE, budgets, closed(COUNTING, budgets)) for budgets in [
         *BUDGETS, [47, 0, 1, 1, 1], [48, 1, 1, 95, 3], 40 * [96], 48 * [95], 64 * [2], 100 * [1], 60 * [0, 3, 1, 12], 300 * [96],
     ]),
 ]

@@ -15,7 +15,7 @@ const ASKED: usize = 20;
 
 /// The longest that was seen. Those for the first model and for the end count, too.
 #[derive(Clone, Copy, Default)]
-struct Longest {
+struct Seen {
     models: u64,
     /// The steps of all waits.
     all_steps: u64,
@@ -28,9 +28,9 @@ struct Longest {
     choice: u64,
 }
 
-impl Longest {
-    fn longer(self, other: Longest) -> Self {
-        Longest {
+impl Seen {
+    fn longer(self, other: Seen) -> Self {
+        Seen {
             models: self.models + other.models,
             all_steps: self.all_steps + other.all_steps,
             first: self.first.max(other.first),
@@ -40,7 +40,7 @@ impl Longest {
         }
     }
 
-    fn within(&self, bounds: &Longest) -> bool {
+    fn within(&self, bounds: &Seen) -> bool {
         self.first == bounds.first
             && self.steps <= bounds.steps
             && self.expansions <= bounds.expansions
@@ -50,9 +50,9 @@ impl Longest {
 
 /// What is proved for so many variables to assign and so many clauses, whatever the trails are: the first model comes after exactly n steps,
 /// and no two are more than 2 n apart.
-fn bounds(case: &Case) -> Longest {
+fn bounds(case: &Case) -> Seen {
     let (n, m) = (case.left_to_assign() as u64, case.clauses as u64);
-    Longest {
+    Seen {
         models: 0,
         all_steps: 0,
         first: n,
@@ -98,13 +98,13 @@ fn next_wait(walker: &mut Walker) -> Followed {
 
 /// The waits of a formula: counted by the reference, whose steps can be made one by one, compared with those that the trails tell, and
 /// asked of the library.
-fn waits_of(case: &Case) -> Longest {
+fn waits_of(case: &Case) -> Seen {
     let mut formula = decode(&case.input).expect("a formula");
     let assumed = formula.assume(&case.assumptions.rust);
     let assumed = assumed.expect("good assumptions");
     let mut walker = Walker::start(&formula, assumed).expect("an accepted formula");
     let mut checkpoint = START;
-    let mut longest = Longest::default();
+    let mut longest = Seen::default();
     let mut waits = Waits::default();
     for index in 0..MODELS {
         let wait = next_wait(&mut walker);
@@ -122,7 +122,7 @@ fn waits_of(case: &Case) -> Longest {
                 case.name
             );
         }
-        longest = longest.longer(Longest {
+        longest = longest.longer(Seen {
             models: wait.model.is_some().into(),
             all_steps: wait.steps.into(),
             first: if index == 0 { wait.steps.into() } else { 0 },
@@ -142,11 +142,8 @@ fn waits_row(title: &str, cases: &[Case]) -> Vec<String> {
     let seen = cases
         .iter()
         .map(waits_of)
-        .fold(Longest::default(), Longest::longer);
-    let bounds = cases
-        .iter()
-        .map(bounds)
-        .fold(Longest::default(), Longest::longer);
+        .fold(Seen::default(), Seen::longer);
+    let bounds = cases.iter().map(bounds).fold(Seen::default(), Seen::longer);
     let beside = |seen, bound| format!("{} of {}", count_text(seen), count_text(bound));
     row(&[
         title,

@@ -1,4 +1,4 @@
--- Laws of waits: of literals and of what two trails share, and of what is found call by call.
+-- Laws of waits: of literals and of what two trails share, and of the tally, call by call.
 use Prim.Native.Nat.{ℕ, zero, suc, _+_, _*_, _-_, _/_, _<_, _≤_}
 use mathlib.Core.Bool.{Bool, true, false, cond, _&&_, Bool·beq, and-true, and-assoc}
 use mathlib.Core.List.{List, [], _∷_, map}
@@ -17,7 +17,7 @@ use Rattle.assumptions.specs.declared.Assumption.{Assumption}
 use Rattle.limits.specs.Limits.{max-variables}
 use Rattle.walk.specs.Checkpoints as walk
 use Rattle.walk.specs.Checkpoints.{byte-number, byte-literal}
-use Rattle.walk.specs.Gaps.{Gap, to-model, to-end, so-far, gap-after, gaps-from, gaps, gap-trails, same-literal, shared}
+use Rattle.walk.specs.Gaps.{Gap, to-model, to-end, so-far, gap-after, gaps-from, gaps, same-literal, shared}
 use Rattle.walk.specs.WalkCall.{walk-call, walk-calls}
 use Rattle.walk.proofs.RefusalLaws.{call-steps}
 use Rattle.walk.specs.Results.{AnswerKind, says-model, says-spent, says-ended, says-refused, Result}
@@ -30,7 +30,7 @@ use Rattle.vectors.specs.declared.corpus.Vector.{Vector}
 use Rattle.vectors.specs.Corpus.{four-bytes, input-of}
 use Rattle.cases.specs.declared.waiting.Waits.{Waits}
 use Rattle.cases.specs.Assuming.{assumptions-of}
-use Rattle.cases.specs.Waiting.{budgets-from, budgets-of, later-hold, waits-hold, calls-of, waits-agree, checkpoint-trail, LengthOf, due, Found, found-in, rest-hold, found-on, found, NoneYet, going-on, AfterCall, calls-left, AfterNext}
+use Rattle.cases.specs.Waiting.{budgets-from, budgets-of, later-hold, waits-hold, closed, calls-of, waits-agree, checkpoint-trail, LengthOf, due, Tallied, tallied-in, rest-hold, tallied-on, tallied, NoneYet, going-on, AfterCall, calls-left, AfterNext}
 use Rattle.cases.proofs.WalkingLaws.{checkpoint-kept}
 
 -- ---- literals
@@ -132,7 +132,7 @@ module _
       let z : shared (drop i x) (drop i y) ≡ suc (shared (drop (suc i) x) (drop (suc i) y)) = rw e at (here h k) in
       record { rest = rw (add-one i) (omega (arith, S .rest)) }
 
--- ---- what is found
+-- ---- the tally
 
 -- expansions do not matter to what is told of gaps
 module _
@@ -167,27 +167,27 @@ rest-unexpanded : (came : Bool) (x : List Literal) (rs : List Result) (c e d : �
 rest-unexpanded true x = later-unexpanded x
 rest-unexpanded false x = waits-unexpanded
 
-trails-unexpanded : (rs : List Result) (c e d : ℕ) → gap-trails (gaps-from c e rs) ≡ gap-trails (gaps-from c d rs)
-unfolding gap-trails
-trails-unexpanded = unexpanded gap-trails (λ c e d y gs. refl) (λ c e d. refl) (λ c e d. refl)
+closed-unexpanded : (rs : List Result) (c e d : ℕ) → closed (gaps-from c e rs) ≡ closed (gaps-from c d rs)
+unfolding closed
+closed-unexpanded = unexpanded closed (λ c e d y gs. refl) (λ c e d. refl) (λ c e d. refl)
 
--- what is found from the same parts is the same
-same-found : {a b : Bool} {m n : ℕ} → a ≡ b → m ≡ n → _≡_ {A = Found} (record { right = a; models = m }) (record { right = b; models = n })
-same-found p q = rw (p, q)
+-- what is tallied from the same parts is the same
+same-tallied : {a b : Bool} {m n : ℕ} → a ≡ b → m ≡ n → _≡_ {A = Tallied} (record { right = a; closed = m }) (record { right = b; closed = n })
+same-tallied p q = rw (p, q)
 
 -- from the start
-pub found-first : (x : List Literal) (rs : List Result) → found-on false false x 0 0 true rs ≡ found-in rs
-unfolding found-on
-found-first x rs = same-found refl (omega arith)
+pub tallied-first : (x : List Literal) (rs : List Result) → tallied-on false false x 0 0 true rs ≡ tallied-in rs
+unfolding tallied-on
+tallied-first x rs = same-tallied refl (omega arith)
 
 module _ (came : Bool) (x : List Literal) (c m : ℕ) (right : Bool) (r : Result) (rs : List Result) where
   -- a call that brings a model
-  pub found-model :
+  pub tallied-model :
       r .kind ≡ says-model
-      → found-on false true (walk.trail-in (r .checkpoint)) 0 (m + 1) (right && eqb (c + r .steps) (due came x (walk.trail-in (r .checkpoint)))) rs
-      ≡ found-on false came x c m right (r ∷ rs)
-  unfolding found-on gaps-from gap-trails later-hold waits-hold
-  found-model e = rw e (same-found (by came) (omega arith))
+      → tallied-on false true (walk.trail-in (r .checkpoint)) 0 (m + 1) (right && eqb (c + r .steps) (due came x (walk.trail-in (r .checkpoint)))) rs
+      ≡ tallied-on false came x c m right (r ∷ rs)
+  unfolding tallied-on gaps-from closed later-hold waits-hold
+  tallied-model e = rw e (same-tallied (by came) (omega arith))
     where
       by :
           (b : Bool)
@@ -197,11 +197,11 @@ module _ (came : Bool) (x : List Literal) (c m : ℕ) (right : Bool) (r : Result
       by false = and-assoc right _ _
 
   -- one that brings the end, whatever steps are told after it
-  pub found-end :
+  pub tallied-end :
       (k : ℕ) → r .kind ≡ says-ended
-      → found-on true came x k m (right && (came && eqb (c + r .steps) (length x))) rs ≡ found-on false came x c m right (r ∷ rs)
-  unfolding found-on gaps-from gap-trails later-hold waits-hold
-  found-end k e = rw e (same-found (by came) (omega arith))
+      → tallied-on true came x k (m + 1) (right && (came && eqb (c + r .steps) (length x))) rs ≡ tallied-on false came x c m right (r ∷ rs)
+  unfolding tallied-on gaps-from closed later-hold waits-hold
+  tallied-end k e = rw e (same-tallied (by came) (omega arith))
     where
       by : (b : Bool) → right && (b && eqb (c + r .steps) (length x)) ≡ right && rest-hold b x (to-end (c + r .steps) (0 + r .expansions) ∷ [])
       by true = ap (λ (z : Bool). right && z) (sym (and-true _))
@@ -210,44 +210,44 @@ module _ (came : Bool) (x : List Literal) (c m : ℕ) (right : Bool) (r : Result
   -- one that brings neither: the expansions e do not matter
   neither :
       (e : ℕ)
-      → found-on false came x (c + r .steps) m right rs
-      ≡ record { right = right && rest-hold came x (gaps-from (c + r .steps) e rs); models = m + length (gap-trails (gaps-from (c + r .steps) e rs)) }
-  unfolding found-on
+      → tallied-on false came x (c + r .steps) m right rs
+      ≡ record { right = right && rest-hold came x (gaps-from (c + r .steps) e rs); closed = m + closed (gaps-from (c + r .steps) e rs) }
+  unfolding tallied-on
   neither e =
-      same-found
+      same-tallied
       (ap (λ (z : Bool). right && z) (rest-unexpanded came x rs (c + r .steps) 0 e))
-      (ap (λ (l : List (List Literal)). m + length l) (trails-unexpanded rs (c + r .steps) 0 e))
+      (ap (λ (k : ℕ). m + k) (closed-unexpanded rs (c + r .steps) 0 e))
 
-  pub found-spent : r .kind ≡ says-spent → found-on false came x (c + r .steps) m right rs ≡ found-on false came x c m right (r ∷ rs)
-  unfolding found-on gaps-from
-  found-spent e = rw e (neither (0 + r .expansions))
+  pub tallied-spent : r .kind ≡ says-spent → tallied-on false came x (c + r .steps) m right rs ≡ tallied-on false came x c m right (r ∷ rs)
+  unfolding tallied-on gaps-from
+  tallied-spent e = rw e (neither (0 + r .expansions))
 
-  pub found-refused : r .kind ≡ says-refused → found-on false came x (c + r .steps) m right rs ≡ found-on false came x c m right (r ∷ rs)
-  unfolding found-on gaps-from
-  found-refused e = rw e (neither (0 + r .expansions))
+  pub tallied-refused : r .kind ≡ says-refused → tallied-on false came x (c + r .steps) m right rs ≡ tallied-on false came x c m right (r ∷ rs)
+  unfolding tallied-on gaps-from
+  tallied-refused e = rw e (neither (0 + r .expansions))
 
   -- after the end calls change nothing
-  pub found-ended : (k : ℕ) → found-on true came x k m right rs ≡ found-on true came x c m right (r ∷ rs)
-  unfolding found-on
-  found-ended k = refl
+  pub tallied-ended : (k : ℕ) → tallied-on true came x k m right rs ≡ tallied-on true came x c m right (r ∷ rs)
+  unfolding tallied-on
+  tallied-ended k = refl
 
--- where no calls are left: the models so far, and the wait since the last one
-pub models-found : (ended came : Bool) (x : List Literal) (c m : ℕ) (right : Bool) → found-on ended came x c m right [] .models ≡ m
-unfolding found-on gaps-from gap-trails
-models-found true came x c m right = refl
-models-found false came x c m right = omega arith
+-- where no calls are left: the waits that are over, and the one that is not
+pub closed-tallied : (ended came : Bool) (x : List Literal) (c m : ℕ) (right : Bool) → tallied-on ended came x c m right [] .closed ≡ m
+unfolding tallied-on gaps-from closed
+closed-tallied true came x c m right = refl
+closed-tallied false came x c m right = omega arith
 
-pub right-ended : (came : Bool) (x : List Literal) (c m : ℕ) (right : Bool) → right ≡ found-on true came x c m right [] .right
-unfolding found-on
+pub right-ended : (came : Bool) (x : List Literal) (c m : ℕ) (right : Bool) → right ≡ tallied-on true came x c m right [] .right
+unfolding tallied-on
 right-ended came x c m right = refl
 
-pub right-came : (x : List Literal) (c m : ℕ) (right : Bool) → right && leb c (2 * length x) ≡ found-on false true x c m right [] .right
-unfolding found-on gaps-from later-hold
+pub right-came : (x : List Literal) (c m : ℕ) (right : Bool) → right && leb c (2 * length x) ≡ tallied-on false true x c m right [] .right
+unfolding tallied-on gaps-from later-hold
 right-came x c m right = ap (λ (z : Bool). right && z) (sym (and-true _))
 
-pub right-before : (x : List Literal) (c m : ℕ) (right : Bool) → right ≡ found-on false false x c m right [] .right
-unfolding found-on gaps-from waits-hold
-right-before x c m right = sym (and-true _)
+pub right-before : (x : List Literal) (c m : ℕ) (right : Bool) → right && leb c max-variables ≡ tallied-on false false x c m right [] .right
+unfolding tallied-on gaps-from waits-hold
+right-before x c m right = ap (λ (z : Bool). right && z) (sym (and-true _))
 
 -- ---- calls
 
@@ -268,14 +268,14 @@ module _ (w : Waits) (q : Walked) where
   abbrev told : Answer → Result
   told a = answer-values a (q .steps) (q .expansions) (checkpoint-values (q .checkpoint))
 
-  -- where neither a model nor the end comes, what is found is left to show
+  -- where neither a model nor the end comes, the tally is left to show
   gone-on :
-      ((rs : List Result) → found (going-on w (w .steps + q .steps) (q .checkpoint)) rs ≡ found w (walked-values q ∷ rs))
+      ((rs : List Result) → tallied (going-on w (w .steps + q .steps) (q .checkpoint)) rs ≡ tallied w (walked-values q ∷ rs))
       → AfterCall w (walked-values q) (going-on w (w .steps + q .steps) (q .checkpoint))
-  gone-on h = let s = call-steps-kept q in record { finds = h; reached = sym (checkpoint-kept q); steps = omega arith; models = omega arith }
+  gone-on h = let s = call-steps-kept q in record { finds = h; reached = sym (checkpoint-kept q); steps = omega arith; closed = omega arith }
 
   pub after-ended : w .ended ≡ true → AfterCall w (walked-values q) (going-on w (w .steps + q .steps) (q .checkpoint))
-  after-ended e = gone-on (λ rs. rw e (found-ended (w .came) trail (w .steps) (w .models) (w .right) (walked-values q) rs _))
+  after-ended e = gone-on (λ rs. rw e (tallied-ended (w .came) trail (w .steps) (w .closed) (w .right) (walked-values q) rs _))
 
   module _ (goes-on : w .ended ≡ false) where
     pub after-model :
@@ -284,14 +284,14 @@ module _ (w : Waits) (q : Walked) where
         → steps ≡ due (w .came) trail (checkpoint-trail (q .checkpoint))
         → right ≡ w .right && eqb (w .steps + q .steps) steps
         → AfterCall w (walked-values q)
-        (record { came = true; last = q .checkpoint; steps = 0; models = w .models + 1; right = right; ended = false; reached = q .checkpoint })
+        (record { came = true; last = q .checkpoint; steps = 0; closed = w .closed + 1; right = right; ended = false; reached = q .checkpoint })
     after-model a steps right e d r =
         rw (e, r, d)
         (record {
-          finds = λ rs. rw goes-on (found-model (w .came) trail (w .steps) (w .models) (w .right) (told (Model a)) rs refl);
+          finds = λ rs. rw goes-on (tallied-model (w .came) trail (w .steps) (w .closed) (w .right) (told (Model a)) rs refl);
           reached = refl;
           steps = omega arith;
-          models = omega arith;
+          closed = omega arith;
         })
 
     pub after-end :
@@ -300,31 +300,31 @@ module _ (w : Waits) (q : Walked) where
         → ends ≡ w .came && eqb (w .steps + q .steps) (length trail)
         → right ≡ w .right && ends
         → AfterCall w (walked-values q)
-        (record { came = w .came; last = w .last; steps = w .steps + q .steps; models = w .models; right = right; ended = true; reached = q .checkpoint })
+        (record { came = w .came; last = w .last; steps = w .steps + q .steps; closed = w .closed + 1; right = right; ended = true; reached = q .checkpoint })
     after-end ends right e d r =
         rw (e, r, d)
         (record {
-          finds = λ rs. rw goes-on (found-end (w .came) trail (w .steps) (w .models) (w .right) (told Ended) rs _ refl);
+          finds = λ rs. rw goes-on (tallied-end (w .came) trail (w .steps) (w .closed) (w .right) (told Ended) rs _ refl);
           reached = refl;
           steps = omega arith;
-          models = omega arith;
+          closed = omega arith;
         })
 
     pub after-spent : q .answer ≡ Spent → AfterCall w (walked-values q) (going-on w (w .steps + q .steps) (q .checkpoint))
-    after-spent e = gone-on (λ rs. rw (goes-on, e) (found-spent (w .came) trail (w .steps) (w .models) (w .right) (told Spent) rs refl))
+    after-spent e = gone-on (λ rs. rw (goes-on, e) (tallied-spent (w .came) trail (w .steps) (w .closed) (w .right) (told Spent) rs refl))
 
     pub after-refused : (f : Refusal) → q .answer ≡ Refused f → AfterCall w (walked-values q) (going-on w (w .steps + q .steps) (q .checkpoint))
-    after-refused f e = gone-on (λ rs. rw (goes-on, e) (found-refused (w .came) trail (w .steps) (w .models) (w .right) (told (Refused f)) rs refl))
+    after-refused f e = gone-on (λ rs. rw (goes-on, e) (tallied-refused (w .came) trail (w .steps) (w .closed) (w .right) (told (Refused f)) rs refl))
 
 -- one call of a list of calls
-found-next :
-    (f g : List Result → Found) (s : List ℕ) (us : List Assumption) (from reached : walk.Checkpoint) (b : ℕ) (q : Result)
+tallied-next :
+    (f g : List Result → Tallied) (s : List ℕ) (us : List Assumption) (from reached : walk.Checkpoint) (b : ℕ) (q : Result)
     → ((rs : List Result) → f rs ≡ g (q ∷ rs))
     → reached ≡ q .checkpoint
     → q ≡ walk-call s us from b
     → (bs : List ℕ) → f (walk-calls s us reached bs) ≡ g (walk-calls s us from (b ∷ bs))
 unfolding walk-calls
-found-next f g s us from reached b q h p e bs = h _ ∙ rw (p, e)
+tallied-next f g s us from reached b q h p e bs = h _ ∙ rw (p, e)
 
 -- a call makes at most as many steps as its budget
 pub within-budget : (s : List ℕ) (us : List Assumption) (c : walk.Checkpoint) (b : ℕ) (q : Walked) → walked-values q ≡ walk-call s us c b → q .steps ≤ b
@@ -341,9 +341,9 @@ after-next s v w r q budget b e f h A =
     e ∙ ap (walk-call (input-of s v) (assumptions-of s v) (checkpoint-values (w .reached))) f in
     let k : q .steps ≤ b = within-budget (input-of s v) (assumptions-of s v) (checkpoint-values (w .reached)) b q e′ in
     record {
-      finds = found-next (found r) (found w) (input-of s v) (assumptions-of s v) _ _ b (walked-values q) (A .finds) (A .reached) e′;
+      finds = tallied-next (tallied r) (tallied w) (input-of s v) (assumptions-of s v) _ _ b (walked-values q) (A .finds) (A .reached) e′;
       steps = omega (arith, A .steps, call-steps-kept q);
-      models = A .models;
+      closed = A .closed;
     }
 
 -- ---- budgets
@@ -362,19 +362,19 @@ unfolding budgets-from walk-calls
 none-left s v w at zero h = refl
 none-left s v w at (suc k) h = absurd (omega arith)
 
-pub first-left : (s : List ℕ) (v : Vector) (w : Waits) → NoneYet w → found w (calls-left s v w (budgets-of s v)) ≡ found-in (calls-of s v)
+pub first-left : (s : List ℕ) (v : Vector) (w : Waits) → NoneYet w → tallied w (calls-left s v w (budgets-of s v)) ≡ tallied-in (calls-of s v)
 first-left s v w N =
-    N .finds _ ∙ ap (λ (c : walk.Checkpoint). found-in (walk-calls (input-of s v) (assumptions-of s v) c (budgets-of s v))) (N .reached)
+    N .finds _ ∙ ap (λ (c : walk.Checkpoint). tallied-in (walk-calls (input-of s v) (assumptions-of s v) c (budgets-of s v))) (N .reached)
 
 -- the comparison is that of `waits-agree`
 pub compared :
     (s : List ℕ) (v : Vector) (w : Waits) (right : Bool) (wanted : ℕ)
-    → found w [] ≡ found-in (calls-of s v)
-    → right ≡ found w [] .right
+    → tallied w [] ≡ tallied-in (calls-of s v)
+    → right ≡ tallied w [] .right
     → wanted ≡ four-bytes s (v .end)
-    → right && eqb (w .models) wanted ≡ waits-agree s v
+    → right && eqb (w .closed) wanted ≡ waits-agree s v
 unfolding waits-agree
 compared s v w right wanted f r e =
-    let m : w .models ≡ length (gap-trails (gaps (calls-of s v))) =
-    sym (models-found (w .ended) (w .came) (checkpoint-trail (w .last)) (w .steps) (w .models) (w .right)) ∙ ap (λ (x : Found). x .models) f in
-    rw (r ∙ ap (λ (x : Found). x .right) f, m, e)
+    let m : w .closed ≡ closed (gaps (calls-of s v)) =
+    sym (closed-tallied (w .ended) (w .came) (checkpoint-trail (w .last)) (w .steps) (w .closed) (w .right)) ∙ ap (λ (x : Tallied). x .closed) f in
+    rw (r ∙ ap (λ (x : Tallied). x .right) f, m, e)

@@ -20,9 +20,9 @@
 // - walk: the expected model (8 bytes), steps, expansions (4 bytes each) and checkpoint; which checkpoint the call gets (1 byte: 0
 //   the one that follows, 1 the start checkpoint, 2 the one that the call of the vector before it returned), a checkpoint, and the
 //   budget (4 bytes). A chain is a vector for each of its calls.
-// - wait: how many models come (4 bytes), and no expected answer. The expected bytes are the budgets of a chain's calls, 4 bytes each. The
-//   calls are made, the first from the start checkpoint, and the steps between two models compared with the trails in the checkpoints that
-//   come back with the models.
+// - wait: how many waits are over (4 bytes: one for each model, and one for the end), and no expected answer. The expected bytes are the
+//   budgets of a chain's calls, 4 bytes each. The calls are made, the first from the start checkpoint, and the steps to the first model,
+//   between two models and to the end compared with the trails in the checkpoints that come back with the models.
 // - listing: the expected model, steps and expansions; where the call goes on from (1 byte: 1 the start checkpoint, 2 the one that the call
 //   of the vector before it returned). The budget is ample. A listing is a vector for each of its calls.
 // - list: as walk, and in place of the budget the room of the lent slice and the fill (1 byte each). The expected bytes are the models, 8

@@ -1,4 +1,5 @@
-// The vectors of waits: the calls of a chain, and the steps between two models compared with the trails of these.
+// The vectors of waits: the calls of a chain, and the steps to the first model, between two models and to the end compared with the trails
+// of these.
 ghost use Prim.Native.Nat.{_+_, _-_, _*_, _<_, _≤_, _^_};
 ghost use mathlib.Core.Bool.{_&&_};
 ghost use mathlib.Core.List.{[]};
@@ -9,7 +10,7 @@ ghost use Rattle.walk.specs.Checkpoints.{byte-number, byte-literal};
 ghost use Rattle.walk.specs.Gaps.{same-literal, shared};
 ghost use Rattle.enumeration.specs.Values.{walked-values};
 ghost use Rattle.vectors.specs.Corpus.{four-bytes, Lies};
-ghost use Rattle.cases.specs.Waiting.{checkpoint-trail, LengthOf, due, found-in, found, NoneYet, going-on, AfterCall, AfterNext, calls-of, waits-agree};
+ghost use Rattle.cases.specs.Waiting.{checkpoint-trail, LengthOf, due, tallied-in, tallied, NoneYet, going-on, AfterCall, AfterNext, calls-of, waits-agree};
 use crate::walking::call_from;
 use enumeration::Answer;
 use enumeration::Checkpoint;
@@ -20,13 +21,13 @@ use vectors::corpus::wide;
 use vectors::report;
 
 // What is known after some calls of a chain: whether a model came, the checkpoint that came back with the last one (the start checkpoint
-// before any), the steps since, how many models came, whether every wait was right, whether the end came, and the checkpoint that the last
+// before any), the steps since, how many waits are over, whether each was right, whether the end came, and the checkpoint that the last
 // call returned.
 pub struct Waits {
     pub came: bool,
     pub last: Checkpoint,
     pub steps: u64,
-    pub models: u64,
+    pub closed: u64,
     pub right: bool,
     pub ended: bool,
     pub reached: Checkpoint,
@@ -41,7 +42,7 @@ fn none_yet() -> Waits
         came: false,
         last: start,
         steps: 0,
-        models: 0,
+        closed: 0,
         right: true,
         ended: false,
         reached: start,
@@ -156,7 +157,7 @@ fn going_on(w: Waits, steps: u64, reached: Checkpoint) -> Waits
         came: w.came,
         last,
         steps,
-        models: w.models,
+        closed: w.closed,
         right: w.right,
         ended: w.ended,
         reached,
@@ -165,7 +166,7 @@ fn going_on(w: Waits, steps: u64, reached: Checkpoint) -> Waits
 
 // What is known after one call more.
 fn after_call(w: Waits, q: Walked) -> Waits
-    requires { ⌜ (w .steps + q .steps < 2 ^ 64) × (w .models + 1 < 2 ^ 64) ⌝ }
+    requires { ⌜ (w .steps + q .steps < 2 ^ 64) × (w .closed + 1 < 2 ^ 64) ⌝ }
     ensures { λ r. ⌜ AfterCall w (walked-values q) r ⌝ }
 {
     let answer = q.answer;
@@ -179,7 +180,7 @@ fn after_call(w: Waits, q: Walked) -> Waits
             came: true,
             last: reached,
             steps: 0,
-            models: w.models + 1,
+            closed: w.closed + 1,
             right: both(w.right, steps == due_to(w, reached)),
             ended: false,
             reached,
@@ -190,7 +191,7 @@ fn after_call(w: Waits, q: Walked) -> Waits
                 came: w.came,
                 last,
                 steps,
-                models: w.models,
+                closed: w.closed + 1,
                 right: both(w.right, may_end(w, steps)),
                 ended: true,
                 reached,
@@ -203,7 +204,7 @@ fn after_call(w: Waits, q: Walked) -> Waits
 
 // What is known after the vector's next call, whose budget stands at an offset.
 fn next_call(bytes: &[u8], v: Vector, w: Waits, at: usize) -> Waits
-    requires { ⌜ Lies (now bytes) v 4 × (at + 4 ≤ length (now bytes)) × (w .steps + 4294967296 < 2 ^ 64) × (w .models + 1 < 2 ^ 64) ⌝ }
+    requires { ⌜ Lies (now bytes) v 4 × (at + 4 ≤ length (now bytes)) × (w .steps + 4294967296 < 2 ^ 64) × (w .closed + 1 < 2 ^ 64) ⌝ }
     ensures { λ r. ⌜ AfterNext (now (bytes .entry)) v w (four-bytes (now (bytes .entry)) at) r ⌝ }
 {
     let budget = four_bytes(bytes, at) as u32;
@@ -215,7 +216,7 @@ fn next_call(bytes: &[u8], v: Vector, w: Waits, at: usize) -> Waits
 // What is known after all of the vector's calls. A file is no longer than 65,536 bytes, so that the sums of steps fit.
 fn waits_of(bytes: &[u8], v: Vector) -> Waits
     requires { ⌜ Lies (now bytes) v 4 × (length (now bytes) ≤ 65536) ⌝ }
-    ensures { λ r. ⌜ found r [] ≡ found-in (calls-of (now (bytes .entry)) v) ⌝ }
+    ensures { λ r. ⌜ tallied r [] ≡ tallied-in (calls-of (now (bytes .entry)) v) ⌝ }
 {
     let mut at = v.output;
     let mut left = (v.end - v.output) / 4;
@@ -228,9 +229,10 @@ fn waits_of(bytes: &[u8], v: Vector) -> Waits
     w
 }
 
-// Whether every wait was right, and that since the last model, which is not over, no longer than one can be.
+// Whether every wait was right. One that is still open has at most twice as many steps as the trail of the last model has literals, or, before
+// any, as many as there may be variables.
 fn all_right(w: Waits) -> bool
-    ensures { λ r. ⌜ r ≡ found w [] .right ⌝ }
+    ensures { λ r. ⌜ r ≡ tallied w [] .right ⌝ }
 {
     if w.ended {
         return w.right;
@@ -239,10 +241,10 @@ fn all_right(w: Waits) -> bool
         let last = w.last;
         return both(w.right, w.steps <= 2 * length_of(last));
     }
-    w.right
+    both(w.right, w.steps <= limits::MAX_VARIABLES as u64)
 }
 
-// Whether the waits between the vector's calls are right, and as many models come as it says; a difference is printed.
+// Whether the waits of the vector's calls are right, and as many are over as it says; a difference is printed.
 pub fn wait_vector(bytes: &[u8], v: Vector) -> bool
     requires { ⌜ Lies (now bytes) v 4 × (length (now bytes) ≤ 65536) ⌝ }
     ensures { λ r. ⌜ r ≡ waits-agree (now (bytes .entry)) v ⌝ }
@@ -250,11 +252,11 @@ pub fn wait_vector(bytes: &[u8], v: Vector) -> bool
     let end = v.end;
     let wanted = four_bytes(bytes, end);
     let w = waits_of(bytes, v);
-    let got = w.models;
+    let got = w.closed;
     if both(all_right(w), got == wanted) {
         return true;
     }
     report::other_waits(v.number);
-    report::numbers(b"models", wanted, got);
+    report::numbers(b"waits over", wanted, got);
     false
 }

@@ -32,7 +32,7 @@ use Rattle.walk.specs.Checkpoints.{Checkpoint, trail-in, checkpoint-of, without
 use Rattle.walk.specs.WalkCall.{walk-call, walk-calls}
 use Rattle.walk.specs.InnerLocate.{task-call}
 use Rattle.walk.specs.Plain.{assignment, node-walk, plain-walk}
-use Rattle.walk.specs.Gaps.{to-model, to-end, gaps-from, gaps, ample-budget}
+use Rattle.walk.specs.Gaps.{to-model, to-end, gaps-from, gaps, shared, ample-budget}
 use Rattle.walk.specs.PlainMachine.{go-on, plain-call, plain-calls, state-after}
 use Rattle.walk.specs.Results.{Result, plain-result}
 use Rattle.walk.proofs.Demands.{start-zero}
@@ -99,7 +99,7 @@ unfolding walking with-models ample-budgets page-line decimal decimal-within tab
 paging = tt
 
 waiting : Unit {0}
-unfolding walking gaps-from trail-in checkpoint-of padded checkpoint-after behind past-all without-last last-value
+unfolding walking gaps-from shared trail-in checkpoint-of padded checkpoint-after behind past-all without-last last-value
 waiting = tt
 
 -- ---- walks
@@ -219,6 +219,7 @@ both-gaps b d = rw (call-first both-task refl example both-given both-posed both
 pub wait-cases : WaitCases
 unfolding waiting
 wait-cases = record {
+  pairs-shared = (refl, refl, refl);
   pairs-ample = gaps-plain _ _ _ _ _ _ refl _;
   pairs-behind = gaps-plain _ _ _ _ _ _ refl _;
   pairs-one = gaps-plain _ _ _ _ _ _ refl _;

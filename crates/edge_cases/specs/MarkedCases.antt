@@ -96,8 +96,8 @@ abbrev pub pairs-of-three : List ℕ
 pairs-of-three = formula-bytes 3 ((on 1 ∷ on 2 ∷ []) ∷ (on 1 ∷ on 3 ∷ []) ∷ (on 2 ∷ on 3 ∷ []) ∷ [])
 
 -- 2 variables, clauses (1, 2), (1, ¬2)
-abbrev pub turn : List ℕ
-turn = formula-bytes 2 ((on 1 ∷ on 2 ∷ []) ∷ (on 1 ∷ off 2 ∷ []) ∷ [])
+abbrev pub wrong-turn-formula : List ℕ
+wrong-turn-formula = formula-bytes 2 ((on 1 ∷ on 2 ∷ []) ∷ (on 1 ∷ off 2 ∷ []) ∷ [])
 
 -- 1 variable and an empty clause
 abbrev pub nothing-named : List ℕ
@@ -121,8 +121,8 @@ pub record MarkedCases : Type 0 where
   -- the three pairs: stripping leaves nothing, so no expansion is made
   pub three-pairs : walked pairs-of-three 5
       ≡ model-at (1 ∷ 1 ∷ 0 ∷ []) 3 0 ∷ model-at (1 ∷ 0 ∷ 1 ∷ []) 6 0 ∷ model-at (0 ∷ 1 ∷ 1 ∷ []) 4 0 ∷ model-at (1 ∷ 1 ∷ 1 ∷ []) 2 0 ∷ end-at 3 0 ∷ []
-  -- the turn: with 1 false no clause is empty yet, but no model is left; the walk never assigns it so
-  pub wrong-turn : walked turn 3
+  -- with 1 false no clause is empty yet, but no model is left; the walk never assigns it so
+  pub wrong-turn : walked wrong-turn-formula 3
       ≡ model-at (1 ∷ 0 ∷ []) 2 0 ∷ model-at (1 ∷ 1 ∷ []) 4 0 ∷ end-at 2 0 ∷ []
   -- 2 variables and no clause: all four assignments are models
   pub no-clauses : walked (1 ∷ 2 ∷ 5 ∷ []) 5

@@ -142,8 +142,8 @@ module _ (s : List ℕ) (us : List Assumption) (n : ℕ) (cs : List (List Litera
   pub paced-sharper : (bs : List ℕ) → Paced (to-assign task) (to-assign task * (n * suc n)) (gaps (walk-calls s us start bs))
   paced-sharper = laws.calls-paced-sound s us task posed walks
 
-  -- ---- S21: the waits, which `paced` has as one statement about the whole list of calls. Those are n steps, or twice what trails do not
-  -- share, where n is `to-assign task`, the variables that are not assumed (`under-size`).
+  -- ---- S21: the waits, which `paced` has as one statement about the whole list of calls. In the comments n is `to-assign task`, the variables
+  -- that are not assumed (`under-size`).
 
   -- S21.1: the trail of every model that calls bring, from the start or from any other checkpoint that the walk has, is that in the
   -- checkpoint which comes back with it;

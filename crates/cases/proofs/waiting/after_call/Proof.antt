@@ -28,6 +28,9 @@ both-requires c κs = search needs
 enum-told-2 : tie.Need-enum-told-2
 enum-told-2 c = search needs
 
+add-t13 : tie.Need-add-t13
+add-t13 c = search needs
+
 may-end-requires : tie.Need-may-end-requires
 may-end-requires c κs = search needs
 
@@ -53,7 +56,7 @@ returns-2 c =
 
 returns-3 : tie.Need-returns-3
 returns-3 c =
-    let t = c .before .before .before in
+    let t = c .before .before .before .before in
     after-end _ _ (t .before .before .if1 .left) _ _ (t .enum-told2 .given .1) (c .before .may-end .ensures) (c .both2 .ensures)
 
 returns-4 : tie.Need-returns-4
@@ -78,6 +81,7 @@ after-call-spec =
     due-to-requires
     both-requires
     enum-told-2
+    add-t13
     may-end-requires
     both-requires-2
     enum-told-3

@@ -21,9 +21,14 @@ returns-2 c =
     let t = c .before .before .before .before in
     rw (c .both .ensures, c .before .before .length-of .ensures .value, t .before .if1 .left, t .if2 .taken) (right-came _ _ _ _)
 
+both-requires-2 : tie.Need-both-requires-2
+both-requires-2 c κs = search needs
+
 returns-3 : tie.Need-returns-3
-returns-3 c = rw (c .before .if1 .left, c .if2 .left) (right-before _ _ _ _)
+returns-3 c =
+    let t = c .before .before in
+    rw (c .both2 .ensures, t .before .if1 .left, t .if2 .left) (right-before _ _ _ _)
 
 pub all-right-spec : {M : Type 1} → statement M
 all-right-spec =
-    tie.close (tie.spec returns length-of-requires mul-both both-requires returns-2 returns-3)
+    tie.close (tie.spec returns length-of-requires mul-both both-requires returns-2 both-requires-2 returns-3)
