@@ -2,7 +2,7 @@
 use Prim.Native.Nat.{ℕ, zero, suc, _*_, _-_, _<_}
 use mathlib.Core.List.{List, [], _∷_}
 use mathlib.Core.Logic.{_⊎_, inl, inr}
-use mathlib.Core.Path.{_≡_, ap, _∙_}
+use mathlib.Core.Path.{_≡_}
 use native.Mathlib.Omega.{arith}
 use lib.ListN.{length}
 use Rattle.lists.specs.Every.{Every}
@@ -41,62 +41,37 @@ first-at (r ∷ (q ∷ rs)) zero a h = a .0
 first-at (r ∷ (q ∷ rs)) (suc i) a h = first-at (q ∷ rs) i (a .1) (omega arith)
 
 module _ (s : List ℕ) (us : List Assumption) (T : Task) (P : Posed T) (walks : (c : Checkpoint) (b : ℕ) → walk-call s us c b ≡ task-call T c b) where
-  -- the results from a checkpoint that the walk has: the first one's call, and those behind it; or none
-  results-first : (c : Checkpoint) → Has T c → (k : ℕ)
-      → ((walk-call s us c ample-budget .kind ≡ says-model) × (next-results s us c (suc k) ≡ walk-call s us c ample-budget ∷ next-results s us (walk-call s us c ample-budget .checkpoint) k))
-      ⊎ (next-results s us c (suc k) ≡ [])
-  results-first c w k = at (has-ample s us T P walks c w ample-budget (omega arith))
+  -- what holds of the results of k + 1 calls from a checkpoint that the walk has: of the first call's and those behind it, or of none
+  results-by : (Q : List Result → Type 0) (c : Checkpoint) → Has T c → (k : ℕ)
+      → (let r = walk-call s us c ample-budget in r .kind ≡ says-model → Q (r ∷ next-results s us (r .checkpoint) k)) → Q [] → Q (next-results s us c (suc k))
+  results-by Q c w k model none = at (has-ample s us T P walks c w ample-budget (omega arith))
     where
-      at : (walk-call s us c ample-budget .kind ≡ says-model) ⊎ (walk-call s us c ample-budget .kind ≡ says-ended)
-          → ((walk-call s us c ample-budget .kind ≡ says-model) × (next-results s us c (suc k) ≡ walk-call s us c ample-budget ∷ next-results s us (walk-call s us c ample-budget .checkpoint) k))
-          ⊎ (next-results s us c (suc k) ≡ [])
-      at (inl e) = inl (e, next-by s us c k says-model e)
-      at (inr e) =
-          inr (next-by s us c k says-ended e ∙ ap (λ (d : Checkpoint). next-results s us d k) (has-onward s us T P walks c w ample-budget .over e)
-          ∙ end-results s us T P walks k)
+      at : (walk-call s us c ample-budget .kind ≡ says-model) ⊎ (walk-call s us c ample-budget .kind ≡ says-ended) → Q (next-results s us c (suc k))
+      at (inl e) = rw (next-by s us c k says-model e) (model e)
+      at (inr e) = rw (next-by s us c k says-ended e, has-onward s us T P walks c w ample-budget .over e, end-results s us T P walks k) none
 
   -- from the checkpoint of a model
   waits-after : (k : ℕ) (c : Checkpoint) → Has T c → c .mode ≡ 1 → c .length ≡ to-assign T → After (trail-in c) (next-results s us c k)
   unfolding ample-budgets walk-calls with-models
   waits-after zero c w m l = tt
-  waits-after (suc k) c w m l = at (results-first c w k) (λ e. waits-after k _ (call-has s us T P walks c w ample-budget) (has-onward s us T P walks c w ample-budget .mode e) (model-length s us T P walks c w ample-budget e))
-    where
-      r : Result
-      r = walk-call s us c ample-budget
-
-      at : ((r .kind ≡ says-model) × (next-results s us c (suc k) ≡ r ∷ next-results s us (r .checkpoint) k)) ⊎ (next-results s us c (suc k) ≡ [])
-          → (r .kind ≡ says-model → After (trail-in (r .checkpoint)) (next-results s us (r .checkpoint) k)) → After (trail-in c) (next-results s us c (suc k))
-      at (inl (e, q)) ih = rw q (model-wait s us T P walks c w m l ample-budget e, ih e)
-      at (inr q) ih = rw q tt
+  waits-after (suc k) c w m l =
+      results-by (After (trail-in c)) c w k (λ e. (model-wait s us T P walks c w m l ample-budget e, waits-after k _ (call-has s us T P walks c w ample-budget) (has-onward s us T P walks c w ample-budget .mode e) (model-length s us T P walks c w ample-budget e))) tt
 
   -- from any checkpoint that the walk has: the results have the trails of their models,
   pub next-trails : (k : ℕ) (c : Checkpoint) → Has T c → Every (λ r. (x : List Literal) × ModelTrail T r x) (next-results s us c k)
   unfolding ample-budgets walk-calls with-models
   next-trails zero c w = tt
-  next-trails (suc k) c w = at (results-first c w k) (next-trails k (walk-call s us c ample-budget .checkpoint) (call-has s us T P walks c w ample-budget))
-    where
-      r : Result
-      r = walk-call s us c ample-budget
-
-      at : ((r .kind ≡ says-model) × (next-results s us c (suc k) ≡ r ∷ next-results s us (r .checkpoint) k)) ⊎ (next-results s us c (suc k) ≡ [])
-          → Every (λ r. (x : List Literal) × ModelTrail T r x) (next-results s us (r .checkpoint) k) → Every (λ r. (x : List Literal) × ModelTrail T r x) (next-results s us c (suc k))
-      at (inl (e, q)) ih = rw q (call-trail s us T P walks c w ample-budget e, ih)
-      at (inr q) ih = rw q tt
+  next-trails (suc k) c w =
+      results-by (Every (λ r. (x : List Literal) × ModelTrail T r x)) c w k
+      (λ e. (call-trail s us T P walks c w ample-budget e, next-trails k _ (call-has s us T P walks c w ample-budget))) tt
 
   -- and the waits behind the first
   after-first : (k : ℕ) (c : Checkpoint) → Has T c → AfterFirst (next-results s us c k)
   unfolding ample-budgets walk-calls with-models
   after-first zero c w = tt
-  after-first (suc k) c w = at (results-first c w k)
-    where
-      r : Result
-      r = walk-call s us c ample-budget
-
-      at : ((r .kind ≡ says-model) × (next-results s us c (suc k) ≡ r ∷ next-results s us (r .checkpoint) k)) ⊎ (next-results s us c (suc k) ≡ [])
-          → AfterFirst (next-results s us c (suc k))
-      at (inl (e, q)) =
-          rw q (waits-after k (r .checkpoint) (call-has s us T P walks c w ample-budget) (has-onward s us T P walks c w ample-budget .mode e) (model-length s us T P walks c w ample-budget e))
-      at (inr q) = rw q tt
+  after-first (suc k) c w =
+      results-by AfterFirst c w k
+      (λ e. waits-after k _ (call-has s us T P walks c w ample-budget) (has-onward s us T P walks c w ample-budget .mode e) (model-length s us T P walks c w ample-budget e)) tt
 
   -- so it is on every line but the first,
   pub waits-between : (c : Checkpoint) → Has T c → (k i : ℕ) → suc i < length (next-results s us c k)
@@ -115,13 +90,7 @@ module _ (s : List ℕ) (us : List Assumption) (T : Task) (P : Posed T) (walks :
   -- and on the first from the start
   pub wait-start : (k : ℕ) → 0 < length (next-results s us start k) → steps-at (next-results s us start k) 0 ≡ to-assign T
   unfolding ample-budgets walk-calls with-models
-  wait-start zero h = absurd (omega arith)
-  wait-start (suc k) h = at (results-first start (start-has s us T P walks) k)
-    where
-      r : Result
-      r = walk-call s us start ample-budget
-
-      at : ((r .kind ≡ says-model) × (next-results s us start (suc k) ≡ r ∷ next-results s us (r .checkpoint) k)) ⊎ (next-results s us start (suc k) ≡ [])
-          → steps-at (next-results s us start (suc k)) 0 ≡ to-assign T
-      at (inl (e, q)) = rw q (start-wait s us T P walks ample-budget e)
-      at (inr q) = absurd (omega (arith, h, ap length q))
+  wait-start zero = λ h. absurd (omega arith)
+  wait-start (suc k) =
+      results-by (λ rs. 0 < length rs → steps-at rs 0 ≡ to-assign T) start (start-has s us T P walks) k (λ e h. start-wait s us T P walks ample-budget e)
+      (λ h. absurd (omega arith))

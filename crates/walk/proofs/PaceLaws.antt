@@ -90,18 +90,25 @@ module _ (K : Tree) (B : ℕ) where
   StopLast c e = (c ≡ K .size) × (e ≡ 0)
 
 -- The trails of neighbouring models part. x is that of the model before.
-abbrev pub PartedLater : List Literal → List Gap → Type 0
+abbrev PartedLater : List Literal → List Gap → Type 0
 PartedLater x [] = Unit {0}
 PartedLater x (to-model c e y ∷ gs) = Parting x y × PartedLater y gs
 PartedLater x (to-end c e ∷ gs) = PartedLater x gs
 PartedLater x (so-far c e ∷ gs) = PartedLater x gs
 
 -- From the start.
-abbrev pub PartedAll : List Gap → Type 0
+abbrev PartedAll : List Gap → Type 0
 PartedAll [] = Unit {0}
 PartedAll (to-model c e y ∷ gs) = PartedLater y gs
-PartedAll (to-end c e ∷ gs) = PartedAll gs
-PartedAll (so-far c e ∷ gs) = PartedAll gs
+PartedAll (to-end c e ∷ gs) = Unit {0}
+PartedAll (so-far c e ∷ gs) = Unit {0}
+
+-- both: the waits after a model with the trail x, and from the start
+abbrev pub WaitsLater : ℕ → ℕ → List Literal → List Gap → Type 0
+WaitsLater n B x gs = PacedLater n B x gs × PartedLater x gs
+
+abbrev pub WaitsFirst : ℕ → ℕ → List Gap → Type 0
+WaitsFirst n B gs = Paced n B gs × PartedAll gs
 
 module _ (K : Tree) (L : Live K) (B : ℕ) (cheap : (t : Stack) → Replayed K t → K .choose t .expansions ≤ B)
     (told : (p : Position) → Reachable K p → trail-in (shown p) ≡ trail-of (stack-of p)) where
@@ -175,13 +182,9 @@ module _ (K : Tree) (L : Live K) (B : ℕ) (cheap : (t : Stack) → Replayed K t
       stopping p q c e o (k-end (from-full h)) i = i
       stopping p q c e o (k-end (from-back x h)) i = i
 
-  -- behind a model with the trail u, at c steps and e expansions
-  abbrev PacedBehind : Stack → List Gap → Type 0
-  PacedBehind u gs = PacedLater (K .size) B (trail-of u) gs × PartedLater (trail-of u) gs
-
   later-after : (a : Answer) (u : Stack) (q : Position) (c e : ℕ) (bs : List ℕ) → Reachable K q → Paces K L (later K B u) (later K B) (HitLater K B u) (StopLast K B) a q c e
-      → ((u : Stack) (c e : ℕ) → later K B u c e q → PacedBehind u (gaps-from c e (results K L q bs)))
-      → PacedBehind u (gap-after (answer-kind a) c e (trail-in (shown q)) (λ c′ e′. gaps-from c′ e′ (results K L q bs)))
+      → ((u : Stack) (c e : ℕ) → later K B u c e q → WaitsLater (K .size) B (trail-of u) (gaps-from c e (results K L q bs)))
+      → WaitsLater (K .size) B (trail-of u) (gap-after (answer-kind a) c e (trail-in (shown q)) (λ c′ e′. gaps-from c′ e′ (results K L q bs)))
   later-after (found m) u q c e bs o h ih =
       let i = ih (stack-of q) 0 0 (h .1) in
       rw (told q o) ((h .0 .0, h .0 .1, h .0 .2, i .0), (h .0 .3, i .1))
@@ -189,7 +192,7 @@ module _ (K : Tree) (L : Live K) (B : ℕ) (cheap : (t : Stack) → Replayed K t
   later-after ended u q c e bs o h ih = ((h .0, h .1, tt), tt)
 
   -- over a list of calls from a position behind a model
-  later-pace : (bs : List ℕ) (p : Position) (u : Stack) (c e : ℕ) → Reachable K p → later K B u c e p → PacedBehind u (gaps-from c e (results K L p bs))
+  later-pace : (bs : List ℕ) (p : Position) (u : Stack) (c e : ℕ) → Reachable K p → later K B u c e p → WaitsLater (K .size) B (trail-of u) (gaps-from c e (results K L p bs))
   unfolding resumes gaps-from
   later-pace [] p u c e o i = let w = later-pausing p u c e o i in ((w .0, w .1, tt), tt)
   later-pace (b ∷ bs) p u c e o i =
@@ -197,20 +200,16 @@ module _ (K : Tree) (L : Live K) (B : ℕ) (cheap : (t : Stack) → Replayed K t
       later-after (r .answer) u (r .position) _ _ bs (call-effect K L b p o .fine) (call-paces K L _ _ _ _ (later-kept u) b p o c e i)
       (λ u′ c′ e′ i′. later-pace bs (resume K b p .position) u′ c′ e′ (call-effect K L b p o .fine) i′)
 
-  -- from the start
-  abbrev PacedFirst : List Gap → Type 0
-  PacedFirst gs = Paced (K .size) B gs × PartedAll gs
-
   first-after : (a : Answer) (q : Position) (c e : ℕ) (bs : List ℕ) → Reachable K q → Paces K L (first K B) (later K B) (HitFirst K B) (λ c e. ⊥) a q c e
-      → ((c e : ℕ) → first K B c e q → PacedFirst (gaps-from c e (results K L q bs)))
-      → PacedFirst (gap-after (answer-kind a) c e (trail-in (shown q)) (λ c′ e′. gaps-from c′ e′ (results K L q bs)))
+      → ((c e : ℕ) → first K B c e q → WaitsFirst (K .size) B (gaps-from c e (results K L q bs)))
+      → WaitsFirst (K .size) B (gap-after (answer-kind a) c e (trail-in (shown q)) (λ c′ e′. gaps-from c′ e′ (results K L q bs)))
   first-after (found m) q c e bs o h ih =
       let i = later-pace bs q (stack-of q) 0 0 o (h .1) in
       rw (told q o) ((h .0 .0, h .0 .1, i .0), i .1)
   first-after spent q c e bs o h ih = ih c e h
   first-after ended q c e bs o h ih = absurd h
 
-  first-paced : (bs : List ℕ) (p : Position) (c e : ℕ) → Reachable K p → first K B c e p → PacedFirst (gaps-from c e (results K L p bs))
+  first-paced : (bs : List ℕ) (p : Position) (c e : ℕ) → Reachable K p → first K B c e p → WaitsFirst (K .size) B (gaps-from c e (results K L p bs))
   unfolding resumes gaps-from
   first-paced [] p c e o i = (first-pausing p c e o i, tt)
   first-paced (b ∷ bs) p c e o i =
@@ -220,9 +219,9 @@ module _ (K : Tree) (L : Live K) (B : ℕ) (cheap : (t : Stack) → Replayed K t
       (λ c′ e′ i′. first-paced bs (resume K b p .position) c′ e′ (call-effect K L b p o .fine) i′)
 
   -- over a list of calls, whatever the budgets
-  pub pace : (bs : List ℕ) → PacedFirst (gaps (results K L (down empty) bs))
+  pub pace : (bs : List ℕ) → WaitsFirst (K .size) B (gaps (results K L (down empty) bs))
   pace bs = first-paced bs (down empty) 0 0 tt (refl, omega arith)
 
   -- and from behind a model
-  pub pace-full : (bs : List ℕ) (u : Stack) → Replayed K u → depth u ≡ K .size → PacedBehind u (gaps (results K L (full u) bs))
+  pub pace-full : (bs : List ℕ) (u : Stack) → Replayed K u → depth u ≡ K .size → WaitsLater (K .size) B (trail-of u) (gaps (results K L (full u) bs))
   pace-full bs u r h = later-pace bs (full u) u 0 0 (r, h) (refl, refl, refl)

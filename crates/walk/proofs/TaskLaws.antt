@@ -38,10 +38,10 @@ use Rattle.walk.proofs.RestLaws.{Pauses, Stops, walk, node, after-node,
 use Rattle.walk.proofs.PositionLaws.{behind-of, length-trail, full-stops}
 use Rattle.walk.proofs.AgreeLaws.{behind-after, At, at-start, at-every, Same, call-same}
 use Rattle.walk.proofs.ListingLaws.{walk-lists, walk-distinct, node-model}
-use Rattle.walk.proofs.CallLaws.{HandedOut, call-effect, resumes, last-position, results, brought-first, brought-all, never-spent, over-stops, resume-within, spent-all, models-next, model-full, model-mode, ended-stops}
+use Rattle.walk.proofs.CallLaws.{call-effect, resumes, last-position, results, brought-first, brought-all, never-spent, over-stops, resume-within, spent-all, models-next, model-full, model-mode, ended-stops}
 use Rattle.walk.proofs.LoopLaws.{loop-over}
 use Rattle.walk.proofs.CostLaws.{walk-cheap}
-use Rattle.walk.proofs.PaceLaws.{PartedAll, pace, pace-full}
+use Rattle.walk.proofs.PaceLaws.{WaitsFirst, pace, pace-full}
 use Rattle.walk.proofs.MetLaws.{start-stops, down-spent, all-got}
 use Rattle.walk.proofs.AcceptLaws.{stack-replayed, shown-bytes, shown-trail, shown-position, call-shown, accepted-stopped, stopped-accepted}
 use Rattle.walk.proofs.ProperLaws.{stop-proper, proper-stop}
@@ -239,17 +239,16 @@ module _ (s : List ℕ) (us : List Assumption) (T : Task) (P : Posed T) (walks :
   told : (p : Position) → Reachable (tree T) p → trail-in (shown p) ≡ trail-of (stack-of p)
   told = shown-trail (tree T) alive small low
 
-  -- the pace over a list of calls
+  -- the pace over a list of calls, and where the trails of neighbouring models part
+  pub calls-pace : (bs : List ℕ) → WaitsFirst (to-assign T) (step-bound T) (gaps (walk-calls s us start bs))
+  calls-pace bs = rw (calls-results bs) (pace (tree T) alive (step-bound T) (λ t _. cheap T P t) told bs)
+
   pub calls-paced : (bs : List ℕ) → Paced (to-assign T) (step-bound T) (gaps (walk-calls s us start bs))
-  calls-paced bs = rw (calls-results bs) (pace (tree T) alive (step-bound T) (λ t _. cheap T P t) told bs .0)
+  calls-paced bs = calls-pace bs .0
 
   -- and the sharper one: what stripping leaves at a node is matched
   pub calls-paced-sound : (bs : List ℕ) → Paced (to-assign T) (to-assign T * (T .variables * suc (T .variables))) (gaps (walk-calls s us start bs))
   calls-paced-sound bs = rw (calls-results bs) (pace (tree T) alive (to-assign T * (T .variables * suc (T .variables))) (cheap-sound T P) told bs .0)
-
-  -- and where the trails of neighbouring models part
-  pub calls-parted : (bs : List ℕ) → PartedAll (gaps (walk-calls s us start bs))
-  calls-parted bs = rw (calls-results bs) (pace (tree T) alive (step-bound T) (λ t _. cheap T P t) told bs .1)
 
   -- the same from the checkpoint of a model: mode 1, and every variable assigned
   module _ (c : Checkpoint) (w : Has T c) (mode : c .mode ≡ 1) (all : c .length ≡ to-assign T) where
@@ -286,35 +285,26 @@ module _ (s : List ℕ) (us : List Assumption) (T : Task) (P : Posed T) (walks :
 
   -- a call that says model returns the checkpoint of the model's trail
   pub call-trail : (c : Checkpoint) → Has T c → (b : ℕ) → walk-call s us c b .kind ≡ says-model → (x : List Literal) × ModelTrail T (walk-call s us c b) x
-  call-trail c w b e = at (model-full (tree T) alive b p (a .fine) (sym (ap (λ (r : Result). r .kind) goes) ∙ e))
-    where
-      p : Position
-      p = standing (w .0)
-
-      a : At (tree T) (state-after T 0 (w .0)) (standing (w .0))
-      a = standing-at (w .0)
-
-      goes : walk-call s us c b ≡ resumed-result (resume (tree T) b (standing (w .0)))
-      goes =
-          ap (λ (d : Checkpoint). walk-call s us d b) (sym (w .1) ∙ at-checkpoint T (standing-at (w .0)))
-          ∙ call-goes b (standing (w .0)) (standing-at (w .0) .fine) (standing-stops (w .0))
-
-      at : HandedOut (tree T) (resumed-result (resume (tree T) b p) .model) (resume (tree T) b p .position) → (x : List Literal) × ModelTrail T (walk-call s us c b) x
-      at f =
-          let t = f .0 in
-          let o : Reachable (tree T) (full t) = subst (Reachable (tree T)) (f .1) (call-effect (tree T) alive b p (a .fine) .fine) in
-          let m = ap (λ (r : Result). r .model) goes ∙ f .2 in
-          let d = ap (λ (r : Result). r .checkpoint) goes ∙ ap shown (f .1) in (
-            trail-of t,
-            record {
-              returned = d;
-              read = ap trail-in d ∙ told (full t) o;
-              full = length-trail t ∙ o .1;
-              every = full-every T P t (o .0) (o .1);
-              model = m;
-              values = rw m (agrees-trail (tree T .result t) t (splits T P .full-model t (o .0) (o .1) .1));
-            },
-          )
+  call-trail c w b e =
+      let p = standing (w .0) in
+      let a = standing-at (w .0) in
+      let goes : walk-call s us c b ≡ resumed-result (resume (tree T) b p) =
+      ap (λ (d : Checkpoint). walk-call s us d b) (sym (w .1) ∙ at-checkpoint T a) ∙ call-goes b p (a .fine) (standing-stops (w .0)) in
+      let f = model-full (tree T) alive b p (a .fine) (sym (ap (λ (r : Result). r .kind) goes) ∙ e) in
+      let t = f .0 in
+      let o : Reachable (tree T) (full t) = subst (Reachable (tree T)) (f .1) (call-effect (tree T) alive b p (a .fine) .fine) in
+      let m = ap (λ (r : Result). r .model) goes ∙ f .2 in
+      let d = ap (λ (r : Result). r .checkpoint) goes ∙ ap shown (f .1) in (
+        trail-of t,
+        record {
+          returned = d;
+          read = ap trail-in d ∙ told (full t) o;
+          full = length-trail t ∙ o .1;
+          every = full-every T P t (o .0) (o .1);
+          model = m;
+          values = subst (λ (k : ℕ). terms.Agrees (bit k) (trail-of t)) (sym m) (agrees-trail (tree T .result t) t (splits T P .full-model t (o .0) (o .1) .1));
+        },
+      )
 
   -- enough steps are not spent
   not-spent : (a : Answer) → (answer-kind a ≡ says-spent → ⊥) → (answer-kind a ≡ says-model) ⊎ (answer-kind a ≡ says-ended)

@@ -15,9 +15,9 @@ use Rattle.walk.specs.PlainMachine.{Has}
 use Rattle.walk.specs.WalkCall.{walk-call, walk-calls, last-checkpoint}
 use Rattle.walk.specs.InnerLocate.{task-call}
 use Rattle.walk.specs.Results.{AnswerKind, says-model, says-spent, says-ended, says-refused, Result}
-use Rattle.walk.specs.Gaps.{brings, brought, Gap, to-model, to-end, so-far, gap-after, gaps-from, gaps, gap-trails, ModelTrail, shared, Parting, step-bound, ample-budget, PacedLater, Paced}
+use Rattle.walk.specs.Gaps.{brings, brought, Gap, to-model, to-end, so-far, gap-after, gaps-from, gaps, gap-trails, ModelTrail, shared, Parting, step-bound, ample-budget}
 use Rattle.walk.proofs.BudgetLaws.{calls-append}
-use Rattle.walk.proofs.PaceLaws.{PartedLater, PartedAll}
+use Rattle.walk.proofs.PaceLaws.{WaitsLater, WaitsFirst}
 use Rattle.walk.proofs.TaskLaws as laws
 use Rattle.walk.proofs.HasLaws as has
 
@@ -38,34 +38,21 @@ open-last {C} (r ∷ rs) c e d f g gs hs h = at (r .kind) h (λ c′ e′. open-
     at says-ended h ih = let z : _≡_ {A = ℕ} 0 1 = cc in absurd (omega arith)
 
 module _ (n B : ℕ) where
-  later-behind : (gs hs : List Gap) (c e : ℕ) (x y : List Literal) → PacedLater n B x (gs ++ (to-model c e y ∷ hs)) → PacedLater n B y hs
-  later-behind [] hs c e x y p = p .3
-  later-behind (to-model d f z ∷ gs) hs c e x y p = later-behind gs hs c e z y (p .3)
-  later-behind (to-end d f ∷ gs) hs c e x y p = later-behind gs hs c e x y (p .2)
-  later-behind (so-far d f ∷ gs) hs c e x y p = later-behind gs hs c e x y (p .2)
+  later-behind : (gs hs : List Gap) (c e : ℕ) (x y : List Literal) → WaitsLater n B x (gs ++ (to-model c e y ∷ hs)) → WaitsLater n B y hs
+  later-behind [] hs c e x y p = (p .0 .3, p .1 .1)
+  later-behind (to-model d f z ∷ gs) hs c e x y p = later-behind gs hs c e z y (p .0 .3, p .1 .1)
+  later-behind (to-end d f ∷ gs) hs c e x y p = later-behind gs hs c e x y (p .0 .2, p .1)
+  later-behind (so-far d f ∷ gs) hs c e x y p = later-behind gs hs c e x y (p .0 .2, p .1)
 
-  -- the waits behind a model
-  paced-behind : (rs : List Result) (gs hs : List Gap) (c e : ℕ) (y : List Literal) → gaps rs ≡ gs ++ (to-model c e y ∷ hs) → Paced n B (gaps rs) → PacedLater n B y hs
-  paced-behind rs gs hs c e y h p = at gs h (rw h at p)
+  -- the waits behind a model, and where the trails part there
+  first-behind : (rs : List Result) (gs hs : List Gap) (c e : ℕ) (y : List Literal) → gaps rs ≡ gs ++ (to-model c e y ∷ hs) → WaitsFirst n B (gaps rs) → WaitsLater n B y hs
+  first-behind rs gs hs c e y h p = at gs h (rw h at p)
     where
-      at : (gs : List Gap) → gaps rs ≡ gs ++ (to-model c e y ∷ hs) → Paced n B (gs ++ (to-model c e y ∷ hs)) → PacedLater n B y hs
-      at [] h p = p .2
-      at (to-model d f z ∷ gs) h p = later-behind gs hs c e z y (p .2)
-      at (to-end d f ∷ gs) h p = absurd p
+      at : (gs : List Gap) → gaps rs ≡ gs ++ (to-model c e y ∷ hs) → WaitsFirst n B (gs ++ (to-model c e y ∷ hs)) → WaitsLater n B y hs
+      at [] h p = (p .0 .2, p .1)
+      at (to-model d f z ∷ gs) h p = later-behind gs hs c e z y (p .0 .2, p .1)
+      at (to-end d f ∷ gs) h p = absurd (p .0)
       at (so-far d f ∷ gs) h p = open-last rs 0 0 d f _ gs hs h
-
-later-parted : (gs hs : List Gap) (c e : ℕ) (x y : List Literal) → PartedLater x (gs ++ (to-model c e y ∷ hs)) → PartedLater y hs
-later-parted [] hs c e x y p = p .1
-later-parted (to-model d f z ∷ gs) hs c e x y p = later-parted gs hs c e z y (p .1)
-later-parted (to-end d f ∷ gs) hs c e x y p = later-parted gs hs c e x y p
-later-parted (so-far d f ∷ gs) hs c e x y p = later-parted gs hs c e x y p
-
--- where the trails behind it part
-parted-behind : (gs hs : List Gap) (c e : ℕ) (y : List Literal) → PartedAll (gs ++ (to-model c e y ∷ hs)) → PartedLater y hs
-parted-behind [] hs c e y p = p
-parted-behind (to-model d f z ∷ gs) hs c e y p = later-parted gs hs c e z y p
-parted-behind (to-end d f ∷ gs) hs c e y p = parted-behind gs hs c e y p
-parted-behind (so-far d f ∷ gs) hs c e y p = parted-behind gs hs c e y p
 
 -- trails that part have something behind what they share
 pub parting-some : (x y : List Literal) → Parting x y → 0 < length y - shared x y
@@ -118,11 +105,13 @@ module _ (s : List ℕ) (us : List Assumption) (T : Task) (P : Posed T) (walks :
   abbrev gaps-of : List ℕ → List Gap
   gaps-of bs = gaps (walk-calls s us start bs)
 
+  -- the waits behind a model with the trail x
+  waits-behind : (bs : List ℕ) (gs hs : List Gap) (c e : ℕ) (x : List Literal) → gaps-of bs ≡ gs ++ (to-model c e x ∷ hs) → WaitsLater (to-assign T) (step-bound T) x hs
+  waits-behind bs gs hs c e x h = first-behind (to-assign T) (step-bound T) (walk-calls s us start bs) gs hs c e x h (laws.calls-pace s us T P walks bs)
+
+  -- the next model
   pub next-waited : (bs : List ℕ) (gs hs : List Gap) (c e d f : ℕ) (x y : List Literal) → gaps-of bs ≡ gs ++ (to-model c e x ∷ to-model d f y ∷ hs) → Waited d x y
-  next-waited bs gs hs c e d f x y h = (
-    paced-behind (to-assign T) (step-bound T) (walk-calls s us start bs) gs (to-model d f y ∷ hs) c e x h (laws.calls-paced s us T P walks bs) .0,
-    parted-behind gs (to-model d f y ∷ hs) c e x (rw h at (laws.calls-parted s us T P walks bs)) .0,
-  )
+  next-waited bs gs hs c e d f x y h = let w = waits-behind bs gs (to-model d f y ∷ hs) c e x h in (w .0 .0, w .1 .0)
 
   -- the call behind a list of calls
   abbrev call-after : List ℕ → ℕ → Result
@@ -133,10 +122,13 @@ module _ (s : List ℕ) (us : List Assumption) (T : Task) (P : Posed T) (walks :
   gaps-of-more bs b c e gs h =
       ap (λ (rs : List Result). gaps rs) (calls-append s us bs (b ∷ []) start) ∙ gaps-more (walk-calls s us start bs) (call-after bs b) 0 0 c e gs h
 
-  -- behind a model with the trail x, at c steps: an ample budget brings the next one or the end
+  -- c steps behind a model with the trail x, the result r brings the next one or the end
+  abbrev Closes : ℕ → List Literal → Result → Type 0
+  Closes c x r = ((r .kind ≡ says-model) × Waited (c + r .steps) x (trail-in (r .checkpoint))) ⊎ ((r .kind ≡ says-ended) × (c + r .steps ≡ to-assign T))
+
+  -- so it is on an ample budget
   pub ample-closes : (bs : List ℕ) (gs : List Gap) (c e d f : ℕ) (x : List Literal) → gaps-of bs ≡ gs ++ (to-model d f x ∷ so-far c e ∷ []) → (b : ℕ) → ample-budget ≤ b
-      → (let r = call-after bs b in
-      ((r .kind ≡ says-model) × Waited (c + r .steps) x (trail-in (r .checkpoint))) ⊎ ((r .kind ≡ says-ended) × (c + r .steps ≡ to-assign T)))
+      → Closes c x (call-after bs b)
   ample-closes bs gs c e d f x h b l = at (laws.calls-ample s us T P walks bs b l)
     where
       more : gaps-of (bs ++ (b ∷ [])) ≡ gs ++ (to-model d f x ∷ then c e (call-after bs b))
@@ -144,12 +136,9 @@ module _ (s : List ℕ) (us : List Assumption) (T : Task) (P : Posed T) (walks :
           gaps-of-more bs b c e (gs ++ (to-model d f x ∷ [])) (h ∙ sym (append-assoc gs (to-model d f x ∷ []) (so-far c e ∷ [])))
           ∙ append-assoc gs (to-model d f x ∷ []) (then c e (call-after bs b))
 
-      at : (call-after bs b .kind ≡ says-model) ⊎ (call-after bs b .kind ≡ says-ended)
-          → (let r = call-after bs b in
-          ((r .kind ≡ says-model) × Waited (c + r .steps) x (trail-in (r .checkpoint))) ⊎ ((r .kind ≡ says-ended) × (c + r .steps ≡ to-assign T)))
+      at : (call-after bs b .kind ≡ says-model) ⊎ (call-after bs b .kind ≡ says-ended) → Closes c x (call-after bs b)
       at (inl k) = inl (k, next-waited (bs ++ (b ∷ [])) gs (so-far 0 0 ∷ []) d f _ _ x _ (rw k at more))
-      at (inr k) =
-          inr (k, paced-behind (to-assign T) (step-bound T) (walk-calls s us start (bs ++ (b ∷ []))) gs _ d f x (rw k at more) (laws.calls-paced s us T P walks (bs ++ (b ∷ []))) .0)
+      at (inr k) = inr (k, waits-behind (bs ++ (b ∷ [])) gs _ d f x (rw k at more) .0 .0)
 
   -- from the start
   pub ample-first : (bs : List ℕ) (c e : ℕ) → gaps-of bs ≡ so-far c e ∷ [] → (b : ℕ) → ample-budget ≤ b
@@ -182,8 +171,7 @@ module _ (s : List ℕ) (us : List Assumption) (T : Task) (P : Posed T) (walks :
       → brought (walk-calls s us start bs) ≡ listing T → c ≤ to-assign T
   after-last bs gs c e d f x h all = at (ample-closes bs gs c e d f x h ample-budget (omega arith))
     where
-      at : (let r = call-after bs ample-budget in
-          ((r .kind ≡ says-model) × Waited (c + r .steps) x (trail-in (r .checkpoint))) ⊎ ((r .kind ≡ says-ended) × (c + r .steps ≡ to-assign T))) → c ≤ to-assign T
+      at : Closes c x (call-after bs ample-budget) → c ≤ to-assign T
       at (inl w) = absurd (none-behind-last bs ample-budget all (w .0))
       at (inr w) = omega (arith, w .1)
 
