@@ -10,6 +10,7 @@ use Rattle.formula.specs.Check as check
 use Rattle.formula.specs.Check.{Said, said-yes, said-no, said-neither, checked}
 use Rattle.assumptions.specs.Bytes.{of-bytes}
 use Rattle.dimacs.specs.Convert.{ConvertedValues, Conversion, to-encoded, to-text}
+use Rattle.matched.specs.Deficiency.{MeasuredValues, deficiency-of}
 use Rattle.matched.specs.Judge as judging
 use Rattle.matched.specs.Judge.{judge}
 use Rattle.matched.specs.Weigh.{WeighedValues, weighed}
@@ -46,6 +47,10 @@ judge-results a = cond (eqb (a .number) 0) 0 3 ∷ 0 ∷ a .number ∷ a .place 
 -- counted if there is no refusal's number; at the end the numbers of marked clauses and of the variables that they name
 abbrev pub weigh-results : WeighedValues → List ℕ
 weigh-results a = cond (eqb (a .number) 0) 0 3 ∷ 0 ∷ a .number ∷ a .place ∷ a .clauses ∷ a .variables ∷ []
+
+-- measured if there is no refusal's number; then the deficiency
+abbrev pub deficiency-results : MeasuredValues → List ℕ
+deficiency-results a = cond (eqb (a .number) 0) 0 3 ∷ 0 ∷ a .number ∷ a .place ∷ a .deficiency ∷ 0 ∷ []
 
 -- written if there is no refusal's number; then how many bytes
 abbrev pub conversion-results : ConvertedValues → List ℕ
@@ -105,6 +110,10 @@ judge-called s assumptions buffer results =
 unfoldable pub weigh-called : List ℕ → List ℕ → List ℕ → List ℕ → ℕ × List ℕ
 weigh-called s assumptions buffer results =
     cond (assumptions-sized assumptions && results-sized results) (0, weigh-results (weighed s (of-bytes assumptions) buffer)) (1, results)
+
+-- norwythai_deficiency: the input, and the results as they were
+unfoldable pub deficiency-called : List ℕ → List ℕ → ℕ × List ℕ
+deficiency-called s results = cond (results-sized results) (0, deficiency-results (deficiency-of s)) (1, results)
 
 -- a conversion of either kind: what it leaves, and the buffer and the results as they were
 unfoldable pub conversion-called : Conversion → List ℕ → List ℕ → ℕ × List ℕ × List ℕ

@@ -8,13 +8,14 @@ ghost use Rattle.formula.specs.Refusals.{table-row};
 ghost use Rattle.assumptions.specs.Bytes.{of-bytes};
 ghost use Rattle.assumptions.specs.InnerAssumed.{MasksOf};
 ghost use Rattle.dimacs.specs.Convert.{converted-values};
+ghost use Rattle.matched.specs.Deficiency.{measured-values};
 ghost use Rattle.matched.specs.Judge as judging;
 ghost use Rattle.matched.specs.Weigh.{weighed-values};
 ghost use Rattle.walk.specs.Checkpoints as walk;
 ghost use Rattle.enumeration.specs.Values.{checkpoint-values, answer-values, walked-values, listed-values};
 ghost use Rattle.page.specs.Pages.{page-values};
 ghost use Rattle.capi.specs.InnerResults.{numbers};
-ghost use Rattle.capi.specs.Interface.{results-size, check-results, judge-results, weigh-results, conversion-results, walk-results, list-results, page-results, checkpoint-size, checkpoint-bytes, checkpoint-in, check-called, judge-called, weigh-called, from-dimacs-called, to-dimacs-called, start-called, walk-called, list-called, page-called};
+ghost use Rattle.capi.specs.Interface.{results-size, check-results, judge-results, weigh-results, deficiency-results, conversion-results, walk-results, list-results, page-results, checkpoint-size, checkpoint-bytes, checkpoint-in, check-called, judge-called, weigh-called, deficiency-called, from-dimacs-called, to-dimacs-called, start-called, walk-called, list-called, page-called};
 use assumptions::Assumptions;
 use dimacs::Converted;
 use enumeration::Checkpoint;
@@ -23,6 +24,7 @@ use enumeration::Walked;
 use formula::Refusal;
 use formula::Verdict;
 use matched::Judgement;
+use matched::Measured;
 use matched::Weighed;
 use page::PageAnswer;
 
@@ -36,8 +38,8 @@ const CHECKPOINT_SIZE: usize = 2 + limits::MAX_VARIABLES;
 const ASSUMPTION_SIZE: usize = 2;
 
 // The results of a call, in the order in which they are written. judge has the numbers of variables and clauses in place of the
-// steps and expansions, weigh those of marked clauses and of variables; a conversion has the number of bytes, list that of models and a
-// page that of lines in place of the steps.
+// steps and expansions, weigh those of marked clauses and of variables; in place of the steps deficiency has the deficiency, a conversion
+// the number of bytes, list that of models and a page that of lines.
 struct Results {
     answer: u64,
     model: u64,
@@ -101,6 +103,15 @@ fn weigh_results(w: Weighed) -> Results
             plain_results(0, 0, clauses as u64, variables as u64)
         }
         Weighed::Refused(refusal) => refusal_results(refusal, 0, 0),
+    }
+}
+
+fn deficiency_results(m: Measured) -> Results
+    ensures { λ r. ⌜ numbers r ≡ deficiency-results (measured-values m) ⌝ }
+{
+    match m {
+        Measured::Deficiency(d) => plain_results(0, 0, d as u64, 0),
+        Measured::Refused(refusal) => refusal_results(refusal, 0, 0),
     }
 }
 
@@ -262,6 +273,18 @@ pub extern "C" fn norwythai_weigh(
         weigh_results(matched::weigh_marks_under(input, u, buffer)),
         results,
     );
+    0
+}
+
+// S22: how far the formula is from being matched.
+#[no_mangle]
+pub extern "C" fn norwythai_deficiency(input: &[u8], results: &mut [u64]) -> u32
+    ensures { λ r. ⌜ deficiency-called (now (input .entry)) (now (results .entry)) ≡ (r, now (results .exit)) ⌝ }
+{
+    if results.len() != RESULTS_SIZE {
+        return 1;
+    }
+    put_results(deficiency_results(matched::deficiency(input)), results);
     0
 }
 

@@ -1,4 +1,5 @@
 pub mod Acceptance
+pub mod Deficiency
 pub mod InnerAccept
 pub mod InnerSpread
 pub mod Judge

@@ -1,7 +1,8 @@
-// Which inputs are accepted, each with its matching or a violator, and the act judge (S5.6, S5.7, S17.2, S18, S20).
+// Which inputs are accepted, each with its matching or a violator, the act judge, and how far an input is from being matched (S5.6, S5.7,
+// S17.2, S18, S20, S22).
 //
 // `accept` says what comes of an input (`acceptance`) to judge, walk, list, page and print, which have read it; judge writes it into a
-// lent buffer. `weigh_marks` counts the clauses that a buffer marks and the variables that they name.
+// lent buffer. `weigh_marks` counts the clauses that a buffer marks and the variables that they name. `deficiency` asks nothing of these.
 ghost use mathlib.Core.List.{List, map};
 ghost use mathlib.Core.Path.{_≡_};
 ghost use Prim.Native.Nat.{ℕ, _+_, _<_, _≤_};
@@ -19,6 +20,7 @@ ghost use Rattle.splitting.specs.InnerChoose.{assignment-of};
 ghost use Rattle.splitting.specs.Nodes.{remaining};
 ghost use Rattle.splitting.specs.Stripping.{stripped};
 ghost use Rattle.matched.specs.Acceptance.{acceptance, by-stripped, formula-acceptance};
+ghost use Rattle.matched.specs.Deficiency.{measured-values, deficiency-of};
 ghost use Rattle.matched.specs.InnerAccept.{ReaderGives, assigned-by, refused-row, Represents};
 ghost use Rattle.matched.specs.InnerSpread.{bytes-at, NotesFit, first-noted, told-byte, told-bytes};
 ghost use Rattle.matched.specs.Judge.{judgement-values, judge};
@@ -51,6 +53,12 @@ pub enum Judgement {
 // How much marks weigh: the numbers of marked clauses and of the variables that they name, or the refusal.
 pub enum Weighed {
     Counted(usize, u32),
+    Refused(Refusal),
+}
+
+// How far a formula is from being matched: its deficiency, or the refusal.
+pub enum Measured {
+    Deficiency(usize),
     Refused(Refusal),
 }
 
@@ -318,4 +326,37 @@ pub fn weigh_marks(input: &[u8], list: &[Assumption], buffer: &[u8]) -> Weighed
     let n = assumptions::stated(input);
     let u = assumptions::read_assumptions(list, n);
     weigh_marks_under(input, u, buffer)
+}
+
+// The variables that each clause names, as masks, and zeros behind them.
+fn clause_masks(f: Formula) -> [u64; limits::MAX_CLAUSES]
+    requires { ⌜ f .count ≤ max-clauses ⌝ }
+    ensures { λ r. ⌜ r ≡ padded max-clauses 0 (map clause-variables (take (f .count) (f .clauses))) ⌝ }
+{
+    let mut sets = [0u64; limits::MAX_CLAUSES];
+    let mut i: usize = 0;
+    while i < f.count {
+        let c = f.clauses[i];
+        sets[i] = c.positive | c.negative;
+        i += 1;
+    }
+    sets
+}
+
+// S22.1: how many clauses are left over by the most that can be matched together, before stripping and with no assumption.
+pub fn deficiency(input: &[u8]) -> Measured
+    ensures { λ r. ⌜ measured-values r ≡ deficiency-of (now (input .entry)) ⌝ }
+{
+    let d = formula::decode(input);
+    let read = d.outcome;
+    let f = d.formula;
+    match read {
+        Outcome::Refused(refusal) => Measured::Refused(refusal),
+        Outcome::Accepted => {
+            let count = f.count;
+            let sets = clause_masks(f);
+            let k = matching::match_most(&sets, count);
+            Measured::Deficiency(count - k)
+        }
+    }
 }

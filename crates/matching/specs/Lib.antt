@@ -3,3 +3,4 @@ pub mod InnerMatched
 pub mod Search
 pub mod Result
 pub mod Inner
+pub mod Deficiency

@@ -11,6 +11,7 @@ ghost use Rattle.masks.specs.Mask.{bit, members};
 ghost use Rattle.matching.specs.Search.{see, scan, expand, search-from, begin, rematch, search-bound, no-links, outcome, marks};
 ghost use Rattle.matching.specs.Inner.{at, search-of, SearchSound, Holds, Owned, Apart, Augments, Tables, Stored, Augmented};
 ghost use Rattle.matching.specs.Result.{Clauses, packed};
+ghost use Rattle.matching.specs.Deficiency.{most};
 ghost use Rattle.matching.specs.Sets.{Words};
 
 // If complete, the first bytes of `table` are the variables of the clauses and `marked` is 0; otherwise a marked clause has 1 there and
@@ -243,4 +244,27 @@ pub fn match_sets(sets: &[u64; MAX_CLAUSES], count: usize) -> Matching
         marked: 0,
         table,
     }
+}
+
+// S22.1: the most of the first `count` clauses that can be matched together. A clause whose search succeeds is kept; one whose search
+// fails is left aside, and the next one takes its place.
+pub fn match_most(sets: &[u64; MAX_CLAUSES], count: usize) -> usize
+    requires { ⌜ Clauses (now sets) count ⌝ }
+    ensures { λ r. ⌜ r ≡ most (take count (now (sets .entry))) ⌝ }
+{
+    let mut kept = [0u64; MAX_CLAUSES];
+    let mut table = [0u8; MAX_CLAUSES];
+    let mut owners = [0u8; 64];
+    let mut queue = [0u8; MAX_CLAUSES];
+    let mut k: usize = 0;
+    let mut i: usize = 0;
+    while i < count {
+        kept[k] = sets[i];
+        let front = augment(&kept, k, &mut table, &mut owners, &mut queue);
+        if front.free != 64 {
+            k += 1;
+        }
+        i += 1;
+    }
+    k
 }
