@@ -1,5 +1,5 @@
 -- The deficiency of an input, by cases; that it is what the code counts; and what holds of it, over clauses.
-use Prim.Native.Nat.{ℕ, suc, _+_, _-_, _^_, _≤_, _<_}
+use Prim.Native.Nat.{ℕ, zero, suc, _+_, _-_, _^_, _≤_, _<_}
 use mathlib.Core.List.{List, [], _∷_, _++_, map, map-append, Sublistᴰ}
 use mathlib.Core.Logic.{_↔_}
 use mathlib.Core.Path.{_≡_, refl, sym, ap, _∙_, subst}
@@ -18,12 +18,13 @@ use Rattle.formula.specs.declared.Formula.{Formula}
 use Rattle.formula.specs.declared.Refusal.{Refusal}
 use Rattle.formula.specs.InnerDecode.{decode}
 use Rattle.formula.specs.Decoding.{Decoding, readable, refused}
-use Rattle.formula.specs.Format.{Literal, Sized}
+use Rattle.formula.specs.Format.{Literal, Sized, Encodes}
 use Rattle.formula.specs.Masked.{variables}
 use Rattle.formula.specs.InnerFits.{clause-variables}
 use Rattle.formula.specs.InnerMasked.{no-clause}
 use Rattle.formula.specs.Refusals.{table-row}
-use Rattle.formula.proofs.Demands.{accepted-only, accepted-all, accepted-fits, numbers}
+use Rattle.formula.specs.Table.{Refuses}
+use Rattle.formula.proofs.Demands.{accepted-only, accepted-all, accepted-fits, refused-only, numbers}
 use Rattle.formula.proofs.MaskedLaws.{Accepts}
 use Rattle.assumptions.specs.FirstBad.{NoneBad}
 use Rattle.matching.specs.Sets.{Words, union, selected}
@@ -33,7 +34,10 @@ use Rattle.matching.proofs.SelectedLaws.{selected-map, selected-sub, sub-select
 use Rattle.matching.proofs.Theorems.{most-attained, most-bound, excess-attained, excess-bound, one-more, deficiency-none}
 use Rattle.splitting.specs.Nodes.{remaining}
 use Rattle.matched.specs.Deficiency.{MeasuredValues, measured, unmeasured, deficiency-of}
+use Rattle.matched.specs.Judge.{judge}
 use Rattle.matched.specs.Pairing.{Pairs, Pairable}
+use Rattle.matched.proofs.AcceptanceLaws.{pairable-walkable}
+use Rattle.matched.proofs.JudgeLaws.{judged-unmatched, unmatched-long, walkable-numberless}
 use Rattle.matched.proofs.PairingLaws.{array-masks, masks-words, matches-pairs, pairs-matches}
 
 -- ---- the loop: the clause at i as well
@@ -65,6 +69,10 @@ module _ (s : List ℕ) where
   pub readable-deficiency : (n : ℕ) (cs : List (List Literal)) → decode s ≡ readable n cs → deficiency-of s ≡ measured (deficiency (map variables cs))
   unfolding deficiency-of
   readable-deficiency n cs e = rw e
+
+  pub clauses-less-most : (n : ℕ) (cs : List (List Literal)) → decode s ≡ readable n cs → deficiency-of s ≡ measured (length cs - most (map variables cs))
+  unfolding deficiency
+  clauses-less-most n cs e = readable-deficiency n cs e ∙ rw (length-map cs variables)
 
   -- over the formula f that was read, and the array of its masks
   module _ (f : Formula) (a : Accepts s f) (sets : List ℕ) (are : sets ≡ padded max-clauses 0 (map clause-variables (take (f .count) (f .clauses)))) where
@@ -148,6 +156,29 @@ clauses-more n xs ys c z =
     let e : map variables (xs ++ (c ∷ ys)) ≡ map variables xs ++ (variables c ∷ map variables ys) = map-append variables xs (c ∷ ys) in
     rw (map-append variables xs ys, e) (one-more (map variables xs) (map variables ys) (variables c) (subst Words e (masks-words z)))
 
+-- ---- an input that is readable, or not
+
+module _ (s : List ℕ) where
+  pub readable-exactly : (deficiency-of s .number ≡ 0) ↔ ((n : ℕ) × (cs : List (List Literal)) × Encodes s n cs)
+  readable-exactly = (
+    λ e. by (decode s) refl e,
+    λ w. ap (λ (v : MeasuredValues). v .number) (readable-deficiency s (w .0) (w .1) (accepted-all s (w .0) (w .1) (w .2))),
+  )
+    where
+      by : (d : Decoding) → decode s ≡ d → deficiency-of s .number ≡ 0 → (n : ℕ) × (cs : List (List Literal)) × Encodes s n cs
+      by (readable n cs) reads e = (n, cs, accepted-only s n cs reads)
+      by (refused r) reads e = absurd (omega (arith, ap (λ (v : MeasuredValues). v .number) (unreadable-deficiency s r reads), numbers s r reads .0))
+
+  pub refused-by : (deficiency-of s .number ≡ 0 → ⊥)
+      → (r : Refusal) × Refuses s r × (deficiency-of s ≡ unmeasured r) × (2 ≤ deficiency-of s .number) × (deficiency-of s .number ≤ 9)
+  refused-by ne = by (decode s) refl
+    where
+      by : (d : Decoding) → decode s ≡ d → (r : Refusal) × Refuses s r × (deficiency-of s ≡ unmeasured r) × (2 ≤ deficiency-of s .number) × (deficiency-of s .number ≤ 9)
+      by (readable n cs) reads = absurd (ne (ap (λ (v : MeasuredValues). v .number) (readable-deficiency s n cs reads)))
+      by (refused r) reads =
+          let e = unreadable-deficiency s r reads in
+          (r, refused-only s r reads, e, rw e (numbers s r reads .0), rw e (numbers s r reads .1))
+
 -- ---- an input with nothing left over, and one that judge says 10 of
 
 nothing-assumed : (cs : List (List Literal)) → remaining [] cs ≡ cs
@@ -175,3 +206,13 @@ none-pairable s = (λ e. paired (decode s) refl e, none)
         let reads = accepted-all s (w .variables) (w .clauses) (w .encodes) in
         readable-deficiency s (w .variables) (w .clauses) reads
         ∙ ap measured (clauses-none (accepted-fits s (w .variables) (w .clauses) reads) .1 (w .vs, rw (nothing-assumed (w .clauses)) at (w .pairs)))
+
+pub unmatched-above : (s b : List ℕ) → judge s [] b .answer .number ≡ 10 → 1 ≤ deficiency-of s .deficiency
+unmatched-above s b e =
+    let w = judged-unmatched s [] b (unmatched-long s [] b e) e in
+    let d = readable-deficiency s (w .0) (w .1) (accepted-all s (w .0) (w .1) (w .2)) in
+    by (deficiency (map variables (w .1))) d
+  where
+    by : (k : ℕ) → deficiency-of s ≡ measured k → 1 ≤ deficiency-of s .deficiency
+    by zero d = let z = walkable-numberless s [] b (unmatched-long s [] b e) (pairable-walkable s [] (none-pairable s .0 d)) in absurd (omega arith)
+    by (suc k) d = rw d (omega arith)
