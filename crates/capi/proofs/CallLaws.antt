@@ -11,6 +11,7 @@ use Rattle.assumptions.specs.Bytes.{of-bytes}
 use Rattle.dimacs.specs.Convert.{ConvertedValues, Conversion}
 use Rattle.matched.specs.Judge as judging
 use Rattle.matched.specs.Judge.{judge}
+use Rattle.matched.specs.Deficiency.{MeasuredValues, deficiency-of}
 use Rattle.matched.specs.Weigh.{WeighedValues, weighed}
 use Rattle.walk.specs.Checkpoints.{Checkpoint, start}
 use Rattle.walk.specs.WalkCall.{walk-call}
@@ -21,7 +22,7 @@ use Rattle.enumeration.specs.Values.{checkpoint-values, walked-values, listed-v
 use Rattle.enumeration.specs.Lists.{Delivered, next-models}
 use Rattle.page.specs.declared.Paged.{Paged}
 use Rattle.page.specs.Pages.{page-values, page-told, page-call}
-use Rattle.capi.specs.Interface.{results-size, checkpoint-size, assumption-size, check-results, judge-results, weigh-results, conversion-results, walk-results, list-results, page-results, checkpoint-bytes, checkpoint-in, results-sized, checkpoint-sized, assumptions-sized, check-called, judge-called, weigh-called, conversion-called, start-called, walk-told, walk-called, list-told, list-called, page-shown, page-called}
+use Rattle.capi.specs.Interface.{results-size, checkpoint-size, assumption-size, check-results, judge-results, weigh-results, deficiency-results, conversion-results, walk-results, list-results, page-results, checkpoint-bytes, checkpoint-in, results-sized, checkpoint-sized, assumptions-sized, check-called, judge-called, weigh-called, deficiency-called, conversion-called, start-called, walk-told, walk-called, list-told, list-called, page-shown, page-called}
 use Rattle.capi.proofs.ResultsLaws.{beside}
 
 module _ (s results : List ℕ) (a : ℕ) where
@@ -35,6 +36,18 @@ module _ (s results : List ℕ) (a : ℕ) where
       r ≡ checked s a → after ≡ check-results r → check-called s a results ≡ (0, after)
   unfolding check-called
   check-written r after h e f = rw (eq-eqb _ _ h, f, e)
+
+module _ (s results : List ℕ) where
+  pub deficiency-unwritten : (length results ≡ results-size → ⊥) → deficiency-called s results ≡ (1, results)
+  unfolding deficiency-called
+  deficiency-unwritten h = rw (ne-eqb _ _ h)
+
+  pub deficiency-written :
+      (r : MeasuredValues) (after : List ℕ) →
+      length results ≡ results-size →
+      r ≡ deficiency-of s → after ≡ deficiency-results r → deficiency-called s results ≡ (0, after)
+  unfolding deficiency-called
+  deficiency-written r after h e f = rw (eq-eqb _ _ h, f, e)
 
 module _ (c : Conversion) (buffer results : List ℕ) where
   pub conversion-unwritten :

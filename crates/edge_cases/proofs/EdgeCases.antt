@@ -1,5 +1,5 @@
 -- The cases of the tables specs/MarkedCases.antt, specs/AssumedCases.antt, specs/StrippedCases.antt, specs/ViolatorCases.antt,
--- specs/WaitCases.antt and specs/PageCases.antt, and some more, computed from the definitions.
+-- specs/WaitCases.antt, specs/DeficiencyCases.antt and specs/PageCases.antt, and some more, computed from the definitions.
 use mathlib.Core.Bool.{xor}
 use Prim.Native.Nat.{ℕ, zero, suc, _≤_, _<_}
 use mathlib.Core.List.{List, [], _∷_, _++_, map}
@@ -20,8 +20,10 @@ use Rattle.formula.specs.Masked.{variables}
 use Rattle.assumptions.specs.declared.Assumption.{Assumption}
 use Rattle.assumptions.specs.Assumed.{is-bad, assumed-from, assumed}
 use Rattle.matching.specs.Sets.{union, selected}
+use Rattle.matching.specs.Deficiency.{sub-lists, largest, most, deficiency, largest-excess}
 use Rattle.matching.specs.Search.{owner, no-links, begin, see, scan, take-front, expand, search-from, rematch-from, match-rest, outcome, marks}
 use Rattle.matched.specs.Acceptance.{accepted, dropped-by, row-byte, spread, acceptance}
+use Rattle.matched.specs.Deficiency.{deficiency-of}
 use Rattle.matched.specs.Judge.{judge}
 use Rattle.matched.proofs.WeighLaws.{weigh-short, weigh-refused, weigh-bad, weigh-over}
 use Rattle.splitting.specs.Nodes.{less, assign, remaining, satisfied-by, occurs, named, first-from, upward-from}
@@ -47,6 +49,7 @@ use Rattle.printing.specs.Printed.{refused-word, walk-lines, printed}
 use Rattle.edge_cases.specs.MarkedCases.{on, off, line, model-at, end-at, walked-under, walked, example, nothing-named, MarkedCases}
 use Rattle.edge_cases.specs.AssumedCases.{assume-on, assume-off, AssumedCases}
 use Rattle.edge_cases.specs.StrippedCases.{StrippedCases}
+use Rattle.edge_cases.specs.DeficiencyCases.{DeficiencyCases}
 use Rattle.edge_cases.specs.ViolatorCases.{ViolatorCases}
 use Rattle.edge_cases.specs.WaitCases.{gaps-under, WaitCases}
 use Rattle.edge_cases.specs.PageCases.{line-of-these, PageCases}
@@ -81,6 +84,10 @@ judging = tt
 weighing : Unit {0}
 unfolding reading assuming variables selected union bit members
 weighing = tt
+
+measuring : Unit {0}
+unfolding reading searching union deficiency-of deficiency most largest-excess sub-lists largest
+measuring = tt
 
 choosing : Unit {0}
 unfolding searching stripping choice remaining assign less named upward-from matching-of trial first-passing candidates among listed last emptied last-listed
@@ -202,6 +209,22 @@ violator-cases = record {
   short-first = weigh-short _ _;
   reading-second = λ b l. weigh-refused _ _ b l _ refl;
   assumption-third = λ b l. weigh-bad _ _ b l _ _ refl _ refl;
+}
+
+-- ---- deficiencies
+
+pub deficiency-cases : DeficiencyCases
+unfolding measuring
+deficiency-cases = record {
+  no-clause = refl;
+  matched = refl;
+  one-empty = refl;
+  two-empty = refl;
+  before-stripping = refl;
+  more-than-marked = refl;
+  three-over = refl;
+  three-excess = refl;
+  no-bytes = refl;
 }
 
 -- ---- waits

@@ -1,4 +1,5 @@
 pub mod AssumedCases
+pub mod DeficiencyCases
 pub mod MarkedCases
 pub mod PageCases
 pub mod StrippedCases
