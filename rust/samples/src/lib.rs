@@ -16,8 +16,11 @@ pub use assumptions::some_assumptions;
 pub use calls::{
     some_assignment, some_budget, some_checkpoint, some_length, some_marks, some_serial,
 };
-pub use formulas::{encode, longest_path, stairs, stripped, Clauses, Stripping};
-pub use inputs::{some_accepted_formula, some_input};
+pub use formulas::{
+    crowds, each_added, each_struck, encode, encoded_clauses, longest_path, stairs, stripped,
+    Clauses, Stripping,
+};
+pub use inputs::{some_accepted_formula, some_crowded_input, some_input};
 pub use random::Random;
 pub use texts::some_text;
 pub use waits::{shared, trail_in, Stop, Wait, Waits};
