@@ -100,7 +100,7 @@ fn an_ignored_result_brings_a_warning() {
         let text = String::from_utf8_lossy(&output.stderr);
         assert!(output.status.success(), "{compiler} {options:?}: {text}");
         let warnings = text.matches("warning: ignoring return value").count();
-        assert_eq!(warnings, 9, "{compiler} {options:?}: {text}");
+        assert_eq!(warnings, 10, "{compiler} {options:?}: {text}");
     }
 }
 
