@@ -18,47 +18,6 @@ pub fn encode(variables: usize, clauses: &[Vec<i8>]) -> Vec<u8> {
     bytes
 }
 
-/// The clauses of a readable formula as they are encoded, each with the record that ends it.
-pub fn encoded_clauses(input: &[u8]) -> Vec<&[u8]> {
-    let mut clauses = Vec::new();
-    let (mut start, mut at) = (2, 2);
-    while input[at] != 5 {
-        if input[at] == 4 {
-            clauses.push(&input[start..=at]);
-            start = at + 1;
-        }
-        at += if input[at] == 4 { 1 } else { 2 };
-    }
-    clauses
-}
-
-/// The readable formula with these clauses in place of its own.
-fn with_clauses(input: &[u8], clauses: &[&[u8]]) -> Vec<u8> {
-    [&input[..2], &clauses.concat(), &[5]].concat()
-}
-
-/// The readable formula without one of its clauses, by clause.
-pub fn each_struck(input: &[u8]) -> Vec<Vec<u8>> {
-    let clauses = encoded_clauses(input);
-    let struck = |i| {
-        let mut others = clauses.clone();
-        others.remove(i);
-        with_clauses(input, &others)
-    };
-    (0..clauses.len()).map(struck).collect()
-}
-
-/// The readable formula with an encoded clause more, by the place that it has among the others.
-pub fn each_added(input: &[u8], clause: &[u8]) -> Vec<Vec<u8>> {
-    let clauses = encoded_clauses(input);
-    let added = |i| {
-        let mut more = clauses.clone();
-        more.insert(i, clause);
-        with_clauses(input, &more)
-    };
-    (0..=clauses.len()).map(added).collect()
-}
-
 /// Stairs: clauses (1, .., i - 1, not i) for the steps, and for each pair of variables at the top one clause of the pair and all
 /// steps, and one of all their negations. Most trials fail.
 pub fn stairs(variables: usize, pairs: usize) -> Clauses {
@@ -197,31 +156,6 @@ mod tests {
     fn a_formula_is_encoded() {
         let clauses = [vec![1, 2], vec![-1, -2]];
         assert_eq!(encode(2, &clauses), [1, 2, 2, 1, 2, 2, 4, 3, 1, 3, 2, 4, 5]);
-    }
-
-    #[test]
-    fn clauses_are_struck_and_added() {
-        let input = encode(5, &[vec![4, -5], vec![], vec![-4]]);
-        let clauses: [&[u8]; 3] = [&[2, 4, 3, 5, 4], &[4], &[3, 4, 4]];
-        assert_eq!(encoded_clauses(&input), clauses);
-        assert_eq!(
-            each_struck(&input),
-            [
-                encode(5, &[vec![], vec![-4]]),
-                encode(5, &[vec![4, -5], vec![-4]]),
-                encode(5, &[vec![4, -5], vec![]]),
-            ]
-        );
-        assert_eq!(
-            each_added(&encode(5, &[vec![4]]), &[3, 5, 4]),
-            [
-                encode(5, &[vec![-5], vec![4]]),
-                encode(5, &[vec![4], vec![-5]]),
-            ]
-        );
-        let none = encode(5, &[]);
-        assert!(each_struck(&none).is_empty());
-        assert_eq!(each_added(&none, &[4]), [[1, 5, 4, 5]]);
     }
 
     #[test]
