@@ -52,13 +52,13 @@
  *
  * THE RESULTS are NORWYTHAI_RESULTS numbers:
  *
- *              check  judge        weigh            walk             list                         page          from_dimacs, to_dimacs
+ *              check  judge        weigh            deficiency  walk         list                   page          from_dimacs, to_dimacs
  *   results[0] the answer, 0 to 3 as below
- *   results[1] 0      0            0                the model, or 0  the last call's model, or 0  0             0
+ *   results[1] 0      0            0                0           model, or 0  the last call's, or 0  0             0
  *   results[2] the refusal's number, or 0 if the answer is no refusal
  *   results[3] the refusal's place, or 0 if the answer is no refusal
- *   results[4] 0      variables n  marked clauses   steps made       models written               lines filled  bytes written
- *   results[5] 0      clauses m    their variables  expansions made  0                            0             0
+ *   results[4] 0      variables n  marked clauses   deficiency  steps made   models written         lines filled  bytes written
+ *   results[5] 0      clauses m    their variables  0           expansions   0                      0             0
  *
  *   answer  check               judge               walk                                 list
  *   0       NORWYTHAI_YES       NORWYTHAI_ACCEPTED  NORWYTHAI_MODEL                      NORWYTHAI_MODEL: `models` is full
@@ -66,9 +66,9 @@
  *   2       -                   -                   NORWYTHAI_ENDED: no model is left    NORWYTHAI_ENDED: no model is left
  *   3       NORWYTHAI_REFUSED   NORWYTHAI_REFUSED   NORWYTHAI_REFUSED                    NORWYTHAI_REFUSED
  *
- * weigh answers 0, NORWYTHAI_COUNTED, or 3, NORWYTHAI_REFUSED. page answers 0, NORWYTHAI_FULL, if all lines are filled; 2,
- * NORWYTHAI_ENDED, if fewer are, since no model is left; or 3, NORWYTHAI_REFUSED. from_dimacs and to_dimacs answer 0, NORWYTHAI_WRITTEN,
- * or 3, NORWYTHAI_REFUSED.
+ * weigh answers 0, NORWYTHAI_COUNTED, or 3, NORWYTHAI_REFUSED; deficiency 0, NORWYTHAI_MEASURED, or 3, NORWYTHAI_REFUSED. page answers
+ * 0, NORWYTHAI_FULL, if all lines are filled; 2, NORWYTHAI_ENDED, if fewer are, since no model is left; or 3, NORWYTHAI_REFUSED.
+ * from_dimacs and to_dimacs answer 0, NORWYTHAI_WRITTEN, or 3, NORWYTHAI_REFUSED.
  *
  * REFUSALS. Places are offsets into the input or the text, counted from 0, except at 10 and 16. In a text the place at 5 to 8 is the
  * word's first byte.
@@ -101,8 +101,9 @@
  *   18      bad serial       the first serial is 0 or above 999,950              0
  *
  * They are tested in the order 1, 17, 18, then record by record 2 to 8, then 9, 16, 10, 11, 12. check gives 2 to 9 and 12 only; judge 1
- * to 10 and 16; weigh 1 to 9 and 16; walk and list 2 to 11 and 16; page these and 17 and 18; to_dimacs 1 to 9. from_dimacs tests 1, 13, 5,
- * then word by word 14, 6, 7, 8, and at the end 2 and 15. On a refusal results[1], results[4] and results[5] are 0.
+ * to 10 and 16; weigh 1 to 9 and 16; deficiency 2 to 9; walk and list 2 to 11 and 16; page these and 17 and 18; to_dimacs 1 to 9.
+ * from_dimacs tests 1, 13, 5, then word by word 14, 6, 7, 8, and at the end 2 and 15. On a refusal results[1], results[4] and results[5]
+ * are 0.
  *
  * A CHECKPOINT is NORWYTHAI_CHECKPOINT bytes that say where a walk stands: mode, length, 48 bytes of trail. norwythai_start gives the
  * first, norwythai_walk, norwythai_list and norwythai_page each the next, which any of them takes. It can be kept, copied and sent
@@ -164,6 +165,9 @@
 
 /* The other answer of weigh. */
 #define NORWYTHAI_COUNTED 0
+
+/* The other answer of deficiency. */
+#define NORWYTHAI_MEASURED 0
 
 /* The other answer of page. */
 #define NORWYTHAI_FULL 0
@@ -227,6 +231,20 @@ uint32_t norwythai_judge(const uint8_t *input, size_t input_length, const uint8_
 NORWYTHAI_NODISCARD
 uint32_t norwythai_weigh(const uint8_t *input, size_t input_length, const uint8_t *assumptions, size_t assumptions_length,
                          const uint8_t *buffer, size_t buffer_length, uint64_t *results, size_t results_length);
+
+/*
+ * How far the formula, which need not be accepted, is from being matched: results[4] is its deficiency (trade's word: shortfall), the
+ * number of its clauses less the most of them that can be matched together.
+ * Reads the input; writes the results. Only an input that can't be read is refused, by 2 to 9.
+ * The deficiency is the largest excess of clauses over the variables that they name in any set of clauses, the empty set included. Within
+ * the 96 clauses one more, at any place, leaves it or raises it by one, and one fewer leaves it or lowers it by one. No fewer clauses than
+ * it says have to be struck until the others are matched.
+ * It takes no assumptions, and nothing is stripped before. It is 0 exactly if the formula is matched as a whole, and so accepted without
+ * assumptions. A formula that judge accepts since it strips down has a deficiency above 0.
+ * With `input_length` 0, `input` is the address of any byte and not null.
+ */
+NORWYTHAI_NODISCARD
+uint32_t norwythai_deficiency(const uint8_t *input, size_t input_length, uint64_t *results, size_t results_length);
 
 /*
  * The checkpoint at which every walk starts. Writes the checkpoint: 50 zeros.

@@ -2,6 +2,7 @@
 
 #![deny(unsafe_code)]
 
+pub mod deficiencies;
 pub mod families;
 pub mod growth;
 pub mod listers;

@@ -54,6 +54,9 @@ pub trait Lister {
         buffer: &[u8; 96],
     ) -> Result<(usize, usize), Refused>;
 
+    /// The clauses, less the most that can be matched together.
+    fn deficiency(&self, input: &[u8]) -> Result<usize, Refused>;
+
     /// Goes on from the checkpoint, which becomes the next one. The budget brings a model or the end.
     fn walk(
         &self,
@@ -129,6 +132,10 @@ impl Lister for Proved {
             Ok(weight) => Ok((weight.clauses, weight.variables)),
             Err(refusal) => Err(refused(refusal)),
         }
+    }
+
+    fn deficiency(&self, input: &[u8]) -> Result<usize, Refused> {
+        norwythai::deficiency(input).map_err(refused)
     }
 
     fn walk(
@@ -220,6 +227,10 @@ macro_rules! rust_lister {
                     Ok(weight) => Ok((weight.clauses, weight.variables)),
                     Err(refusal) => Err((refusal.number, refusal.place)),
                 }
+            }
+
+            fn deficiency(&self, input: &[u8]) -> Result<usize, Refused> {
+                $module::deficiency(input).map_err(|r| (r.number, r.place))
             }
 
             fn walk(

@@ -1,5 +1,6 @@
 //! The times of the acts, and the table of ratios.
 
+use crate::deficiencies::deficiency_rows;
 use crate::families::{fullest_input, longest_text_input, Case, Family, FAMILIES};
 use crate::listers::{Bytes, Lister, Plain, Proved, Refused, Tuned};
 use crate::pages::{page_rows, page_times};
@@ -389,6 +390,7 @@ fn all_rows() -> Vec<Row> {
     let mut rows: Vec<Row> = FAMILIES.iter().flat_map(family_rows).collect();
     rows.extend(FAMILIES.iter().flat_map(assumed_rows));
     rows.extend(weigh_rows());
+    rows.extend(deficiency_rows());
     rows.push(Row {
         family: "fullest input".to_string(),
         act: "check".to_string(),
@@ -478,7 +480,7 @@ pub fn print_comparison() {
     table.extend(rows.iter().map(Row::cells));
     print_table(&table);
     println!();
-    println!("- all three have listed the same models and given the same pages, walk calls and matchings; the proved one and the plain one have checked, weighed and converted alike");
+    println!("- all three have listed the same models and given the same pages, walk calls, matchings and deficiencies; the proved one and the plain one have checked, weighed and converted alike");
     println!("- best of {ROUNDS} rounds after a warm-up, {FEWEST_ROUNDS} for the longest acts; a time is the geometric mean over a family's formulas");
     println!("- buffers were not cleared between calls; waits for a core are taken off");
     print_verdict(&rows);

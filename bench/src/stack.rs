@@ -9,8 +9,8 @@ use crate::listers::{Assumptions, Bytes, Lister, Proved};
 use crate::measure::{deep_checkpoint, BUDGET, START};
 use crate::table::{count_text, print_table, row};
 use norwythai::raw::{
-    norwythai_check, norwythai_from_dimacs, norwythai_judge, norwythai_list, norwythai_page,
-    norwythai_start, norwythai_to_dimacs, norwythai_walk, norwythai_weigh,
+    norwythai_check, norwythai_deficiency, norwythai_from_dimacs, norwythai_judge, norwythai_list,
+    norwythai_page, norwythai_start, norwythai_to_dimacs, norwythai_walk, norwythai_weigh,
 };
 use norwythai::{to_dimacs, FORMULA_BUFFER, PAGE_SIZE, TEXT_BUFFER};
 use norwythai_samples::{encode, longest_path};
@@ -157,6 +157,18 @@ fn weigh_stack(input: &[u8], assumptions: &[u8]) -> usize {
                 6,
             )
         };
+        assert_eq!(returned, 0);
+        top
+    })
+}
+
+fn deficiency_stack(input: &[u8]) -> usize {
+    let mut results = [0; 6];
+    stack_of(&mut || {
+        let top = stack_pointer();
+        // SAFETY: the pointers are good for the lengths, and the arrays do not overlap.
+        let returned =
+            unsafe { norwythai_deficiency(input.as_ptr(), input.len(), results.as_mut_ptr(), 6) };
         assert_eq!(returned, 0);
         top
     })
@@ -398,6 +410,7 @@ fn print_functions() {
         ("norwythai_check", with_fullest(check_stack)),
         ("norwythai_judge", judge.max(judge_stack(&fullest, &[]))),
         ("norwythai_weigh", weigh.max(weigh_stack(&fullest, &[]))),
+        ("norwythai_deficiency", with_fullest(deficiency_stack)),
         ("norwythai_start", start_stack()),
         ("norwythai_walk", largest(&walk_stack)),
         ("norwythai_list", largest(&list_stack)),

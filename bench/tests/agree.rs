@@ -1,10 +1,10 @@
-//! The tuned baseline and the plain reference agree: on lists, on pages, on walks with their counts, and on judge.
+//! The tuned baseline and the plain reference agree: on lists, on pages, on walks with their counts, on judge, and on deficiency.
 
 use norwythai_bench::families::{fullest_input, unmatched, unmatched_half_assumed, Case, FAMILIES};
 use norwythai_bench::listers::{Assumptions, Bytes, Lister, Plain, Refused, Tuned};
 use norwythai_bench::measure::{BUDGET, START};
 use norwythai_reference::{PAGE_LINES, PAGE_SIZE};
-use norwythai_samples::{encode, stripped, Random, Stripping};
+use norwythai_samples::{encode, some_crowded_input, stripped, Random, Stripping};
 
 /// Models of a list, pages in a row, and walk calls from the start and from the list's end.
 const MODELS: usize = 3_000;
@@ -78,6 +78,13 @@ fn same_judge(
     let judged = judge(&Plain);
     assert_eq!(judge(&Tuned), judged, "{input:02x?}");
     judged
+}
+
+/// The deficiency, which both give.
+fn same_deficiency(input: &[u8]) -> Result<usize, Refused> {
+    let found = Plain.deficiency(input);
+    assert_eq!(Tuned.deficiency(input), found, "{input:02x?}");
+    found
 }
 
 fn same_acts(case: &Case) {
@@ -154,6 +161,30 @@ fn on_a_bad_assumption() {
 fn on_the_fullest_input() {
     let judged = same_judge(&fullest_input(), &Assumptions::default());
     assert_eq!(judged, (Ok((48, 96)), [129; 96]));
+    assert_eq!(same_deficiency(&fullest_input()), Ok(48));
+}
+
+#[test]
+fn on_deficiencies() {
+    for case in FAMILIES.iter().flat_map(|family| family.cases()) {
+        let found = same_deficiency(&case.input).expect("a formula");
+        // The families of 96 clauses strip down; all others are matched.
+        assert_eq!(found > 0, case.clauses > 48, "{}", case.name);
+    }
+    for case in unmatched().1 {
+        assert!(same_deficiency(&case.input) >= Ok(48), "{}", case.name);
+    }
+    let mut random = Random::new(2);
+    let (mut matched, mut above, mut refused) = (0, 0, 0);
+    for _ in 0..3_000 {
+        match same_deficiency(&some_crowded_input(&mut random)) {
+            Ok(0) => matched += 1,
+            Ok(_) => above += 1,
+            Err(_) => refused += 1,
+        }
+    }
+    println!("{matched} matched, {above} above 0, {refused} refused");
+    assert!(matched > 200 && above > 1_000 && refused > 100);
 }
 
 #[test]

@@ -1,4 +1,5 @@
-/* unmatched FILE: says which clauses of the formula in FILE, encoded, can't be matched, and how many variables they name.
+/* unmatched FILE: says which clauses of the formula in FILE, encoded, can't be matched, and how many variables they name; and how
+ * far the formula as a whole is from being matched.
  *
  * In this folder, once `rt staticlib capi` has built the library:
  *
@@ -12,7 +13,7 @@
 #include "../../include/norwythai.h"
 
 /* What stands where in the results. */
-enum { ANSWER = 0, NUMBER = 2, PLACE = 3, CLAUSES = 4, VARIABLES = 5 };
+enum { ANSWER = 0, NUMBER = 2, PLACE = 3, CLAUSES = 4, DEFICIENCY = 4, VARIABLES = 5 };
 
 /* The refusal whose clauses are marked. */
 enum { UNMATCHED = 10 };
@@ -36,7 +37,21 @@ static int printed(void) {
     return fflush(stdout) == 0 && !ferror(stdout) ? EXIT_SUCCESS : fail("the output can't be written");
 }
 
-/* Prints the marked clauses, counted from 1, and how much they weigh, and gives the program's status. */
+/* Prints the deficiency of the formula, accepted or not, and gives the program's status. */
+static int print_deficiency(const uint8_t *input, size_t length) {
+    uint64_t results[NORWYTHAI_RESULTS];
+
+    if (norwythai_deficiency(input, length, results, NORWYTHAI_RESULTS) != 0) {
+        return fail("an array has the wrong length");
+    }
+    if (results[ANSWER] != NORWYTHAI_MEASURED) {
+        return refused(results);
+    }
+    printf("deficiency %llu\n", (unsigned long long)results[DEFICIENCY]);
+    return printed();
+}
+
+/* Prints the marked clauses, counted from 1, and how much they weigh, then the deficiency, and gives the program's status. */
 static int print_marked(const uint8_t *input, size_t length, const uint8_t *buffer) {
     uint64_t results[NORWYTHAI_RESULTS];
 
@@ -53,7 +68,7 @@ static int print_marked(const uint8_t *input, size_t length, const uint8_t *buff
     }
     printf("%llu %s %llu %s\n", (unsigned long long)results[CLAUSES], results[CLAUSES] == 1 ? "clause names" : "clauses name",
            (unsigned long long)results[VARIABLES], results[VARIABLES] == 1 ? "variable" : "variables");
-    return printed();
+    return print_deficiency(input, length);
 }
 
 /* Judges the formula, and gives the program's status. */
@@ -67,7 +82,7 @@ static int print_judgement(const uint8_t *input, size_t length) {
     }
     if (results[ANSWER] == NORWYTHAI_ACCEPTED) {
         puts("accepted");
-        return printed();
+        return print_deficiency(input, length);
     }
     if (results[NUMBER] != UNMATCHED) {
         return refused(results);

@@ -18,5 +18,5 @@ mod matching;
 mod node;
 mod walking;
 
-pub use matching::judge;
+pub use matching::{deficiency, judge};
 pub use walking::{list, page, walk};

@@ -1,8 +1,8 @@
-//! Matching clauses with variables (S5; request: pairing), and the act judge.
+//! Matching clauses with variables (S5; request: pairing), and the acts judge and deficiency.
 
 use norwythai_reference::bits::{bit, lowest, numbers};
 use norwythai_reference::{
-    judge_with, Assumption, Matcher, Refusal, Size, MAX_CLAUSES, MAX_VARIABLES,
+    decode, judge_with, Assumption, Matcher, Refusal, Size, MAX_CLAUSES, MAX_VARIABLES,
 };
 
 /// A matching that grows clause by clause. What its arrays hold means something only for matched clauses and variables, so
@@ -127,4 +127,17 @@ impl Matcher for Matching {
 /// The act judge.
 pub fn judge(input: &[u8], assumptions: &[Assumption], buffer: &mut [u8]) -> Result<Size, Refusal> {
     judge_with(input, assumptions, buffer, &mut Matching::new())
+}
+
+/// The act deficiency (S22.1): clause after clause is added, and those that can't be are counted. Any other order leaves as many.
+pub fn deficiency(input: &[u8]) -> Result<usize, Refusal> {
+    let formula = decode(input)?;
+    let mut named = [0; MAX_CLAUSES];
+    let mut matching = Matching::new();
+    let mut left = 0;
+    for (i, clause) in formula.clauses().iter().enumerate() {
+        named[i] = clause.named();
+        left += usize::from(!matching.add(&named, !0, i));
+    }
+    Ok(left)
 }

@@ -207,6 +207,53 @@ pub fn weigh(input: &[u8], assumptions: &[Assumption], buffer: &[u8]) -> Result<
     }
 }
 
+/// How far a formula is from being matched, its deficiency (clubs: shortfall): the number of its clauses, less the most of them that can be
+/// matched together, each with a variable that it names and none used twice. No fewer clauses have to be struck until the others are
+/// matched. It is also the largest excess of clauses over the variables that they name, in any set of clauses, the empty one included.
+///
+/// It is that of the formula as it is read: there are no assumptions, and nothing is stripped before. So it is 0 exactly if the formula is
+/// matched as a whole, and above 0 the formula may be accepted, too, where it strips down to a matched one. Only a formula that can't be
+/// read is refused, as [`check`] refuses it.
+///
+/// ```
+/// use norwythai::{deficiency, judge, Refusal};
+///
+/// let matched = [1, 2, 2, 1, 2, 2, 4, 2, 1, 4, 5]; // (1, 2) and (1)
+/// assert_eq!(deficiency(&matched), Ok(0));
+///
+/// // (2) (2) (1) (not 1): one of the first two can be matched together with one of the others.
+/// let unmatched = [1, 3, 2, 2, 4, 2, 2, 4, 2, 1, 4, 3, 1, 4, 5];
+/// assert_eq!(deficiency(&unmatched), Ok(2));
+///
+/// // (1) and (1): stripping drops both, so that the formula is accepted, but only one of them can be matched.
+/// let stripped = [1, 1, 2, 1, 4, 2, 1, 4, 5];
+/// assert!(judge(&stripped, &[]).is_ok());
+/// assert_eq!(deficiency(&stripped), Ok(1));
+///
+/// assert_eq!(deficiency(&[1, 2, 4]), Err(Refusal::Truncated { place: 3 }));
+/// ```
+///
+/// A clause more, wherever it stands, raises the deficiency by one or leaves it; a clause fewer lowers it by one or leaves it:
+///
+/// ```
+/// use norwythai::{deficiency, FormulaBuilder, Literal};
+///
+/// # fn main() -> Result<(), Box<dyn std::error::Error>> {
+/// let (first, second) = (Literal::positive(1), Literal::negative(2));
+/// let mut builder = FormulaBuilder::new(2)?;
+/// let mut deficiencies = Vec::new();
+/// for clause in [&[first][..], &[first, second], &[second], &[], &[first]] {
+///     let formula = builder.clause(clause)?.build();
+///     deficiencies.push(deficiency(formula.as_bytes())?);
+/// }
+/// assert_eq!(deficiencies, [0, 0, 1, 2, 3]);
+/// # Ok(())
+/// # }
+/// ```
+pub fn deficiency(input: &[u8]) -> Result<usize, Refusal> {
+    only_count(ffi::deficiency(input))
+}
+
 /// What stopped a walk.
 #[derive(Clone, Copy, Debug, PartialEq, Eq)]
 pub enum Answer {
@@ -445,7 +492,7 @@ pub fn from_dimacs(text: &[u8]) -> Result<Vec<u8>, Refusal> {
 /// [`from_dimacs`] into the front of a lent buffer of at least [`FORMULA_BUFFER`] bytes: how many it wrote. The others stay as they
 /// are, and at a refusal all do.
 pub fn from_dimacs_into(text: &[u8], buffer: &mut [u8]) -> Result<usize, Refusal> {
-    written(ffi::from_dimacs(text, buffer))
+    only_count(ffi::from_dimacs(text, buffer))
 }
 
 /// Writes an encoded formula, also one that is not accepted, as DIMACS CNF text: the p line and a line for each clause, with each
@@ -468,7 +515,7 @@ pub fn to_dimacs(input: &[u8]) -> Result<String, Refusal> {
 /// [`to_dimacs`] into the front of a lent buffer of at least [`TEXT_BUFFER`] bytes: how many it wrote. The others stay as they are,
 /// and at a refusal all do.
 pub fn to_dimacs_into(input: &[u8], buffer: &mut [u8]) -> Result<usize, Refusal> {
-    written(ffi::to_dimacs(input, buffer))
+    only_count(ffi::to_dimacs(input, buffer))
 }
 
 /// Where things stand in the results.
@@ -502,8 +549,8 @@ fn answer(results: Results) -> Option<Answer> {
     }
 }
 
-/// How many bytes were written.
-fn written(results: Results) -> Result<usize, Refusal> {
+/// The count of an act that gives nothing else, if it is not refused.
+fn only_count(results: Results) -> Result<usize, Refusal> {
     match accept(results)?[ANSWER] {
         0 => Ok(index(results, FIRST_COUNT)),
         _ => broken(results),

@@ -6,8 +6,8 @@
 use crate::assumption::Assumption;
 use crate::limits::CHECKPOINT_LENGTH;
 use crate::raw::{
-    norwythai_check, norwythai_from_dimacs, norwythai_judge, norwythai_list, norwythai_page,
-    norwythai_start, norwythai_to_dimacs, norwythai_walk, norwythai_weigh,
+    norwythai_check, norwythai_deficiency, norwythai_from_dimacs, norwythai_judge, norwythai_list,
+    norwythai_page, norwythai_start, norwythai_to_dimacs, norwythai_walk, norwythai_weigh,
 };
 
 /// What every act but start writes, by its index: the answer, a model, a refusal's number and place, and two counts.
@@ -109,6 +109,21 @@ pub(crate) fn weigh(input: &[u8], assumptions: &[Assumption], buffer: &[u8]) -> 
             assumptions_length,
             buffer.as_ptr(),
             buffer.len(),
+            results.as_mut_ptr(),
+            results.len(),
+        )
+    };
+    require(returned);
+    results
+}
+
+pub(crate) fn deficiency(input: &[u8]) -> Results {
+    let mut results = [0; RESULTS_LENGTH];
+    // SAFETY: `input` may be read and `results` written for the lengths given, and they do not overlap.
+    let returned = unsafe {
+        norwythai_deficiency(
+            input.as_ptr(),
+            input.len(),
             results.as_mut_ptr(),
             results.len(),
         )

@@ -1,8 +1,8 @@
 //! Encoded formulas.
 
 use crate::acts::{
-    check, from_dimacs, judge, list, page, to_dimacs, walk, weigh, Listed, Matching, Paged, Walked,
-    Weight,
+    check, deficiency, from_dimacs, judge, list, page, to_dimacs, walk, weigh, Listed, Matching,
+    Paged, Walked, Weight,
 };
 use crate::assignment::Assignment;
 use crate::assumption::Assumption;
@@ -66,6 +66,11 @@ impl Formula<'_> {
     /// See [`weigh`].
     pub fn weigh(&self, assumptions: &[Assumption], buffer: &[u8]) -> Result<Weight, Refusal> {
         weigh(&self.0, assumptions, buffer)
+    }
+
+    /// See [`deficiency`].
+    pub fn deficiency(&self) -> Result<usize, Refusal> {
+        deficiency(&self.0)
     }
 
     /// See [`walk`].

@@ -14,10 +14,10 @@
 //!
 //! Where a formula is not accepted, judge says which clauses stand in the way. Such a [`Violator`] names exactly one variable fewer than it
 //! has clauses, assumed ones not counted, and without any single one of these the others can be matched. [`weigh`] counts any marked
-//! clauses and the variables that they name.
+//! clauses and the variables that they name. [`deficiency`] says by how many clauses any formula is too full to be matched as a whole.
 //!
 //! Clubs call these things sheets (formulas), rules (clauses), switches (variables), set-ups (assignments), fixed settings
-//! (assumptions) and markers (checkpoints); the sentences of refusals do, too.
+//! (assumptions), markers (checkpoints) and shortfall (deficiency); the sentences of refusals do, too.
 //!
 //! Variables are given by their numbers, which count from 1 as in the encoded formula.
 //!
@@ -67,8 +67,8 @@ mod refusal;
 mod violator;
 
 pub use acts::{
-    check, from_dimacs, from_dimacs_into, judge, judge_into, list, page, to_dimacs, to_dimacs_into,
-    walk, weigh, Answer, Listed, Matching, Paged, Size, Walked, Weight,
+    check, deficiency, from_dimacs, from_dimacs_into, judge, judge_into, list, page, to_dimacs,
+    to_dimacs_into, walk, weigh, Answer, Listed, Matching, Paged, Size, Walked, Weight,
 };
 pub use assignment::{Assignment, Digits};
 pub use assumption::Assumption;

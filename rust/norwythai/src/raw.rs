@@ -2,9 +2,9 @@
 //!
 //! Each returns 0 if it has written its results (start: the checkpoint), and 1 if the results are not 6 numbers, the checkpoint is
 //! not 50 bytes or the assumptions are an odd number of bytes: then no byte of any buffer has changed. A refusal is an answer: the
-//! function returns 0. The results are the answer (0 model, yes, accepted, counted, full or written; 1 spent or no; 2 ended; 3 refused),
-//! a model, the refusal's number and place, and two counts; include/norwythai.h has them all. Assumptions are two bytes each: the
-//! variable, and 0 for false or any other byte for true.
+//! function returns 0. The results are the answer (0 model, yes, accepted, counted, measured, full or written; 1 spent or no; 2 ended; 3
+//! refused), a model, the refusal's number and place, and two counts; include/norwythai.h has them all. Assumptions are two bytes each:
+//! the variable, and 0 for false or any other byte for true.
 //!
 //! # Safety
 //!
@@ -50,6 +50,15 @@ extern "C" {
         assumptions_length: usize,
         buffer: *const u8,
         buffer_length: usize,
+        results: *mut u64,
+        results_length: usize,
+    ) -> u32;
+
+    /// [`deficiency`](crate::deficiency): reads the input; writes the results.
+    #[must_use = "1 says that nothing was written"]
+    pub fn norwythai_deficiency(
+        input: *const u8,
+        input_length: usize,
         results: *mut u64,
         results_length: usize,
     ) -> u32;

@@ -123,6 +123,31 @@ pub fn stripped(random: &mut Random, variables: usize, stripping: Stripping) -> 
     random.shuffled(clauses)
 }
 
+/// So many clauses in crowds, in random order. The clauses of a crowd name a few variables together, or none, and often are more than
+/// these; equal ones are among them, and some name any other variables, too.
+pub fn crowds(random: &mut Random, variables: usize, count: usize) -> Clauses {
+    let all = random.some_of(variables, variables);
+    let mut clauses: Clauses = Vec::new();
+    while clauses.len() < count {
+        let size = random.below(variables.min(6) + 1);
+        let named = random.some_of(size, variables);
+        for _ in 0..random.between(1, size + 3).min(count - clauses.len()) {
+            let clause = match (named.is_empty(), random.below(8)) {
+                (true, _) => Vec::new(),
+                (false, 0) => clauses.last().cloned().unwrap_or_default(),
+                (false, chance) => {
+                    let variable = random.pick(&named);
+                    let own = random.signed(variable);
+                    let others = if chance == 1 { &all } else { &named };
+                    clause_from(random, own, others)
+                }
+            };
+            clauses.push(clause);
+        }
+    }
+    random.shuffled(clauses)
+}
+
 #[cfg(test)]
 mod tests {
     use super::*;
@@ -131,6 +156,23 @@ mod tests {
     fn a_formula_is_encoded() {
         let clauses = [vec![1, 2], vec![-1, -2]];
         assert_eq!(encode(2, &clauses), [1, 2, 2, 1, 2, 2, 4, 3, 1, 3, 2, 4, 5]);
+    }
+
+    #[test]
+    fn crowds_have_as_many_clauses_as_wanted() {
+        let mut random = Random::new(1);
+        for count in 0..=96 {
+            let variables = random.between(1, 48);
+            let clauses = crowds(&mut random, variables, count);
+            assert_eq!(clauses.len(), count);
+            for clause in clauses {
+                let mut named: Vec<i8> = clause.iter().map(|literal| literal.abs()).collect();
+                named.sort();
+                named.dedup();
+                assert_eq!(named.len(), clause.len(), "{clause:?}");
+                assert!(named.iter().all(|v| (1..=variables as i8).contains(v)));
+            }
+        }
     }
 
     #[test]

@@ -1,6 +1,6 @@
 //! Inputs: encoded formulas of many kinds, and damaged ones.
 
-use crate::formulas::{encode, longest_path, ring, stairs, stripped, Clauses, Stripping};
+use crate::formulas::{crowds, encode, longest_path, ring, stairs, stripped, Clauses, Stripping};
 use crate::random::Random;
 
 /// Small, middle and large numbers of variables.
@@ -207,9 +207,28 @@ pub(crate) fn contradictory_parts(random: &mut Random) -> (usize, Clauses) {
     (n, clauses)
 }
 
-/// A formula with some damage; it may still be a formula.
-fn damaged(random: &mut Random) -> Vec<u8> {
-    let mut input = some_formula(random);
+/// A formula in crowds, of which most are unmatched.
+fn some_crowds(random: &mut Random) -> Vec<u8> {
+    let n = some_variables(random);
+    let most = random.pick(&[12, 48, 96]);
+    let count = random.between(0, most + most / 8).min(most);
+    let mut clauses = crowds(random, n, count);
+    repeat_literals(random, &mut clauses);
+    encode(n, &clauses)
+}
+
+/// Inputs for what is asked of formulas that are not matched, too: most are formulas in crowds, and the others those with some damage.
+pub fn some_crowded_input(random: &mut Random) -> Vec<u8> {
+    let input = some_crowds(random);
+    if random.percent(15) {
+        damaged(random, input)
+    } else {
+        input
+    }
+}
+
+/// The formula with some damage; it may still be a formula.
+fn damaged(random: &mut Random, mut input: Vec<u8>) -> Vec<u8> {
     for _ in 0..random.between(1, 2) {
         let at = random.below(input.len() + 1);
         match random.below(7) {
@@ -252,7 +271,10 @@ pub fn some_input(random: &mut Random, is_accepted: fn(&[u8]) -> bool) -> Vec<u8
         0..=11 => some_accepted_formula(random, is_accepted),
         12..=14 => some_formula(random),
         15 => encode_parts(contradictory_parts(random)),
-        16 | 17 => damaged(random),
+        16 | 17 => {
+            let input = some_formula(random);
+            damaged(random, input)
+        }
         18 | 19 => encode_parts(parts_at_a_limit(random)),
         20 => {
             let variables = some_variables(random).max(3);

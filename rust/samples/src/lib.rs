@@ -1,11 +1,13 @@
 //! What the tests and the benchmark make inputs with: random numbers that are the same in every run, encoded formulas and DIMACS
-//! texts, whole and damaged, and what else calls get; and by what the waits of a list of calls are measured.
+//! texts, whole and damaged, and what else calls get; by what the waits of a list of calls are measured; and what a clause more or fewer
+//! does to the deficiency.
 
 #![forbid(unsafe_code)]
 #![deny(missing_docs)]
 
 mod assumptions;
 mod calls;
+mod edits;
 mod formulas;
 mod inputs;
 mod random;
@@ -16,8 +18,9 @@ pub use assumptions::some_assumptions;
 pub use calls::{
     some_assignment, some_budget, some_checkpoint, some_length, some_marks, some_serial,
 };
-pub use formulas::{encode, longest_path, stairs, stripped, Clauses, Stripping};
-pub use inputs::{some_accepted_formula, some_input};
+pub use edits::{each_added, each_struck, encoded_clauses, Moves};
+pub use formulas::{crowds, encode, longest_path, stairs, stripped, Clauses, Stripping};
+pub use inputs::{some_accepted_formula, some_crowded_input, some_input};
 pub use random::Random;
 pub use texts::some_text;
 pub use waits::{shared, trail_in, Stop, Wait, Waits};

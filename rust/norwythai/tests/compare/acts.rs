@@ -449,12 +449,13 @@ pub fn compare_wrong_lengths(tally: &mut Tally, random: &mut Random, input: &[u8
         let unwritten = vec![UNWRITTEN; results_length];
         let mut results = unwritten.clone();
         assert_eq!(raw::check(input, 0, &mut results), 1);
+        assert_eq!(raw::deficiency(input, &mut results), 1);
         assert_eq!(results, unwritten);
         reject_judge_and_weigh(input, &assumptions, fill, results_length);
         reject_walks(input, &assumptions, &good, results_length);
         FROM_DIMACS.compare_wrong_length(b"p cnf 2 1\n1 0\n", fill, &unwritten);
         TO_DIMACS.compare_wrong_length(input, fill, &unwritten);
-        tally.wrong_lengths += 8;
+        tally.wrong_lengths += 9;
     }
     for checkpoint_length in [0, 1, 49, 51, 100, random.below(50)] {
         let given = vec![fill & 3; checkpoint_length];

@@ -5,6 +5,7 @@
 mod acts;
 mod assumed;
 mod counts;
+mod deficiencies;
 mod pages;
 mod raw;
 mod tally;
@@ -15,6 +16,7 @@ use acts::{
     compare_start, compare_walk, compare_wrong_lengths, FROM_DIMACS, TO_DIMACS,
 };
 use assumed::Assumed;
+use deficiencies::compare_deficiencies;
 use norwythai::{Answer, Assumption, Checkpoint, Models, Refusal, LINE_SIZE, PAGE_SIZE};
 use norwythai_reference as reference;
 use norwythai_samples::{
@@ -122,6 +124,8 @@ fn wanted_calls() -> usize {
 fn every_act_answers_as_the_reference() {
     let wanted = wanted_calls().max(FEWEST_CALLS);
     let mut random = Random::new(2026);
+    // What deficiency gets beside the input leaves the calls of the other acts as they are.
+    let mut crowded = Random::new(9);
     let mut tally = Tally::default();
     let mut others = Vec::new();
     let mut round = 0;
@@ -130,6 +134,7 @@ fn every_act_answers_as_the_reference() {
         tally.input(&input);
         others = compare_input(&mut tally, &mut random, &input, &others);
         compare_texts(&mut tally, &mut random, &input);
+        compare_deficiencies(&mut tally, &mut crowded, &input);
         compare_start(&mut tally, &mut random);
         if round % 20 == 0 {
             compare_wrong_lengths(&mut tally, &mut random, &input);

@@ -1,8 +1,8 @@
 //! The C functions themselves, called with arrays of any length. Each array stands between guards, which no call may change.
 
 use norwythai::raw::{
-    norwythai_check, norwythai_from_dimacs, norwythai_judge, norwythai_list, norwythai_page,
-    norwythai_start, norwythai_to_dimacs, norwythai_walk, norwythai_weigh,
+    norwythai_check, norwythai_deficiency, norwythai_from_dimacs, norwythai_judge, norwythai_list,
+    norwythai_page, norwythai_start, norwythai_to_dimacs, norwythai_walk, norwythai_weigh,
 };
 use std::fmt::Debug;
 
@@ -132,6 +132,21 @@ pub fn weigh(input: &[u8], assumptions: &[u8], buffer: &[u8], results: &mut [u64
     let mut after = vec![0; buffer.len()];
     lent.take(&mut after);
     assert_eq!(after, buffer);
+    written.take(results);
+    returned
+}
+
+pub fn deficiency(input: &[u8], results: &mut [u64]) -> u32 {
+    let mut written = numbers(results);
+    // SAFETY: the pointers are good for the lengths, and the arrays do not overlap.
+    let returned = unsafe {
+        norwythai_deficiency(
+            input.as_ptr(),
+            input.len(),
+            written.pointer(),
+            written.length(),
+        )
+    };
     written.take(results);
     returned
 }

@@ -2,6 +2,7 @@
 
 use crate::assumed::Assumed;
 use crate::counts::{write_refusals, Outcomes, Refusals, Seen};
+use crate::deficiencies::Deficiencies;
 use crate::is_accepted;
 use crate::pages::Pages;
 use crate::weights::Weights;
@@ -308,6 +309,7 @@ pub struct Tally {
     pub checks: usize,
     pub judges: usize,
     pub weights: Weights,
+    pub deficiencies: Deficiencies,
     pub starts: usize,
     pub walks: usize,
     pub chain_calls: usize,
@@ -333,7 +335,7 @@ pub struct Tally {
     pub with_trials: usize,
     /// Models handed out by list.
     pub listed: usize,
-    /// Refusals of all acts but weigh, page and those between formulas and texts.
+    /// Refusals of all acts but weigh, deficiency, page and those between formulas and texts.
     refusals: Refusals,
     pub assuming: Assuming,
     /// Without assumptions, and under some.
@@ -348,6 +350,7 @@ impl Tally {
         self.checks
             + self.judges
             + self.weights.calls()
+            + self.deficiencies.calls()
             + self.starts
             + self.walks
             + self.chain_calls
@@ -391,15 +394,16 @@ impl Tally {
     pub fn require_enough(&self) {
         let calls = self.calls();
         let least = [
-            ("check", self.checks, calls / 10),
+            ("check", self.checks, calls / 12),
             ("judge", self.judges, calls / 20),
             ("weigh", self.weights.calls(), calls / 20),
+            ("deficiency", self.deficiencies.calls(), calls / 50),
             ("start", self.starts, calls / 200),
             ("walk", self.walks, calls / 5),
             ("chains", self.chain_calls, calls / 20),
             ("list", self.lists, calls / 20),
             ("page", self.pages.calls(), calls / 20),
-            ("from_dimacs", self.from_dimacs.calls(), calls / 25),
+            ("from_dimacs", self.from_dimacs.calls(), calls / 30),
             ("to_dimacs", self.to_dimacs.calls(), calls / 50),
             ("round trips", self.round_trips, calls / 100),
             ("wrong lengths", self.wrong_lengths, calls / 100),
@@ -423,6 +427,7 @@ impl Tally {
         }
         self.assuming.require_enough();
         self.weights.require_enough();
+        self.deficiencies.require_enough();
         self.pages.require_enough();
         for Stripped { calls, seen } in &self.stripped {
             seen.require_enough(&STRIPPED, *calls);
@@ -444,6 +449,7 @@ impl fmt::Display for Tally {
         )?;
         writeln!(f, "judge: {} (accepted {})", self.judges, self.accepted)?;
         writeln!(f, "weigh: {}", self.weights)?;
+        writeln!(f, "deficiency: {}", self.deficiencies)?;
         writeln!(f, "start: {}", self.starts)?;
         writeln!(
             f,

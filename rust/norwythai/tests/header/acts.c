@@ -171,6 +171,39 @@ static int test_weigh(void) {
     return 0;
 }
 
+static int test_deficiency(void) {
+    /* 97 empty clauses, of which 96 can be read. */
+    static uint8_t empty[100];
+    const uint8_t byte = 0;
+    uint64_t results[NORWYTHAI_RESULTS] = {7, 7, 7, 7, 7, 7};
+
+    REQUIRE(norwythai_deficiency(INPUT, sizeof INPUT, results, NORWYTHAI_RESULTS) == 0);
+    REQUIRE(results[0] == NORWYTHAI_MEASURED && results[1] == 0 && results[2] == 0 && results[3] == 0);
+    REQUIRE(results[4] == 0 && results[5] == 0);
+    REQUIRE(norwythai_deficiency(UNMATCHED, sizeof UNMATCHED, results, NORWYTHAI_RESULTS) == 0);
+    REQUIRE(results[0] == NORWYTHAI_MEASURED && results[4] == 1 && results[5] == 0);
+    /* Nothing is stripped before: of (2) and (2), too, one is too many; and the accepted formula has one too many. */
+    REQUIRE(norwythai_deficiency(LEFT_UNMATCHED, sizeof LEFT_UNMATCHED, results, NORWYTHAI_RESULTS) == 0);
+    REQUIRE(results[0] == NORWYTHAI_MEASURED && results[4] == 2);
+    REQUIRE(norwythai_deficiency(STRIPPED, sizeof STRIPPED, results, NORWYTHAI_RESULTS) == 0);
+    REQUIRE(results[0] == NORWYTHAI_MEASURED && results[4] == 1);
+
+    memset(empty, 4, sizeof empty);
+    empty[0] = empty[1] = 1;
+    empty[99] = 5;
+    REQUIRE(norwythai_deficiency(empty, sizeof empty, results, NORWYTHAI_RESULTS) == 0);
+    REQUIRE(results[0] == NORWYTHAI_REFUSED && results[2] == 8 && results[3] == 98 && results[4] == 0 && results[5] == 0);
+    empty[98] = 5;
+    REQUIRE(norwythai_deficiency(empty, sizeof empty - 1, results, NORWYTHAI_RESULTS) == 0);
+    REQUIRE(results[0] == NORWYTHAI_MEASURED && results[2] == 0 && results[3] == 0 && results[4] == 96);
+
+    REQUIRE(norwythai_deficiency(BOTH_WAYS, sizeof BOTH_WAYS, results, NORWYTHAI_RESULTS) == 0);
+    REQUIRE(results[0] == NORWYTHAI_REFUSED && results[2] == 7 && results[3] == 6 && results[4] == 0);
+    REQUIRE(norwythai_deficiency(&byte, 0, results, NORWYTHAI_RESULTS) == 0);
+    REQUIRE(results[0] == NORWYTHAI_REFUSED && results[2] == 2 && results[3] == 0);
+    return 0;
+}
+
 static int test_walk(void) {
     const uint8_t byte = 0;
     uint8_t checkpoint[NORWYTHAI_CHECKPOINT];
@@ -423,17 +456,19 @@ static int test_lengths(void) {
                                NORWYTHAI_RESULTS) == 1);
     }
     REQUIRE(norwythai_weigh(INPUT, sizeof INPUT, TWICE, 0, buffer, sizeof buffer, results, sizeof results) == 1);
+    REQUIRE(norwythai_deficiency(INPUT, sizeof INPUT, results, sizeof results) == 1);
+    REQUIRE(norwythai_deficiency(INPUT, sizeof INPUT, results, 5) == 1);
     REQUIRE(norwythai_page(INPUT, sizeof INPUT, TWICE, 0, checkpoint, 49, 1, page, sizeof page, results, NORWYTHAI_RESULTS) == 1);
     REQUIRE(norwythai_page(INPUT, sizeof INPUT, TWICE, 0, checkpoint, sizeof checkpoint, 1, page, sizeof page, results, 5) == 1);
     REQUIRE(norwythai_weigh(INPUT, sizeof INPUT, TWICE, 0, buffer, sizeof buffer, results, 5) == 1);
-    REQUIRE(results[0] == 7 && results[5] == 7);
+    REQUIRE(results[0] == 7 && results[4] == 7 && results[5] == 7);
     REQUIRE(buffer[0] == 7 && checkpoint[0] == 0 && models[0] == 7 && page[0] == 0);
     return 0;
 }
 
 int main(void) {
     return test_check() || test_judge() || test_judge_by_stripping() || test_judge_under_assumptions() || test_weigh() ||
-           test_walk() || test_waits(1) || test_waits(4) || test_waits(96) || test_list() || test_list_by_stripping() ||
-           test_walk_under_assumptions() || test_all_assumed() ||
+           test_deficiency() || test_walk() || test_waits(1) || test_waits(4) || test_waits(96) || test_list() ||
+           test_list_by_stripping() || test_walk_under_assumptions() || test_all_assumed() ||
            test_page() || test_refused_page() || test_from_dimacs() || test_to_dimacs() || test_lengths();
 }

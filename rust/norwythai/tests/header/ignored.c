@@ -1,4 +1,4 @@
-/* Ignores what each function returns: nine warnings. */
+/* Ignores what each function returns: ten warnings. */
 #include "norwythai.h"
 
 void ignore(const uint8_t *input, uint8_t *bytes, uint64_t *numbers);
@@ -7,6 +7,7 @@ void ignore(const uint8_t *input, uint8_t *bytes, uint64_t *numbers) {
     norwythai_check(input, 0, 0, numbers, 6);
     norwythai_judge(input, 0, input, 0, bytes, 96, numbers, 6);
     norwythai_weigh(input, 0, input, 0, input, 96, numbers, 6);
+    norwythai_deficiency(input, 0, numbers, 6);
     norwythai_start(bytes, 50);
     norwythai_walk(input, 0, input, 0, bytes, 50, 96, numbers, 6);
     norwythai_list(input, 0, input, 0, bytes, 50, numbers, 1, numbers + 1, 6);

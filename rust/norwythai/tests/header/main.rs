@@ -100,7 +100,7 @@ fn an_ignored_result_brings_a_warning() {
         let text = String::from_utf8_lossy(&output.stderr);
         assert!(output.status.success(), "{compiler} {options:?}: {text}");
         let warnings = text.matches("warning: ignoring return value").count();
-        assert_eq!(warnings, 9, "{compiler} {options:?}: {text}");
+        assert_eq!(warnings, 10, "{compiler} {options:?}: {text}");
     }
 }
 
@@ -154,12 +154,16 @@ fn the_example_says_what_cannot_be_matched() {
     assert!(output.status.success());
     assert_eq!(
         output.stdout,
-        b"clause 1\nclause 2\nclause 4\n3 clauses name 2 variables\n"
+        b"clause 1\nclause 2\nclause 4\n3 clauses name 2 variables\ndeficiency 1\n"
     );
 
-    let output = unmatched(repository("examples/two_variables.bin"));
-    assert!(output.status.success());
-    assert_eq!(output.stdout, b"accepted\n");
+    // Accepted, as a whole and by stripping.
+    for (example, deficiency) in [("two_variables", 0), ("athletics", 2)] {
+        let output = unmatched(repository(&format!("examples/{example}.bin")));
+        assert!(output.status.success());
+        let printed = format!("accepted\ndeficiency {deficiency}\n");
+        assert_eq!(output.stdout, printed.as_bytes());
+    }
 
     // An empty file, one that is too long, and none.
     let file = temporary("unmatched.bin");

@@ -2,9 +2,9 @@
 
 use crate::values::{from_hex, number};
 use norwythai_reference::{
-    check, from_dimacs, judge, list, page, print, start_checkpoint, to_dimacs, walk, weigh, Answer,
-    Assumption, Checkpoint, Paged, Refusal, Walked, Weight, CHECKPOINT_LENGTH, LINE_SIZE,
-    LIST_BUDGET, PAGE_SIZE,
+    check, deficiency, from_dimacs, judge, list, page, print, start_checkpoint, to_dimacs, walk,
+    weigh, Answer, Assumption, Checkpoint, Paged, Refusal, Walked, Weight, CHECKPOINT_LENGTH,
+    LINE_SIZE, LIST_BUDGET, PAGE_SIZE,
 };
 use std::collections::BTreeMap;
 
@@ -172,6 +172,18 @@ fn compare_weight(
         variables: clauses - 1,
     };
     compare("weight", weigh(input, assumptions, buffer), Ok(expected))
+}
+
+fn compare_deficiency(line: &str) -> Compared {
+    let found = deficiency(&hex_field(line, "sheet")?);
+    let expected = number(field(line, "shortfall")?)?;
+    match refusal_of(line)? {
+        Some(refusal) => {
+            compare("the vector's own refusal", expected, 0)?;
+            compare("answer", found, Err(refusal))
+        }
+        None => compare("answer", found, Ok(expected)),
+    }
 }
 
 /// An expected walk answer.
@@ -382,6 +394,7 @@ pub fn compare_line(line: &str) -> Compared {
         "read_text" => compare_conversion(line, "text", from_dimacs),
         "write_text" => compare_conversion(line, "sheet", to_dimacs),
         "page" => compare_page(line),
+        "shortfall" => compare_deficiency(line),
         _ => Err("unknown act".to_string()),
     }
 }

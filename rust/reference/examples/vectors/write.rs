@@ -3,13 +3,13 @@
 use crate::pages::some_page_lines;
 use crate::values::to_hex;
 use norwythai_reference::{
-    check, decode, from_dimacs, judge, print, start_checkpoint, to_dimacs, walk, write_text,
-    Answer, Assumption, Checkpoint, Progress, Refusal, Walker, FORMULA_BUFFER, LIST_BUDGET,
-    TEXT_BUFFER,
+    check, decode, deficiency, from_dimacs, judge, print, start_checkpoint, to_dimacs, walk,
+    write_text, Answer, Assumption, Checkpoint, Progress, Refusal, Walker, FORMULA_BUFFER,
+    LIST_BUDGET, TEXT_BUFFER,
 };
 use norwythai_samples::{
-    some_assignment, some_assumptions, some_budget, some_checkpoint, some_input, some_length,
-    some_text, Random,
+    some_assignment, some_assumptions, some_budget, some_checkpoint, some_crowded_input,
+    some_input, some_length, some_text, Random,
 };
 
 /// A longer input or printed walk takes much of a file of the corpus. Such an input is given to fewer calls, and such a walk is
@@ -83,6 +83,17 @@ fn judge_line(
         to_hex(&buffer),
     );
     line("judge", from, &fields)
+}
+
+fn deficiency_line(from: &str, input: &[u8]) -> String {
+    let found = deficiency(input);
+    let fields = format!(
+        "\"sheet\": \"{}\", \"refusal\": {}, \"shortfall\": {}",
+        to_hex(input),
+        refusal_text(found.err()),
+        found.unwrap_or(0),
+    );
+    line("shortfall", from, &fields)
 }
 
 /// The word for an answer, and its model, else 0.
@@ -294,6 +305,7 @@ fn act_lines(from: &str, random: &mut Random, input: &[u8]) -> Vec<String> {
     for _ in 0..if input.len() > LONG { 1 } else { 3 } {
         lines.push(check_line(from, input, some_assignment(random, input)));
     }
+    lines.push(deficiency_line(from, input));
     lines.push(WRITE_TEXT.some_line(from, random, input));
     if let Ok(text) = write_text(input) {
         lines.push(READ_TEXT.some_line("written", random, &text));
@@ -313,7 +325,7 @@ pub fn vectors_of(inputs: &[Vec<u8>], seed: u64) -> Vec<String> {
     lines
 }
 
-/// The vectors of so many inputs that are generated from a seed.
+/// The vectors of so many inputs that are generated from a seed, and the deficiencies of as many others, of which most are unmatched.
 pub fn generated_vectors(seed: u64, count: usize) -> Vec<String> {
     let from = "random";
     let mut random = Random::new(seed);
@@ -330,6 +342,12 @@ pub fn generated_vectors(seed: u64, count: usize) -> Vec<String> {
         long_texts += usize::from(is_long);
         let text = some_text(&mut random);
         lines.push(READ_TEXT.some_line(from, &mut random, &text));
+    }
+    for _ in 0..count {
+        let input = some_crowded_input(&mut random);
+        if input.len() <= LONG {
+            lines.push(deficiency_line(from, &input));
+        }
     }
     lines
 }
@@ -388,6 +406,20 @@ pub mod tests {
     }
 
     #[test]
+    fn lines_of_deficiencies() {
+        assert_eq!(
+            deficiency_line("edge", &[1, 1, 2, 1, 4, 4, 2, 1, 4, 5]),
+            "{\"act\": \"shortfall\", \"from\": \"edge\", \"sheet\": \"01010201040402010405\", \
+             \"refusal\": null, \"shortfall\": 2}"
+        );
+        assert_eq!(
+            deficiency_line("edge", &[1, 1, 4]),
+            "{\"act\": \"shortfall\", \"from\": \"edge\", \"sheet\": \"010104\", \"refusal\": [2, 3], \
+             \"shortfall\": 0}"
+        );
+    }
+
+    #[test]
     fn lines_of_texts() {
         assert_eq!(
             WRITE_TEXT.line("edge", &[1, 2, 3, 2, 4, 5], 18_636, 9),
@@ -436,6 +468,7 @@ pub mod tests {
             "read_text",
             "write_text",
             "page",
+            "shortfall",
         ] {
             let start = format!("{{\"act\": \"{act}\"");
             assert!(lines.iter().any(|line| line.starts_with(&start)), "{act}");
@@ -493,6 +526,26 @@ pub mod tests {
     }
 
     #[test]
+    fn deficiencies_of_all_kinds_are_written() {
+        // By number of the refusal, at 0 the readable inputs; and of these the deficiencies above 0, above 20 and at 0.
+        let mut refusals = [0; 10];
+        let (mut above, mut many, mut none) = (0, 0, 0);
+        let lines = generated_vectors(1, 300);
+        let lines = lines.iter().filter(|l| l.contains("\"shortfall\": "));
+        for line in lines {
+            let input = from_hex(field(line, "sheet").unwrap()).unwrap();
+            let found = deficiency(&input);
+            refusals[found.map_or_else(|refusal| usize::from(refusal.number), |_| 0)] += 1;
+            above += usize::from(found.is_ok_and(|d| d > 0));
+            many += usize::from(found.is_ok_and(|d| d > 20));
+            none += usize::from(found == Ok(0));
+        }
+        let seen = [refusals[0], above, many, none];
+        assert!(seen.into_iter().min() > Some(50), "{seen:?}");
+        assert!(refusals[2..].iter().all(|seen| *seen > 0), "{refusals:?}");
+    }
+
+    #[test]
     fn a_wrong_answer_is_found() {
         let right = check_line("edge", EXAMPLE, 2);
         assert!(compare_line(&right.replace("yes", "no")).is_err());
@@ -511,5 +564,14 @@ pub mod tests {
         assert_eq!(compare_line(&right), Ok(()));
         assert!(compare_line(&right.replace("010205", "010204")).is_err());
         assert!(compare_line(&right.replace("null", "[15, 8]")).is_err());
+        let right = deficiency_line("edge", &[1, 1, 4, 5]);
+        assert_eq!(compare_line(&right), Ok(()));
+        assert!(compare_line(&right.replace("\"shortfall\": 1", "\"shortfall\": 0")).is_err());
+        assert!(compare_line(&right.replace("null", "[2, 4]")).is_err());
+        let right = deficiency_line("edge", &[1, 1, 4]);
+        assert_eq!(compare_line(&right), Ok(()));
+        assert!(compare_line(&right.replace("\"shortfall\": 0", "\"shortfall\": 1")).is_err());
+        assert!(compare_line(&right.replace("[2, 3]", "[2, 2]")).is_err());
+        assert!(compare_line(&right.replace("[2, 3]", "null")).is_err());
     }
 }
