@@ -237,8 +237,8 @@ uint32_t norwythai_weigh(const uint8_t *input, size_t input_length, const uint8_
  * number of its clauses less the most of them that can be matched together.
  * Reads the input; writes the results. Only an input that can't be read is refused, by 2 to 9.
  * The deficiency is the largest excess of clauses over the variables that they name in any set of clauses, the empty set included. Within
- * the 96 clauses one more, at any place, leaves it or raises it by one, and one fewer leaves it or lowers it by one. No fewer clauses than
- * it says have to be struck until the others are matched.
+ * the 96 clauses one more, at any place, leaves it or raises it by one, and one fewer leaves it or lowers it by one. At least so many
+ * clauses have to be struck until the others are matched, and so many are enough, if they are the right ones.
  * It takes no assumptions, and nothing is stripped before. It is 0 exactly if the formula is matched as a whole, and so accepted without
  * assumptions. A formula that judge accepts since it strips down has a deficiency above 0.
  * With `input_length` 0, `input` is the address of any byte and not null.
