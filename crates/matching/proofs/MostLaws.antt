@@ -1,16 +1,16 @@
 -- The most clauses that can be matched together are those that are kept where each clause whose search fails is left aside; and so the
 -- deficiency is the number of those left aside, and the largest excess.
-use Prim.Native.Nat.{ℕ, suc, _+_, _-_, _≤_, _<_}
+use Prim.Native.Nat.{ℕ, suc, _+_, _-_, _≤_}
 use mathlib.Core.Bool.{Bool, true, false, cond}
 use mathlib.Core.List.{List, [], _∷_, _++_, append-nil, append-assoc, map, List·Memᴰ, List·Memᴰ·head, List·Memᴰ·tail, List·Memᴰ·cases-cons, List·Memᴰ·not-nil, List·Memᴰ·append-cases, Memᴰ·append-left, Memᴰ·append-right, Memᴰ·map, Memᴰ·of-map, Sublistᴰ, Sublistᴰ·slnil, Sublistᴰ·cons, Sublistᴰ·cons-cons, Sublistᴰ·refl, Sublistᴰ·append, Sublistᴰ·trans}
 use mathlib.Core.Logic.{_⊎_, ⊎-elim, _↔_}
-use mathlib.Core.Path.{_≡_, refl, sym, _∙_, ap, subst}
+use mathlib.Core.Path.{_≡_, refl, sym, _∙_, subst}
 use native.Mathlib.Omega.{arith}
 use lib.Dec.{ltb, eqb}
 use lib.ListN.{length, length-append}
 use borrow.Author.Tests.{ltb-true, ltb-false, eqb-true, eqb-false}
 use Rattle.lists.proofs.TestLaws.{bool-cases}
-use Rattle.lists.proofs.SublistLaws.{sub-length, sub-within, sub-whole, sub-front}
+use Rattle.lists.proofs.SublistLaws.{sub-within, sub-whole, sub-front}
 use Rattle.masks.specs.Mask.{size}
 use Rattle.matching.specs.Sets.{Words, union}
 use Rattle.matching.specs.InnerMatched.{Matched}

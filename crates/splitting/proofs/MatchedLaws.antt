@@ -13,7 +13,6 @@ use Rattle.lists.proofs.TestLaws.{both-signs, bool-cases, bool-clash}
 use Rattle.lists.proofs.SublistLaws.{getD-element, element-place, sub-map}
 use Rattle.lists.proofs.TabulatedLaws.{length-tabulated, getD-tabulated}
 use Rattle.masks.specs.Mask.{bit}
-use Rattle.matching.specs.Sets.{selected}
 use Rattle.matching.specs.InnerMatched.{Matches, Matched}
 use Rattle.matching.proofs.Counting.{count-all, pigeon}
 use Rattle.matching.proofs.Theorems.{sub-list-matched}
