@@ -897,7 +897,7 @@ DEFICIENCY_EDGES = [
     ('01 30 02 01 02 02 04 03 01 03 02 04 02 01 03 02 04 05', 1),
     ('01 30 02 2f 02 30 04 03 2f 03 30 04 02 2f 03 30 04 05', 1),
     # a clause again and again: each beyond the variables that it names is left over
-    *(('01 01' + k * TRUE + ' 05', k - 1) for k in (1, 2, 3, 48, 49, 95)),
+    *(('01 01' + k * TRUE + ' 05', k - 1) for k in (1, 3, 48, 49, 95)),
     *(('01 02' + k * ' 03 01 02 02 04' + ' 05', k - 2) for k in (2, 3, 4, 96)),
     *(('01 01' + k * EMPTY + ' 05', k) for k in (2, 95)),
     # 96 clauses: empty, all the same, those of one variable each twice, with one sign and with both, and those that name all variables
