@@ -1,7 +1,8 @@
--- What judge owes to the demands (S10), under assumptions (S17), with stripping (S18), and of its marks (S20). Demand 1: a short buffer is
+-- What judge owes to the demands (S10), under assumptions (S17), with stripping (S18), and of its marks (S20); and what is owed of the
+-- deficiency (S22). Demand 1: a short buffer is
 -- refused first, a bad assumption behind the reader's refusals, and every byte of the buffer is fixed. Demand 2: a formula is accepted
 -- exactly if what stripping leaves of what remains is matched; if it is not, a violator is shown, none of whose clauses could be spared.
-use Prim.Native.Nat.{ℕ, suc, _-_, _≤_, _<_}
+use Prim.Native.Nat.{ℕ, suc, _+_, _-_, _≤_, _<_}
 use mathlib.Core.Bool.{true, false, cond, not, _&&_}
 use mathlib.Core.List.{List, [], _∷_, _++_, map, List·Memᴰ, Sublistᴰ}
 use mathlib.Core.Logic.{_↔_}
@@ -14,13 +15,19 @@ use Rattle.lists.specs.Over.{over}
 use Rattle.masks.specs.Mask.{size}
 use Rattle.formula.specs.declared.Refusal.{Refusal}
 use Rattle.formula.specs.declared.Refusal.the-variants.{ShortBuffer, Unmatched, BadAssumption}
+use Rattle.formula.specs.InnerDecode.{decode}
+use Rattle.formula.specs.Decoding.{readable}
 use Rattle.formula.specs.Format.{Literal, names, Sized, Encodes}
+use Rattle.formula.specs.Masked.{variables}
 use Rattle.formula.specs.Table.{Refuses}
 use Rattle.formula.proofs.Demands.{accepted-all, accepted-fits, refused-all}
 use Rattle.assumptions.specs.declared.Assumption.{Assumption}
 use Rattle.assumptions.specs.Assumed.{literal-of}
 use Rattle.assumptions.specs.FirstBad.{NoneBad, FirstBad}
 use Rattle.assumptions.proofs.Demands.{bad-exactly, none-bad-literals, literals-over}
+use Rattle.matching.specs.Deficiency.{most, largest-excess}
+use Rattle.matching.specs.Sets.{union}
+use Rattle.matching.proofs.Theorems as largest
 use Rattle.splitting.specs.Nodes.{remaining, satisfied-by, lowest-with}
 use Rattle.splitting.specs.Stripping.{pure}
 use Rattle.splitting.specs.Choosing.{among}
@@ -29,15 +36,19 @@ use Rattle.splitting.proofs.MaskChoiceLaws.{StripsTo}
 use Rattle.splitting.proofs.SatisfiedLaws.{less-all, less-all-named, remaining-in}
 use Rattle.splitting.proofs.Theorems.{noted-pure, still-there}
 use Rattle.matched.specs.Acceptance.{accepted, by, dropped-by, whole-byte, stripped-byte, spread, acceptance}
+use Rattle.matched.specs.Deficiency.{measured, unmeasured, deficiency-of}
 use Rattle.matched.specs.Judge.{Judged, accepted-values, refused-values, judgement-of, judge}
 use Rattle.matched.specs.Pairing.{Pairs, PairsUnder, noted-of, left-of, Pairable, Walkable, PairsStripped, PairsBut, marked, named-but, Violator}
 use Rattle.matched.specs.Weigh.{WeighedValues, counted-values, unweighed-values, weighed}
 use Rattle.matched.specs.WithoutAssumptions.{plain-acceptance}
 use Rattle.matched.specs.WithoutStripping.{whole-acceptance}
 use Rattle.matched.proofs.AcceptanceLaws.{whole-accepted, stripped-accepted, unpaired-declined, accepted-walkable, walkable-accepted, pairable-walkable, bad-declined, unreadable-declined}
+use Rattle.matched.proofs.DeficiencyLaws as deficiencies
+use Rattle.matched.proofs.DeficiencyLaws.{unreadable-deficiency, readable-deficiency}
 use Rattle.matched.proofs.DroppedLaws.{dropped-first}
 use Rattle.matched.proofs.JudgeLaws.{judge-short, judge-accepted, judge-declined, judged-bad, judged-unmatched, unmatched-long, numberless-walkable, walkable-numberless}
 use Rattle.matched.proofs.KeptLaws.{kept}
+use Rattle.matched.proofs.PairingLaws.{masks-words}
 use Rattle.matched.proofs.UnassumedLaws.{unassumed}
 use Rattle.matched.proofs.UnderLaws as unders
 use Rattle.matched.proofs.ViolatorLaws as violators
@@ -235,6 +246,70 @@ weighed-violator s us b e =
     let w = judged-unmatched s us b long e in
     let x = refused-buffer s us (w .0) (w .1) (w .2) (w .3) b long (w .4) in
     rw (x .2) (weigh-violator s us b long (w .0) (w .1) (accepted-all s (w .0) (w .1) (w .2)) (map literal-of us) (none-bad-literals (w .0) us (w .3)) (x .0) (x .1))
+
+-- S22: the deficiency of an input that is readable, encoding n and cs, be it accepted or not
+module _ (s : List ℕ) (n : ℕ) (cs : List (List Literal)) (encodes : Encodes s n cs) where
+  reads : decode s ≡ readable n cs
+  reads = accepted-all s n cs encodes
+
+  sized : Sized n cs
+  sized = accepted-fits s n cs reads
+
+  -- S22.1: it is the number of clauses, less the most of them that can be matched together:
+  pub deficiency-counts : deficiency-of s ≡ measured (length cs - most (map variables cs))
+  deficiency-counts = deficiencies.clauses-less-most s n cs reads
+
+  -- some clauses of the formula, as many, have a matching,
+  pub most-attained : (ds : List (List Literal)) × (vs : List ℕ) × Sublistᴰ ds cs × Pairs ds vs × (length ds ≡ most (map variables cs))
+  most-attained = deficiencies.pairs-attained sized
+
+  -- and of no more there is one.
+  pub most-bound : (ds : List (List Literal)) (vs : List ℕ) → Sublistᴰ ds cs → Pairs ds vs → length ds ≤ most (map variables cs)
+  most-bound = deficiencies.pairs-bound sized
+
+  -- S22.2: it is the largest excess of clauses over the variables that they name:
+  pub deficiency-excess : deficiency-of s ≡ measured (largest-excess (map variables cs))
+  deficiency-excess = readable-deficiency s n cs reads ∙ ap measured (largest.deficiency-excess (map variables cs) (masks-words sized))
+
+  -- some clauses are so many more than the variables that they name,
+  pub excess-attained : (ds : List (List Literal)) × Sublistᴰ ds cs × (deficiency-of s .deficiency + size (union (map variables ds)) ≡ length ds)
+  excess-attained = rw (readable-deficiency s n cs reads) (deficiencies.clauses-attained sized)
+
+  -- and none are by more; no clauses at all are more by 0.
+  pub excess-bound : (ds : List (List Literal)) → Sublistᴰ ds cs → length ds ≤ deficiency-of s .deficiency + size (union (map variables ds))
+  excess-bound = rw (readable-deficiency s n cs reads) (deficiencies.clauses-bound sized)
+
+  -- It is at most the number of clauses, so at most 96.
+  pub deficiency-few : deficiency-of s .deficiency ≤ length cs
+  deficiency-few = rw (readable-deficiency s n cs reads) (deficiencies.clauses-few sized)
+
+-- S22.3: two inputs, of which the second has one clause more, at any place. To the second the deficiency does not fall, and rises by one at
+-- most; to the first it does not rise, and falls by one at most.
+pub one-more : (s s′ : List ℕ) (n : ℕ) (xs ys : List (List Literal)) (c : List Literal) → Encodes s n (xs ++ ys) → Encodes s′ n (xs ++ (c ∷ ys))
+    → (deficiency-of s .deficiency ≤ deficiency-of s′ .deficiency) × (deficiency-of s′ .deficiency ≤ suc (deficiency-of s .deficiency))
+one-more s s′ n xs ys c e e′ =
+    let r = accepted-all s n (xs ++ ys) e in
+    let r′ = accepted-all s′ n (xs ++ (c ∷ ys)) e′ in
+    rw (readable-deficiency s n (xs ++ ys) r, readable-deficiency s′ n (xs ++ (c ∷ ys)) r′) (deficiencies.clauses-more n xs ys c (accepted-fits s′ n (xs ++ (c ∷ ys)) r′))
+
+-- S22.1: it is 0 exactly if the formula is matched as it is, with nothing assumed and nothing stripped;
+pub deficiency-none : (s : List ℕ) → (deficiency-of s ≡ measured 0) ↔ Pairable s []
+deficiency-none = deficiencies.none-pairable
+
+-- so it is above 0 where judge, with nothing assumed, says 10.
+pub unmatched-deficient : (s b : List ℕ) → judge s [] b .answer .number ≡ 10 → 1 ≤ deficiency-of s .deficiency
+unmatched-deficient = deficiencies.unmatched-above
+
+-- S22.4: every readable input has one, and any other gets the reader's refusal, 2 to 9 and no other number.
+pub deficiency-readable : (s : List ℕ) → (deficiency-of s .number ≡ 0) ↔ ((n : ℕ) × (cs : List (List Literal)) × Encodes s n cs)
+deficiency-readable = deficiencies.readable-exactly
+
+pub deficiency-unreadable : (s : List ℕ) (r : Refusal) → Refuses s r → deficiency-of s ≡ unmeasured r
+deficiency-unreadable s r w = unreadable-deficiency s r (refused-all s r w)
+
+pub deficiency-refused : (s : List ℕ) → (deficiency-of s .number ≡ 0 → ⊥)
+    → (r : Refusal) × Refuses s r × (deficiency-of s ≡ unmeasured r) × (2 ≤ deficiency-of s .number) × (deficiency-of s .number ≤ 9)
+deficiency-refused = deficiencies.refused-by
 
 -- S17.6: an empty list of assumptions changes nothing: what comes of an input, and judge by it, are what they are without any
 pub acceptance-unassumed : (s : List ℕ) → acceptance s [] ≡ plain-acceptance s

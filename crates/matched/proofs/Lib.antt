@@ -9,6 +9,7 @@ pub mod AcceptanceLaws
 pub mod AcceptLaws
 pub mod JudgeLaws
 pub mod KeptLaws
+pub mod DeficiencyLaws
 pub mod WeighLaws
 pub mod UnassumedLaws
 pub mod Demands

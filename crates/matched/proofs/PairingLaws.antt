@@ -5,19 +5,25 @@ use mathlib.Core.List.{List, [], _∷_, map}
 use mathlib.Core.Path.{_≡_, refl, sym, ap, ap₂, _∙_}
 use native.Mathlib.Omega.{arith}
 use lib.Bits.{bitOr}
-use lib.ListN.{length, getD, length-map, List·getD-map}
+use lib.ListN.{length, getD, take, length-map, List·getD-map}
 use lib.Pow.{pow-mono}
+use Rattle.limits.specs.Limits.{max-clauses}
 use Rattle.lists.proofs.EveryLaws.{every-getD}
 use Rattle.lists.proofs.MapLaws.{getD-map-in}
+use Rattle.lists.proofs.PaddedLaws.{take-padded}
 use Rattle.lists.proofs.TestLaws.{and-left, and-right}
 use Rattle.masks.specs.Mask.{bit, minus}
 use Rattle.masks.proofs.BitLaws.{bit-minus, bit-none, bit-or, minus-lt}
 use Rattle.masks.proofs.MembersLaws.{mask-same}
+use Rattle.formula.specs.declared.Formula.{Formula}
 use Rattle.formula.specs.Format.{Literal, names, ClauseOver, Sized}
+use Rattle.formula.specs.InnerFits.{clause-variables}
+use Rattle.formula.specs.InnerMasked.{no-clause, clause-of, formula-of}
 use Rattle.formula.specs.Masked.{variables}
 use Rattle.formula.proofs.ClauseLaws.{variables-bit, variables-lt}
 use Rattle.matching.specs.Sets.{Words, union}
 use Rattle.matching.specs.InnerMatched.{Matches}
+use Rattle.splitting.proofs.MaskClauseLaws.{sets-variables}
 use Rattle.matched.specs.Pairing.{Pairs, PairsBut, named-but}
 
 -- the mask of the i-th clause
@@ -32,6 +38,12 @@ masks-words {n} {cs} z i l =
     let h : n ≤ 64 = omega (arith, z .most) in
     let p : 2 ^ n ≤ 2 ^ 64 = pow-mono h in
     rw (mask-at cs i) (omega (arith, variables-lt n (getD cs i []) (every-getD (ClauseOver n) cs i [] m (z .clauses) .below)))
+
+-- the masks that a formula has in its array are those of its clauses
+pub array-masks : (n : ℕ) (cs : List (List Literal)) (f : Formula) → f ≡ formula-of n cs → map clause-variables (take (f .count) (f .clauses)) ≡ map variables cs
+array-masks n cs f e =
+    let h : take (length cs) (formula-of n cs .clauses) ≡ map clause-of cs = rw (← length-map cs clause-of) (take-padded max-clauses no-clause (map clause-of cs)) in
+    ap (λ (g : Formula). map clause-variables (take (g .count) (g .clauses))) e ∙ ap (map clause-variables) h ∙ sets-variables cs
 
 -- a matching of the masks pairs the clauses
 pub matches-pairs : (cs : List (List Literal)) (vs : List ℕ) → Matches (map variables cs) vs → Pairs cs vs

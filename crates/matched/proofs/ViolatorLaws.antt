@@ -25,10 +25,9 @@ use Rattle.matching.specs.Search.{failure, outcome, marks}
 use Rattle.matching.proofs.MatchedLaws.{Selects, selects-matches, length-marks, marks-le, marks-from}
 use Rattle.matching.proofs.OutcomeLaws.{words-selected}
 use Rattle.matching.proofs.SelectedLaws.{selected-from, part-lacks, selected-map}
-use Rattle.matching.proofs.Theorems.{failure-tight, failure-critical, failure-marked, pigeonhole}
+use Rattle.matching.proofs.Theorems.{failure-tight, failure-critical, failure-marked, pigeonhole, sub-list-matched}
 use Rattle.splitting.specs.Nodes.{remaining, satisfied-by}
 use Rattle.splitting.proofs.MaskChoiceLaws.{StripsTo, strips-to}
-use Rattle.splitting.proofs.MatchedLaws.{sub-sets-matched}
 use Rattle.splitting.proofs.SatisfiedLaws.{less-all, less-all-names, less-all-named, remaining-cons}
 use Rattle.splitting.proofs.Theorems.{formula-below}
 use Rattle.matched.specs.Acceptance.{by-none, dropped-by, RowByte, known, asked, marked-byte, stripped-byte, spread}
@@ -207,7 +206,7 @@ module _ {n : ℕ} {t : List Literal} {cs : List (List Literal)} (z : Sized n cs
   part-paired ds s h =
       let k = part-lacks ms cs ds s h in
       let c = v .critical (k .0) (k .1) (one (k .0) (k .1) (k .2)) in
-      let m = sub-sets-matched (sub-map (but t) (k .3)) (c .0, but-matches t (marked (set ms (k .0) 0) cs) (c .0) (c .1)) in
+      let m = sub-list-matched (sub-map (but t) (k .3)) (c .0, but-matches t (marked (set ms (k .0) 0) cs) (c .0) (c .1)) in
       (m .0, matches-but t ds (m .0) (m .1))
 
   -- t does not satisfy a marked clause, so that what remains of it is the clause without the variables of t

@@ -8,13 +8,12 @@ use native.Mathlib.Numerals.{add-one}
 use native.Mathlib.Omega.{arith}
 use lib.Bits.{bitOr}
 use lib.Dec.{eqb}
-use lib.ListN.{length, getD, take, drop, length-append, length-map}
+use lib.ListN.{length, getD, take, drop, length-append}
 use lib.Seq.{length-take-le, take-suc}
 use borrow.Author.Tests.{le-ltb, lt-ltb, eq-eqb, ne-eqb}
 use Rattle.limits.specs.Limits.{max-clauses}
 use Rattle.lists.specs.Over.{over}
 use Rattle.lists.proofs.OverLaws.{over-length}
-use Rattle.lists.proofs.PaddedLaws.{take-padded}
 use Rattle.masks.specs.Mask.{minus, size}
 use Rattle.masks.proofs.MembersLaws.{mask-same}
 use Rattle.formula.specs.declared.Clause.{Clause}
@@ -26,7 +25,7 @@ use Rattle.formula.specs.Decoding.{readable, refused}
 use Rattle.formula.specs.Format.{Literal}
 use Rattle.formula.specs.Masked.{variables}
 use Rattle.formula.specs.InnerFits.{clause-variables}
-use Rattle.formula.specs.InnerMasked.{no-clause, clause-of, formula-of}
+use Rattle.formula.specs.InnerMasked.{no-clause}
 use Rattle.formula.proofs.ClauseLaws.{variables-bit}
 use Rattle.formula.proofs.Demands.{accepted-fits}
 use Rattle.formula.proofs.MaskedLaws.{Accepts}
@@ -38,7 +37,6 @@ use Rattle.matching.specs.Sets.{union, selected}
 use Rattle.matching.proofs.MatchedLaws.{union-more}
 use Rattle.matching.proofs.SelectedLaws.{selected-more, selected-front, selected-map, selected-size}
 use Rattle.splitting.specs.InnerChoose.{assigned, assignment-of}
-use Rattle.splitting.proofs.MaskClauseLaws.{sets-variables}
 use Rattle.splitting.proofs.MaskNodeLaws.{assigned-trail}
 use Rattle.matched.specs.Acceptance.{Acceptance, accepted, declined, acceptance}
 use Rattle.matched.specs.Judge.{Judged, judge}
@@ -47,6 +45,7 @@ use Rattle.matched.specs.Weigh.{counted-values, unweighed-values, weighe
 use Rattle.matched.proofs.AcceptLaws.{given-literals, given-bad}
 use Rattle.matched.proofs.AcceptanceLaws.{paired, strips, unpaired, Comes, of-formula, bad-assumed, unreadable, comes}
 use Rattle.matched.proofs.JudgeLaws.{judge-short, judge-accepted, judge-declined}
+use Rattle.matched.proofs.PairingLaws.{array-masks}
 
 -- ---- the loops: the element at i as well, of which there is one, and a mark for it
 
@@ -132,10 +131,7 @@ module _ (s : List ℕ) (us : List Assumption) (b : List ℕ) (l : max-clauses �
 
     -- the masks of the marked clauses
     gathered : selected b (map clause-variables (take (f .count) (f .clauses))) ≡ map variables (marked b cs)
-    gathered =
-        let h : take (length cs) (formula-of n cs .clauses) ≡ map clause-of cs = rw (← length-map cs clause-of) (take-padded max-clauses no-clause (map clause-of cs)) in
-        let e : take (f .count) (f .clauses) ≡ map clause-of cs = ap (λ (g : Formula). take (g .count) (g .clauses)) (a .formula) ∙ h in
-        rw (e, sets-variables cs) (selected-map variables b cs)
+    gathered = ap (selected b) (array-masks n cs f (a .formula)) ∙ selected-map variables b cs
 
     pub counted-weighed : u .bad ≡ false → (k m : ℕ) → k ≡ length (selected b (take (f .count) b))
         → m ≡ union (selected b (map clause-variables (take (f .count) (f .clauses))))

@@ -74,7 +74,8 @@ search-take n sets own o (suc k) s L =
     search-found (suc k) (take n sets) own s ne ∙ sym (search-found (suc k) sets own s ne))
     (bool-cases (eqb (s .free) 64))
 
-next-take : (n : ℕ) (sets m : List ℕ) → length m < n → next-search (take n sets) m ≡ next-search sets m
+-- the search for the next clause looks at no clause behind it
+pub next-take : (n : ℕ) (sets m : List ℕ) → length m < n → next-search (take n sets) m ≡ next-search sets m
 unfolding begin
 next-take n sets m l =
     search-take n sets (owner m) (λ v. omega (arith, owner-le m v)) search-bound (begin (length m)) (λ i h. let z : i ≡ 0 = omega arith in rw z l)

@@ -1,8 +1,8 @@
 -- Laws of the elements that marks select from a list.
 use Prim.Native.Nat.{ℕ, zero, suc, _≤_, _<_}
-use mathlib.Core.Path.{_≡_, refl, ap}
+use mathlib.Core.Path.{_≡_, refl, sym, ap, _∙_}
 use mathlib.Core.Bool.{Bool, true, false, cond}
-use mathlib.Core.List.{List, [], _∷_, _++_, map, Sublistᴰ, Sublistᴰ·cons, Sublistᴰ·cons-cons}
+use mathlib.Core.List.{List, [], _∷_, _++_, map, Sublistᴰ, Sublistᴰ·slnil, Sublistᴰ·cons, Sublistᴰ·cons-cons, Sublistᴰ·nil-sublist}
 use native.Mathlib.Omega.{arith}
 use lib.ListN.{length, getD, set}
 use lib.Dec.{eqb}
@@ -26,6 +26,25 @@ module _ {A : Type 0} where
       at : (b : Bool) → length (selected marks l) ≤ length l → length (cond b (selected marks l) (x ∷ selected marks l)) ≤ suc (length l)
       at true h = omega arith
       at false h = omega arith
+
+  -- what is selected is a sub-list,
+  pub selected-sub : (marks : List ℕ) (l : List A) → Sublistᴰ (selected marks l) l
+  unfolding selected
+  selected-sub [] l = Sublistᴰ·nil-sublist l
+  selected-sub (mark ∷ marks) [] = Sublistᴰ·slnil
+  selected-sub (mark ∷ marks) (x ∷ l) = at (eqb mark 0) (selected-sub marks l)
+    where
+      at : (b : Bool) → Sublistᴰ (selected marks l) l → Sublistᴰ (cond b (selected marks l) (x ∷ selected marks l)) (x ∷ l)
+      at true s = Sublistᴰ·cons s
+      at false s = Sublistᴰ·cons-cons refl s
+
+  -- and every sub-list is selected by some marks
+  pub sub-selected : {k l : List A} → Sublistᴰ k l → (marks : List ℕ) × (selected marks l ≡ k)
+  unfolding selected
+  sub-selected Sublistᴰ·slnil = ([], refl)
+  sub-selected (Sublistᴰ·cons s) = let w = sub-selected s in (0 ∷ w .0, w .1)
+  sub-selected (Sublistᴰ·cons-cons {a = x} {b = y} {l₁ = k} e s) =
+      let w = sub-selected s in (1 ∷ w .0, ap (λ (j : List A). y ∷ j) (w .1) ∙ ap (λ (z : A). z ∷ k) (sym e))
 
   -- one element more, where there is a mark for it
   pub selected-more : (marks : List ℕ) (l : List A) (x : A) → length l < length marks

@@ -27,19 +27,9 @@ use Rattle.splitting.proofs.CoreLaws.{Core, core, turn}
 
 -- ── Sub-lists ────────────────────────────────────────────────────────────────────────────────────────────────────────
 
-marks-of : {xs sets : List ℕ} → Sublistᴰ xs sets → (marks : List ℕ) × (selected marks sets ≡ xs)
-unfolding selected
-marks-of Sublistᴰ·slnil = ([], refl)
-marks-of (Sublistᴰ·cons s) = let w = marks-of s in (0 ∷ w .0, w .1)
-marks-of (Sublistᴰ·cons-cons {a = x} {b = y} {l₁ = xs} e s) =
-    let w = marks-of s in (1 ∷ w .0, ap (λ (l : List ℕ). y ∷ l) (w .1) ∙ ap (λ (z : ℕ). z ∷ xs) (sym e))
-
-pub sub-sets-matched : {xs sets : List ℕ} → Sublistᴰ xs sets → Matched sets → Matched xs
-sub-sets-matched {sets = sets} s M = let w = marks-of s in subst Matched (w .1) (sub-list-matched (w .0) sets M)
-
 -- a sub-list of matched clauses is matched
 pub sub-matched : {ds cs : List (List Literal)} → Sublistᴰ ds cs → Matched (map variables cs) → Matched (map variables ds)
-sub-matched s M = sub-sets-matched (sub-map variables s) M
+sub-matched s M = sub-list-matched (sub-map variables s) M
 
 -- ── Matchings by position ────────────────────────────────────────────────────────────────────────────────────────────
 
@@ -118,7 +108,7 @@ assigned-matched : (cs : List (List Literal)) (vs : List ℕ) (i x : ℕ) (s : B
 assigned-matched cs vs i x s M l is sat =
     let h = length-map cs variables in
     let k = length-map cs (part x s) in
-    sub-sets-matched (part-sub x s cs) (
+    sub-list-matched (part-sub x s cs) (
       vs,
       record {
         one-each = M .one-each ∙ h ∙ sym k;
