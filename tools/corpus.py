@@ -3,8 +3,8 @@
 
 VECTORS has one JSON object a line: "act", its input and the expected answer. Vectors of an act that has no coder below are left out. So
 is one that does not fit the format, and that is said. If all of them together don't fit, nothing is written. Every readable input among
-them is also written as a text, and that text read again; what each judge leaves in the buffer is weighed; and the steps between the
-models of each chain, and before and behind them, are compared with their trails.
+them is also written as a text, and that text read again; what each judge leaves in the buffer is weighed, and the deficiency asked for
+where judge tells it; and the steps between the models of each chain, and before and behind them, are compared with their trails.
 
 Format. A file holds vectors of one act, one after the other, and nothing else; it has at most 65,536 bytes, so an act has
 files NAMEa, NAMEb, .., at most 26; start has one, start, and the edge cases of an act have one, NAME_edges, and for judge, weigh and
@@ -23,12 +23,14 @@ walk under assumptions a second one, NAME_assumed. Numbers are little-endian. A 
 An answer:
 
     1 byte    what it says: 0 no, 1 yes (check), 2 refused, 3 accepted (judge), 4 model, 5 spent, 6 ended (walk),
-              7 not compared, 8 models (formulas), 10 written (read_text, write_text), 11 filled (page), 12 counted (weigh)
+              7 not compared, 8 models (formulas), 10 written (read_text, write_text), 11 filled (page), 12 counted (weigh,
+              deficiency)
     1 byte    the refusal's number, else 0
     2 bytes   the refusal's place, the number of models (formulas), that of the bytes written (read_text, write_text) or that of the
               filled lines (page), else 0
     1 byte    n, the number of variables, if accepted, that of the variables counted, if counted, else 0
-    1 byte    m, the number of clauses, if accepted, that of the marked ones, if counted, else 0
+    1 byte    m, the number of clauses, if accepted, that of the marked ones (weigh) or of those left over (deficiency), if counted,
+              else 0
 
 Own fields of check, 8 bytes: the assignment.
 
@@ -47,6 +49,9 @@ Own fields of weigh, 98 bytes. The lent buffer is the first bytes of an array of
 Each vector of judge is one of weigh too, on the buffer that judge leaves. At refusal 10 with the place k the marks weigh k clauses and
 k - 1 variables; any other refusal is that of judge; and of an accepted formula the clauses are counted whose byte is not 0, and the
 variables that they name, those that are assumed not.
+
+Deficiency, in VECTORS shortfall, has no own fields. From a vector of judge it is known where that is refused as unreadable, by the same
+number and place, and where a formula is accepted under no assumption with no clause dropped: then it is 0.
 
 Own fields of read_text and write_text, 3 bytes. They expect the bytes that are to be written:
 
@@ -128,7 +133,9 @@ CONVERTED, FILLED, COUNTED = 10, 11, 12
 SAYS = {'no': NO, 'yes': YES, 'refused': REFUSED, 'set-up': MODEL, 'spent': SPENT, 'ended': ENDED}
 READ = 16384  # bytes of standard input that the printing program reads
 WRITTEN = 96  # bytes of the array that judge may write, and weigh reads
+UNREADABLE_NUMBERS = range(2, 10)  # of the refusals of reading
 UNMATCHED_NUMBER = 10  # of the refusal at which judge leaves marks
+DROPPED = 128  # what judge adds to the variable that dropped a clause
 PAGE_LINES, LINE_SIZE = 50, 60  # of a page
 START, LAST = 1, 2  # the checkpoint that a walk call gets, if it is not given
 
@@ -222,6 +229,24 @@ def weigh_vector(number, v):
     return [[coded(number, (given, assumed), answer, buffer_fields(v['slate_len'], v['slate_fill'], after[:WRITTEN]))]]
 
 
+def measured(number, given, refusal, deficiency):
+    """The vector of a deficiency, which is 0 if it is refused."""
+    says, refusal = (REFUSED, refusal) if refusal else (COUNTED, (0, 0))
+    return coded(number, given, answer_of(says, *refusal, m=deficiency), b'')
+
+
+def deficiency_vector(number, v):
+    return [[measured(number, bytes.fromhex(v['sheet']), v['refusal'], v['shortfall'])]]
+
+
+def deficiency_judged(number, v):
+    """From a vector of judge, where it tells the deficiency: it has the refusals of reading, and 0 if all clauses are matched."""
+    given, assumed = assumed_input(v)
+    unreadable = v['refusal'] and v['refusal'][0] in UNREADABLE_NUMBERS
+    whole = not v['refusal'] and not assumed and all(b < DROPPED for b in bytes.fromhex(v['slate'])[:v['m']])
+    return [[measured(number, given, v['refusal'], 0)]] if unreadable or whole else []
+
+
 def converted(number, given, length, fill, refusal, output):
     """The vector of a conversion: of what is given, with a lent buffer, either refused or into the bytes of `output`."""
     answer = answer_of(REFUSED, *refusal) if refusal else answer_of(CONVERTED, place=len(output))
@@ -311,9 +336,10 @@ def printed_vector(number, v):
     return [[printed_text(number, bytes.fromhex(v['stdin']), v['stdout'])]]
 
 
-ACTS = {'check': check_vector, 'judge': judge_vector, 'weigh': weigh_vector, 'read_text': read_vector, 'write_text': write_vector,
-        'start': start_vector, 'walk': walk_vector, 'chain': chain_vector, 'wait': wait_vector, 'listing': listing_vector,
-        'list': list_vector, 'page': page_vector, 'printed': printed_vector}
+ACTS = {'check': check_vector, 'judge': judge_vector, 'weigh': weigh_vector, 'deficiency': deficiency_vector, 'read_text': read_vector,
+        'write_text': write_vector, 'start': start_vector, 'walk': walk_vector, 'chain': chain_vector, 'wait': wait_vector,
+        'listing': listing_vector, 'list': list_vector, 'page': page_vector, 'printed': printed_vector}
+NAMES = {'shortfall': 'deficiency'}  # of acts of VECTORS that have another name here
 UNITS = {'chain': 'calls', 'wait': 'chains', 'listing': 'calls'}  # what is counted, if not vectors
 
 
@@ -845,6 +871,57 @@ WEIGH_ASSUMED = [
     ((ALL_FREE, ALL_TRUE), 96, 0xff, COUNTED, 0, 0, 0, 0, ''),
     ((FULLEST, ALL_TRUE), 255, 0xff, COUNTED, 0, 0, 0, 96, ''),
     ((FULLEST, '01 00 30 00'), 96, 0, COUNTED, 0, 0, 46, 96, 96 * '01 '),
+]
+
+
+# deficiency: input, and the deficiency or the refusal's number and place
+DEFICIENCY_EDGES = [
+    # no clauses, and matched whole, some of them over a path that ends at variable 48
+    *((given, 0) for given in ('01 01 05', '01 30 05', EXAMPLE, AGAIN, REMATCHED, ONE_OF_TWO, SINGLES, '01 30' + 48 * WIDE + ' 05',
+                               LINKS + ' 05', LINKS + ' 02 01 04 05', SIGNED + ' 03 01 04 05')),
+    # one clause is left over: where stripping would drop some, and where judge marks some
+    *((given, 1) for given in (UNMATCHED, TWICE, PARTLY, LINKS + ' 02 01 04 02 01 04 05', LINKS + ' 02 01 04 02 30 04 05',
+                               SIGNED + ' 03 01 04 02 30 04 05', SIGNED + ' 02 01 04 03 01 04 05', '01 30' + 48 * WIDE + NARROW + ' 05')),
+    *((given, 2) for given in (MARKED, THREE_OF_FIVE, LOWER, HIGHER)),
+    # empty clauses: before matched ones, between them and behind them
+    *((given, 1) for given in ('01 01 04 05', '01 01 04 02 01 04 05', '01 01 02 01 04 04 05', '01 02 02 01 04 04 03 02 04 05')),
+    ('01 02 04 02 01 04 04 03 02 04 04 05', 3),
+    # what comes behind a clause that is left over is matched: a free variable, and a path, a short one and one that ends at variable 48
+    ('01 02 02 01 04 02 01 04 02 02 04 05', 1),
+    ('01 02 02 01 04 02 01 04 02 01 02 02 04 05', 1),
+    ('01 03 02 01 04 02 01 04 02 02 02 03 04 02 02 04 05', 1),
+    ('01 30' + EMPTY + LINKS[5:] + ' 02 01 04 05', 1),
+    ('01 30 02 30 04 02 30 04' + SINGLES[5:], 2),
+    ('01 30' + 48 * EMPTY + SINGLES[5:], 48),
+    # a set of clauses over one variable fewer, beside variables that nothing names
+    ('01 30 02 01 02 02 04 03 01 03 02 04 02 01 03 02 04 05', 1),
+    ('01 30 02 2f 02 30 04 03 2f 03 30 04 02 2f 03 30 04 05', 1),
+    # a clause again and again: each beyond the variables that it names is left over
+    *(('01 01' + k * TRUE + ' 05', k - 1) for k in (1, 3, 48, 49, 95)),
+    *(('01 02' + k * ' 03 01 02 02 04' + ' 05', k - 2) for k in (2, 3, 4, 96)),
+    *(('01 01' + k * EMPTY + ' 05', k) for k in (2, 95)),
+    # 96 clauses: empty, all the same, those of one variable each twice, with one sign and with both, and those that name all variables
+    ('01 01' + 96 * EMPTY + ' 05', 96),
+    (MOST_TRUE, 95),
+    (SINGLES[:-3] + SINGLES[5:], 48),
+    ('01 30' + ''.join(' 02 %02x 04 03 %02x 04' % (v, v) for v in range(1, 49)) + ' 05', 48),
+    (FULLEST, 48),
+    ('01 30' + 48 * (WIDE + NARROW) + ' 05', 48),
+    # literals that come again: as without them
+    ('01 02 02 01 02 01 04 02 01 02 01 04 05', 1),
+    ('01 01 02 01 02 01 04 03 01 03 01 04 05', 1),
+    ('01 30' + 2 * ALL + ' 04 05', 0),
+    # each refusal of reading, also behind clauses that are left over
+    *((given, (number, place)) for given, number, place in UNREAD),
+    (UNREADABLE, (3, 2)),
+    ('01 01 04 04 06', (3, 4)),
+    ('01 01' + 96 * EMPTY, (2, 98)),
+    ('01 01' + 96 * EMPTY + ' 02 01 05', (4, 100)),
+    ('01 01' + 96 * EMPTY + ' 02 02 04 05', (6, 98)),
+    ('01 01' + 96 * EMPTY + ' 02 01 03 01 04 05', (7, 100)),
+    ('01 01' + 97 * TRUE + ' 05', (8, 292)),
+    ('01 01' + 96 * EMPTY + ' 05 05', (9, 99)),
+    (FULLEST + ' 05', (9, 9315)),
 ]
 
 
@@ -1497,6 +1574,11 @@ def buffer_edge(number, given, length, fill, *answer_written):
     return coded(number, given, answer_of(*answer), buffer_fields(length, fill, bytes.fromhex(written)))
 
 
+def deficiency_edge(number, given, expected):
+    refusal, deficiency = (expected, 0) if isinstance(expected, tuple) else (None, expected)
+    return measured(number, given, refusal, deficiency)
+
+
 def walk_edge(number, given, origin, budget, says, refusal, place, model, returned, *counts):
     return coded(number, given, answer_of(says, refusal, place), walk_fields(model, *counts, returned, origin, budget))
 
@@ -1533,6 +1615,7 @@ def write_edge(number, given, expected, length=18636, fill=0xa5):
 EDGES = {'check': [('check_edges', 60000, CHECK_EDGES, check_edge)],
          'judge': [('judge_edges', 61000, JUDGE_EDGES, buffer_edge), ('judge_assumed', 61500, JUDGE_ASSUMED, buffer_edge)],
          'weigh': [('weigh_edges', 61200, WEIGH_EDGES, buffer_edge), ('weigh_assumed', 61700, WEIGH_ASSUMED, buffer_edge)],
+         'deficiency': [('deficiency_edges', 61800, DEFICIENCY_EDGES, deficiency_edge)],
          'walk': [('walk_edges', 62000, WALK_EDGES, walk_edge), ('walk_assumed', 62500, WALK_ASSUMED, walk_edge)],
          'wait': [('wait_edges', 62650, WAIT_EDGES, waiting)],
          'list': [('list_edges', 63100, LIST_EDGES, list_edge)],
@@ -1586,13 +1669,15 @@ def groups_of(lines):
         if LINES < number:
             sys.exit(f'there are more than {LINES:,} vectors')
         v = json.loads(line)
-        if v['act'] in ACTS:
-            add(v['act'], ACTS[v['act']], number, v)
-        if v['act'] == 'judge':
+        act = NAMES.get(v['act'], v['act'])
+        if act in ACTS:
+            add(act, ACTS[act], number, v)
+        if act == 'judge':
             add('weigh', weigh_vector, number, v)
-        if v['act'] == 'chain':
+            add('deficiency', deficiency_judged, number, v)
+        if act == 'chain':
             add('wait', wait_vector, number, v)
-        if v['act'] == 'listing':
+        if act == 'listing':
             add('list', list_vector, number, v)
         if 'sheet' in v or 'stdin' in v:
             given, assumed = assumed_input(v) if 'sheet' in v else (bytes.fromhex(v['stdin'])[:READ], b'')

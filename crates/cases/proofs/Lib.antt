@@ -3,6 +3,7 @@ pub mod ConvertingLaws
 pub mod JudgingLaws
 pub mod LendLaws
 pub mod ListingLaws
+pub mod MeasuringLaws
 pub mod PagingLaws
 pub mod PrintsLaws
 pub mod RunLaws

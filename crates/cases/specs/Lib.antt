@@ -2,6 +2,7 @@ pub mod Assuming
 pub mod Converting
 pub mod Judging
 pub mod Listing
+pub mod Measuring
 pub mod Paging
 pub mod Prints
 pub mod Runs

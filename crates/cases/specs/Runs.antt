@@ -9,7 +9,7 @@ use Rattle.walk.specs.Checkpoints.{Checkpoint, start}
 use Rattle.vectors.specs.declared.corpus.Vector.{Vector}
 use Rattle.vectors.specs.declared.corpus.Framed.the-variants.{Whole, Broken}
 use Rattle.cases.specs.declared.runs.Act.{Act}
-use Rattle.cases.specs.declared.runs.Act.the-variants.{Check, Judge, Weigh, ReadText, WriteText, Start, Walk, Wait, Listing, Models, Page, Compare, Print}
+use Rattle.cases.specs.declared.runs.Act.the-variants.{Check, Judge, Weigh, Deficiency, ReadText, WriteText, Start, Walk, Wait, Listing, Models, Page, Compare, Print}
 use Rattle.cases.specs.declared.runs.Run.{Run}
 use Rattle.vectors.specs.declared.totals.Totals.{Totals}
 use Rattle.vectors.specs.Checking.{check-agrees}
@@ -17,6 +17,7 @@ use Rattle.vectors.specs.Corpus.{framed}
 use Rattle.cases.specs.Converting.{convert-agrees}
 use Rattle.cases.specs.Judging.{judge-agrees}
 use Rattle.cases.specs.Listing.{listing-agrees, listing-leaves, list-agrees, list-leaves}
+use Rattle.cases.specs.Measuring.{deficiency-agrees}
 use Rattle.cases.specs.Paging.{page-agrees, page-leaves}
 use Rattle.cases.specs.Prints.{print-agrees}
 use Rattle.vectors.specs.Totals.{counted, Grown}
@@ -30,6 +31,7 @@ abbrev pub size-of : Act → ℕ
 size-of Check = 14
 size-of Judge = 104
 size-of Weigh = 104
+size-of Deficiency = 6
 size-of ReadText = 9
 size-of WriteText = 9
 size-of Start = stored-checkpoint-size
@@ -51,6 +53,7 @@ abbrev pub act-agrees : Act → List ℕ → Vector → Checkpoint → Bool
 act-agrees Check s v last = check-agrees s v
 act-agrees Judge s v last = judge-agrees s v
 act-agrees Weigh s v last = weigh-agrees s v
+act-agrees Deficiency s v last = deficiency-agrees s v
 act-agrees ReadText s v last = convert-agrees true s v
 act-agrees WriteText s v last = convert-agrees false s v
 act-agrees Start s v last = start-agrees s v
@@ -67,6 +70,7 @@ abbrev pub leaves : Act → List ℕ → Vector → Checkpoint → Checkpoint
 leaves Check s v last = last
 leaves Judge s v last = last
 leaves Weigh s v last = last
+leaves Deficiency s v last = last
 leaves ReadText s v last = last
 leaves WriteText s v last = last
 leaves Start s v last = last

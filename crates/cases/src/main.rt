@@ -14,6 +14,7 @@
 //   bytes of an array of 256, which has the fill everywhere before the call and from byte 96 on after it.
 // - weigh: the length of the lent buffer (1 byte), the fill (1 byte) and the first 96 bytes. The buffer is the first bytes of an array of
 //   256, which has these bytes and then the fill.
+// - deficiency: none. An answer that says counted has 0 variables, and the deficiency as its number of clauses.
 // - read_text, write_text: the length of the lent buffer (2 bytes) and the fill (1 byte). The buffer has the fill everywhere before the
 //   call, and behind the expected bytes after it. An answer that says written has their number as the place.
 // - start: the start checkpoint (50 bytes: mode, length, 48 bytes), and no expected answer.
@@ -41,6 +42,7 @@ mod converting;
 mod judging;
 mod lending;
 mod listing;
+mod measuring;
 mod paging;
 mod prints;
 mod runs;
@@ -108,6 +110,8 @@ fn main() {
     run_files(b"weigh", Act::Weigh, b"vectors");
     run_alone(b"weigh_edges", Act::Weigh);
     run_alone(b"weigh_assumed", Act::Weigh);
+    run_files(b"deficiency", Act::Deficiency, b"vectors");
+    run_alone(b"deficiency_edges", Act::Deficiency);
     run_files(b"read_text", Act::ReadText, b"vectors");
     run_alone(b"read_text_edges", Act::ReadText);
     run_files(b"write_text", Act::WriteText, b"vectors");

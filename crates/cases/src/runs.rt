@@ -10,6 +10,7 @@ use crate::converting::convert_vector;
 use crate::judging::judge_vector;
 use crate::listing::list_vector;
 use crate::listing::listing_vector;
+use crate::measuring::deficiency_vector;
 use crate::paging::page_vector;
 use crate::prints::print_vector;
 use crate::trying::compare_vector;
@@ -31,6 +32,7 @@ pub enum Act {
     Check,
     Judge,
     Weigh,
+    Deficiency,
     ReadText,
     WriteText,
     Start,
@@ -57,6 +59,7 @@ fn fields_of(act: Act) -> usize
         Act::Check => 14,
         Act::Judge => 104,
         Act::Weigh => 104,
+        Act::Deficiency => 6,
         Act::ReadText => 9,
         Act::WriteText => 9,
         Act::Start => CHECKPOINT_SIZE,
@@ -86,6 +89,10 @@ fn run_vector(bytes: &[u8], v: Vector, act: Act, last: Checkpoint) -> Compared
         },
         Act::Weigh => Compared {
             agrees: weigh_vector(bytes, v),
+            last,
+        },
+        Act::Deficiency => Compared {
+            agrees: deficiency_vector(bytes, v),
             last,
         },
         Act::ReadText => Compared {
