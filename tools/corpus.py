@@ -3,8 +3,8 @@
 
 VECTORS has one JSON object a line: "act", its input and the expected answer. Vectors of an act that has no coder below are left out. So
 is one that does not fit the format, and that is said. If all of them together don't fit, nothing is written. Every readable input among
-them is also written as a text, and that text read again; what each judge leaves in the buffer is weighed, and the deficiency asked for
-where judge tells it; and the steps between the models of each chain, and before and behind them, are compared with their trails.
+them is also written as a text, and that text read again; what each judge leaves in the buffer is weighed, and the deficiency of its
+input asked for; and the steps between the models of each chain, and before and behind them, are compared with their trails.
 
 Format. A file holds vectors of one act, one after the other, and nothing else; it has at most 65,536 bytes, so an act has
 files NAMEa, NAMEb, .., at most 26; start has one, start, and the edge cases of an act have one, NAME_edges, and for judge, weigh and
@@ -50,8 +50,8 @@ Each vector of judge is one of weigh too, on the buffer that judge leaves. At re
 k - 1 variables; any other refusal is that of judge; and of an accepted formula the clauses are counted whose byte is not 0, and the
 variables that they name, those that are assumed not.
 
-Deficiency, in VECTORS shortfall, has no own fields. From a vector of judge it is known where that is refused as unreadable, by the same
-number and place, and where a formula is accepted under no assumption with no clause dropped: then it is 0.
+Deficiency, in VECTORS shortfall, has no own fields. Each vector of judge is one of deficiency too: refused by the same number and place if
+that is unreadable, else with the clauses that a largest matching of the input, found here, leaves over.
 
 Own fields of read_text and write_text, 3 bytes. They expect the bytes that are to be written:
 
@@ -135,7 +135,6 @@ READ = 16384  # bytes of standard input that the printing program reads
 WRITTEN = 96  # bytes of the array that judge may write, and weigh reads
 UNREADABLE_NUMBERS = range(2, 10)  # of the refusals of reading
 UNMATCHED_NUMBER = 10  # of the refusal at which judge leaves marks
-DROPPED = 128  # what judge adds to the variable that dropped a clause
 PAGE_LINES, LINE_SIZE = 50, 60  # of a page
 START, LAST = 1, 2  # the checkpoint that a walk call gets, if it is not given
 
@@ -240,11 +239,12 @@ def deficiency_vector(number, v):
 
 
 def deficiency_judged(number, v):
-    """From a vector of judge, where it tells the deficiency: it has the refusals of reading, and 0 if all clauses are matched."""
-    given, assumed = assumed_input(v)
-    unreadable = v['refusal'] and v['refusal'][0] in UNREADABLE_NUMBERS
-    whole = not v['refusal'] and not assumed and all(b < DROPPED for b in bytes.fromhex(v['slate'])[:v['m']])
-    return [[measured(number, given, v['refusal'], 0)]] if unreadable or whole else []
+    """From a vector of judge: the refusals of reading are the same, and of a readable input the clauses left over are counted."""
+    given = bytes.fromhex(v['sheet'])
+    if v['refusal'] and v['refusal'][0] in UNREADABLE_NUMBERS:
+        return [[measured(number, given, v['refusal'], 0)]]
+    formula = read(given)
+    return [[measured(number, given, None, left_over(formula[1]))]] if formula else []
 
 
 def converted(number, given, length, fill, refusal, output):
@@ -368,8 +368,8 @@ def read(given):
     return None
 
 
-def matchable(clauses):
-    """Whether each clause can have a variable of its own."""
+def left_over(clauses):
+    """How many clauses get no variable of their own if as many as can be do."""
     owner = {}
 
     def place(c, seen):
@@ -381,7 +381,7 @@ def matchable(clauses):
                     return True
         return False
 
-    return all(place(c, set()) for c in range(len(clauses)))
+    return sum(not place(c, set()) for c in range(len(clauses)))
 
 
 def left(clauses):
@@ -428,7 +428,7 @@ def formula_answer(given, assumed):
     if formula is None or 12 < formula[0]:
         return answer_of(NOT_COMPARED)
     values = values_of(formula[0], assumed)
-    if values is None or not matchable(left(remaining(formula[1], values))):
+    if values is None or left_over(left(remaining(formula[1], values))):
         return answer_of(NOT_COMPARED)
     return answer_of(LISTED, place=models(*formula, values))
 
