@@ -54,7 +54,7 @@
  *
  *              check  judge        weigh            deficiency  walk         list                   page          from_dimacs, to_dimacs
  *   results[0] the answer, 0 to 3 as below
- *   results[1] 0      0            0                0           model, or 0  the last call's, or 0  0             0
+ *   results[1] 0      0            0                0           model, or 0  last call's, or 0      0             0
  *   results[2] the refusal's number, or 0 if the answer is no refusal
  *   results[3] the refusal's place, or 0 if the answer is no refusal
  *   results[4] 0      variables n  marked clauses   deficiency  steps made   models written         lines filled  bytes written
@@ -233,14 +233,14 @@ uint32_t norwythai_weigh(const uint8_t *input, size_t input_length, const uint8_
                          const uint8_t *buffer, size_t buffer_length, uint64_t *results, size_t results_length);
 
 /*
- * How far the formula, which need not be accepted, is from being matched: results[4] is its deficiency (trade's word: shortfall), the
- * number of its clauses less the most of them that can be matched together.
+ * How far the formula, which need not be accepted, is from being matched: results[4] is its deficiency (the field's maximum deficiency;
+ * trade's word: shortfall), the number of its clauses less the most of them that can be matched together.
  * Reads the input; writes the results. Only an input that can't be read is refused, by 2 to 9.
- * The deficiency is the largest excess of clauses over the variables that they name in any set of clauses, the empty set included. Within
- * the 96 clauses one more, at any place, leaves it or raises it by one, and one fewer leaves it or lowers it by one. At least so many
- * clauses have to be struck until the others are matched, and so many are enough, if they are the right ones.
+ * Some of the clauses are by so many more than the variables that they name, and none are by more. At least so many clauses have to be
+ * struck until the others are matched, and so many are enough, if they are the right ones. One clause more, at any place, leaves it or
+ * raises it by one; one fewer leaves it or lowers it by one.
  * It takes no assumptions, and nothing is stripped before. It is 0 exactly if the formula is matched as a whole, and so accepted without
- * assumptions. A formula that judge accepts since it strips down has a deficiency above 0.
+ * assumptions. Where judge, without assumptions, accepts a formula only since it strips down, it is above 0.
  * With `input_length` 0, `input` is the address of any byte and not null.
  */
 NORWYTHAI_NODISCARD

@@ -51,7 +51,8 @@ k - 1 variables; any other refusal is that of judge; and of an accepted formula 
 variables that they name, those that are assumed not.
 
 Deficiency, in VECTORS shortfall, has no own fields. Each vector of judge is one of deficiency too: refused by the same number and place if
-that is unreadable, else with the clauses that a largest matching of the input, found here, leaves over.
+that is one of reading's, else with the clauses that a largest matching of the input, found here, leaves over; none if another refusal hides
+that it is unreadable.
 
 Own fields of read_text and write_text, 3 bytes. They expect the bytes that are to be written:
 
@@ -228,10 +229,10 @@ def weigh_vector(number, v):
     return [[coded(number, (given, assumed), answer, buffer_fields(v['slate_len'], v['slate_fill'], after[:WRITTEN]))]]
 
 
-def measured(number, given, refusal, deficiency):
-    """The vector of a deficiency, which is 0 if it is refused."""
+def measured(number, given, refusal, left_over):
+    """The vector of a deficiency, so many clauses left over; none if it is refused."""
     says, refusal = (REFUSED, refusal) if refusal else (COUNTED, (0, 0))
-    return coded(number, given, answer_of(says, *refusal, m=deficiency), b'')
+    return coded(number, given, answer_of(says, *refusal, m=left_over), b'')
 
 
 def deficiency_vector(number, v):
@@ -244,7 +245,7 @@ def deficiency_judged(number, v):
     if v['refusal'] and v['refusal'][0] in UNREADABLE_NUMBERS:
         return [[measured(number, given, v['refusal'], 0)]]
     formula = read(given)
-    return [[measured(number, given, None, left_over(formula[1]))]] if formula else []
+    return [[measured(number, given, None, deficiency(formula[1]))]] if formula else []
 
 
 def converted(number, given, length, fill, refusal, output):
@@ -368,8 +369,8 @@ def read(given):
     return None
 
 
-def left_over(clauses):
-    """How many clauses get no variable of their own if as many as can be do."""
+def deficiency(clauses):
+    """How many clauses get no variable of their own where as many as can be get one."""
     owner = {}
 
     def place(c, seen):
@@ -428,7 +429,7 @@ def formula_answer(given, assumed):
     if formula is None or 12 < formula[0]:
         return answer_of(NOT_COMPARED)
     values = values_of(formula[0], assumed)
-    if values is None or left_over(left(remaining(formula[1], values))):
+    if values is None or deficiency(left(remaining(formula[1], values))):
         return answer_of(NOT_COMPARED)
     return answer_of(LISTED, place=models(*formula, values))
 
@@ -1575,8 +1576,8 @@ def buffer_edge(number, given, length, fill, *answer_written):
 
 
 def deficiency_edge(number, given, expected):
-    refusal, deficiency = (expected, 0) if isinstance(expected, tuple) else (None, expected)
-    return measured(number, given, refusal, deficiency)
+    refusal, left_over = (expected, 0) if isinstance(expected, tuple) else (None, expected)
+    return measured(number, given, refusal, left_over)
 
 
 def walk_edge(number, given, origin, budget, says, refusal, place, model, returned, *counts):

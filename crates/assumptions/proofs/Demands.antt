@@ -34,6 +34,9 @@ pub no-assumptions : (n : ℕ) → assumed n [] ≡ literals []
 unfolding assumed assumed-from
 no-assumptions n = refl
 
+pub none-bad : (n : ℕ) → NoneBad n []
+none-bad n = literals-exactly n [] .0 ([], no-assumptions n)
+
 -- S17.1: of more than n assumptions one of the first n + 1 is bad
 pub no-more : (n : ℕ) (us : List Assumption) → n < length us → (i : ℕ) × (i ≤ n) × (assumed n us ≡ bad i)
 no-more = more-bad

@@ -26,7 +26,7 @@ use Rattle.formula.specs.Refusals.{table-row}
 use Rattle.formula.specs.Table.{Refuses}
 use Rattle.formula.proofs.Demands.{accepted-only, accepted-all, accepted-fits, refused-only, numbers}
 use Rattle.formula.proofs.MaskedLaws.{Accepts}
-use Rattle.assumptions.specs.FirstBad.{NoneBad}
+use Rattle.assumptions.proofs.Demands.{none-bad}
 use Rattle.matching.specs.Sets.{Words, union, selected}
 use Rattle.matching.specs.Result.{Clauses}
 use Rattle.matching.specs.Deficiency.{most, deficiency}
@@ -184,10 +184,6 @@ module _ (s : List ℕ) where
 nothing-assumed : (cs : List (List Literal)) → remaining [] cs ≡ cs
 unfolding remaining
 nothing-assumed cs = refl
-
-none-bad : (n : ℕ) → NoneBad n []
-none-bad n [] u q e = let z : _≡_ {A = ℕ} 0 1 = cc e in absurd (omega arith)
-none-bad n (w ∷ p) u q e = let z : _≡_ {A = ℕ} 0 1 = cc e in absurd (omega arith)
 
 pub none-pairable : (s : List ℕ) → (deficiency-of s ≡ measured 0) ↔ Pairable s []
 none-pairable s = (λ e. paired (decode s) refl e, none)

@@ -1,7 +1,7 @@
 -- What judge owes to the demands (S10), under assumptions (S17), with stripping (S18), and of its marks (S20); and what is owed of the
--- deficiency (S22). Demand 1: a short buffer is
--- refused first, a bad assumption behind the reader's refusals, and every byte of the buffer is fixed. Demand 2: a formula is accepted
--- exactly if what stripping leaves of what remains is matched; if it is not, a violator is shown, none of whose clauses could be spared.
+-- deficiency (S22). Demand 1: a short buffer is refused first, a bad assumption behind the reader's refusals, and every byte of the buffer
+-- is fixed. Demand 2: a formula is accepted exactly if what stripping leaves of what remains is matched; if it is not, a violator is shown,
+-- none of whose clauses could be spared.
 use Prim.Native.Nat.{ℕ, suc, _+_, _-_, _≤_, _<_}
 use mathlib.Core.Bool.{true, false, cond, not, _&&_}
 use mathlib.Core.List.{List, [], _∷_, _++_, map, List·Memᴰ, Sublistᴰ}
@@ -27,7 +27,7 @@ use Rattle.assumptions.specs.FirstBad.{NoneBad, FirstBad}
 use Rattle.assumptions.proofs.Demands.{bad-exactly, none-bad-literals, literals-over}
 use Rattle.matching.specs.Deficiency.{most, largest-excess}
 use Rattle.matching.specs.Sets.{union}
-use Rattle.matching.proofs.Theorems as largest
+use Rattle.matching.proofs.Theorems as over-masks
 use Rattle.splitting.specs.Nodes.{remaining, satisfied-by, lowest-with}
 use Rattle.splitting.specs.Stripping.{pure}
 use Rattle.splitting.specs.Choosing.{among}
@@ -259,7 +259,7 @@ module _ (s : List ℕ) (n : ℕ) (cs : List (List Literal)) (encodes : Encodes 
   pub deficiency-counts : deficiency-of s ≡ measured (length cs - most (map variables cs))
   deficiency-counts = deficiencies.clauses-less-most s n cs reads
 
-  -- some clauses of the formula, as many, have a matching,
+  -- some clauses, as many as these, have a matching,
   pub most-attained : (ds : List (List Literal)) × (vs : List ℕ) × Sublistᴰ ds cs × Pairs ds vs × (length ds ≡ most (map variables cs))
   most-attained = deficiencies.pairs-attained sized
 
@@ -269,13 +269,13 @@ module _ (s : List ℕ) (n : ℕ) (cs : List (List Literal)) (encodes : Encodes 
 
   -- S22.2: it is the largest excess of clauses over the variables that they name:
   pub deficiency-excess : deficiency-of s ≡ measured (largest-excess (map variables cs))
-  deficiency-excess = readable-deficiency s n cs reads ∙ ap measured (largest.deficiency-excess (map variables cs) (masks-words sized))
+  deficiency-excess = readable-deficiency s n cs reads ∙ ap measured (over-masks.deficiency-excess (map variables cs) (masks-words sized))
 
   -- some clauses are so many more than the variables that they name,
   pub excess-attained : (ds : List (List Literal)) × Sublistᴰ ds cs × (deficiency-of s .deficiency + size (union (map variables ds)) ≡ length ds)
   excess-attained = rw (readable-deficiency s n cs reads) (deficiencies.clauses-attained sized)
 
-  -- and none are by more; no clauses at all are more by 0.
+  -- and none are by more. The empty list has the excess 0.
   pub excess-bound : (ds : List (List Literal)) → Sublistᴰ ds cs → length ds ≤ deficiency-of s .deficiency + size (union (map variables ds))
   excess-bound = rw (readable-deficiency s n cs reads) (deficiencies.clauses-bound sized)
 

@@ -28,10 +28,11 @@ abbrev pub measured-values : Measured → MeasuredValues
 measured-values (Deficiency d) = measured d
 measured-values (Refused r) = unmeasured r
 
+-- what was read
 abbrev pub deficiency-read : Decoding → MeasuredValues
 deficiency-read (readable n cs) = measured (deficiency (map variables cs))
 deficiency-read (refused r) = unmeasured r
 
--- an input: refused by 2 to 9 as the reader does, and by nothing else
+-- S22.4: the deficiency (request: shortfall) of an input; it is refused by 2 to 9 as the reader does, and by nothing else
 unfoldable pub deficiency-of : List ℕ → MeasuredValues
 deficiency-of s = deficiency-read (decode s)

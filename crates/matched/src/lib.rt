@@ -1,5 +1,4 @@
-// Which inputs are accepted, each with its matching or a violator, the act judge, and how far an input is from being matched (S5.6, S5.7,
-// S17.2, S18, S20, S22).
+// Which inputs are accepted, each with its matching or a violator; the acts judge and deficiency (S5.6, S5.7, S17.2, S18, S20, S22).
 //
 // `accept` says what comes of an input (`acceptance`) to judge, walk, list, page and print, which have read it; judge writes it into a
 // lent buffer. `weigh_marks` counts the clauses that a buffer marks and the variables that they name. `deficiency` asks nothing of these.

@@ -21,21 +21,21 @@ use Rattle.matching.specs.Sets.{Words, union, selected}
 use Rattle.matching.specs.InnerMatched.{Matched}
 use Rattle.matching.specs.Search.{owner, Search, next-search, rematch-from, search-bound}
 use Rattle.matching.specs.Inner.{at, Partial}
-use Rattle.matching.proofs.Counting.{one-if, pigeon, count-all}
+use Rattle.matching.proofs.Counting.{one-if, pigeon, count-sub, count-all}
 use Rattle.matching.proofs.OwnerLaws.{zero-or-suc, owner-free, owner-some}
 use Rattle.matching.proofs.Augmenting.{snoc-cases, rematch-partial}
 use Rattle.matching.proofs.SearchLaws.{Stuck, Reached, search-next}
 use Rattle.matching.proofs.SelectedLaws.{selected-from, selected-size, selected-sub, sub-selected}
-use Rattle.matching.proofs.MatchedLaws.{union-of, union-in, count-members, matched-room, selected-in, sub-matched}
-use Rattle.matching.proofs.OutcomeLaws.{words-selected}
+use Rattle.matching.proofs.MatchedLaws.{union-of, union-in, count-members, matched-room, selected-in, sub-list-matched}
+use Rattle.matching.proofs.OutcomeLaws.{words-selected, partial-matches}
 
 -- ── Words and masks ───────────────────────────────────────────────────────────────────────────────────────────────────
 
 pub words-sub : {xs sets : List ℕ} → Sublistᴰ xs sets → Words sets → Words xs
 words-sub {sets = sets} s W = let k = sub-selected s in subst Words (k .1) (words-selected (k .0) sets W)
 
-pub words-all : (l : List ℕ) (s : ℕ) → Words l → List·Memᴰ s l → s < 2 ^ 64
-words-all l s W m = let p = element-place l s 0 m in rw (sym (p .2)) (W (p .0) (p .1))
+pub words-element : (l : List ℕ) (s : ℕ) → Words l → List·Memᴰ s l → s < 2 ^ 64
+words-element l s W m = let p = element-place l s 0 m in rw (sym (p .2)) (W (p .0) (p .1))
 
 -- one clause more
 pub words-more : (l : List ℕ) (s : ℕ) → Words l → s < 2 ^ 64 → Words (l ++ (s ∷ []))
@@ -45,22 +45,20 @@ words-more l s W h i k =
     (λ (p : (i < length l) × (at (l ++ (s ∷ [])) i ≡ at l i)). rw (p .1) (W i (p .0)))
     (snoc-cases l s i k)
 
--- all that the one mask has the other has
-abbrev pub Covers : ℕ → ℕ → Type 0
-Covers w s = (x : ℕ) → bit s x ≡ true → bit w x ≡ true
+-- the first mask has all that the second has
+abbrev pub Includes : ℕ → ℕ → Type 0
+Includes w s = (x : ℕ) → bit s x ≡ true → bit w x ≡ true
 
--- it is as large, then
-covers-size : (w s : ℕ) → Covers w s → size s ≤ size w
-covers-size w s c =
-    let k = pigeon (bit s) 64 (bit w) 64 (λ x. x) (λ x l t. (l, c x t)) (λ x y l m t u e. e) in
-    omega (arith, count-members s 64, count-members w 64)
+-- it is at least as large, then
+includes-size : (w s : ℕ) → Includes w s → size s ≤ size w
+includes-size w s c = omega (arith, count-sub (bit s) (bit w) 64 c, count-members s 64, count-members w 64)
 
--- what covers each clause of a list covers their union
-union-covered : (l : List ℕ) (w : ℕ) → ((s : ℕ) → List·Memᴰ s l → Covers w s) → Covers w (union l)
-union-covered l w f x t = let u = union-of l x t in f (at l (u .0)) (getD-element l (u .0) 0 (u .1)) x (u .2)
+-- what includes each clause of a list includes their union
+union-included : (l : List ℕ) (w : ℕ) → ((s : ℕ) → List·Memᴰ s l → Includes w s) → Includes w (union l)
+union-included l w f x t = let u = union-of l x t in f (at l (u .0)) (getD-element l (u .0) 0 (u .1)) x (u .2)
 
-covers-element : (l : List ℕ) (s : ℕ) → List·Memᴰ s l → Covers (union l) s
-covers-element l s m x t = let p = element-place l s 0 m in union-in l x (p .0) (p .1) (rw (p .2) t)
+element-included : (l : List ℕ) (s : ℕ) → List·Memᴰ s l → Includes (union l) s
+element-included l s m x t = let p = element-place l s 0 m in union-in l x (p .0) (p .1) (rw (p .2) t)
 
 -- ── Any clauses, and any that can be matched ──────────────────────────────────────────────────────────────────────────
 
@@ -88,8 +86,8 @@ pub any-with-matched : {xs ys sets : List ℕ} → Words sets → Sublistᴰ xs 
     → length xs + length ys ≤ length sets + size (union xs)
 any-with-matched {xs} {ys} {sets} W s t M =
     let c = common s t in
-    let a = matched-room (c .list) (words-sub (Sublistᴰ·trans (c .left) s) W) (sub-matched (c .right) M) in
-    let b = covers-size (union xs) (union (c .list)) (union-covered (c .list) (union xs) (λ k m. covers-element xs k (sub-within (c .left) k m))) in
+    let a = matched-room (c .list) (words-sub (Sublistᴰ·trans (c .left) s) W) (sub-list-matched (c .right) M) in
+    let b = includes-size (union xs) (union (c .list)) (union-included (c .list) (union xs) (λ k m. element-included xs k (sub-within (c .left) k m))) in
     omega (arith, c .few)
 
 -- ── Clauses kept and left aside ───────────────────────────────────────────────────────────────────────────────────────
@@ -126,79 +124,79 @@ parts-leave s no-clauses = one-aside s no-clauses
 parts-leave s (one-kept t p) = one-kept t (parts-leave s p)
 parts-leave s (one-aside t p) = one-aside t (parts-leave s p)
 
--- ---- the clauses that name nothing outside a mask
+-- ---- the clauses that a mask includes
 
 module _ (w : ℕ) where
-  -- the clause names nothing outside
-  inside : ℕ → Bool
-  inside s = eqb (minus s w) 0
+  -- the clause names nothing outside the mask
+  included : ℕ → Bool
+  included s = eqb (minus s w) 0
 
-  inside-covered : (s : ℕ) → inside s ≡ true → Covers w s
-  unfolding inside
-  inside-covered s e x t =
+  included-true : (s : ℕ) → included s ≡ true → Includes w s
+  unfolding included
+  included-true s e x t =
       ⊎-elim
       (λ (u : bit w x ≡ true). u)
       (λ (u : bit w x ≡ false).
       bool-clash (bit-minus s w x ∙ rw (t, u)) (ap (λ (m : ℕ). bit m x) (eqb-true (minus s w) 0 e) ∙ bit-none x))
       (bool-cases (bit w x))
 
-  covered-inside : (s : ℕ) → Covers w s → inside s ≡ true
-  unfolding inside
-  covered-inside s c = eq-eqb (minus s w) 0 (mask-same (minus s w) 0 (λ x. bit-minus s w x ∙ by x (bit s x) refl ∙ sym (bit-none x)))
+  true-included : (s : ℕ) → Includes w s → included s ≡ true
+  unfolding included
+  true-included s c = eq-eqb (minus s w) 0 (mask-same (minus s w) 0 (λ x. bit-minus s w x ∙ by x (bit s x) refl ∙ sym (bit-none x)))
     where
       by : (x : ℕ) (b : Bool) → bit s x ≡ b → b && not (bit w x) ≡ false
       by x true e = rw (c x e)
       by x false e = refl
 
   -- a mark for each of a list, and what they select
-  abbrev inside-marks : List ℕ → List ℕ
-  inside-marks l = map (λ s. one-if (inside s)) l
+  abbrev included-marks : List ℕ → List ℕ
+  included-marks l = map (λ s. one-if (included s)) l
 
-  abbrev all-inside : List ℕ → List ℕ
-  all-inside l = selected (inside-marks l) l
+  abbrev all-included : List ℕ → List ℕ
+  all-included l = selected (included-marks l) l
 
-  mark-inside : (l : List ℕ) (i : ℕ) → i < length l → (at (inside-marks l) i ≡ 0 → ⊥) → inside (at l i) ≡ true
-  mark-inside l i h ne =
+  mark-included : (l : List ℕ) (i : ℕ) → i < length l → (at (included-marks l) i ≡ 0 → ⊥) → included (at l i) ≡ true
+  mark-included l i h ne =
       ⊎-elim
       (λ t. t)
-      (λ (f : inside (at l i) ≡ false). absurd (ne (getD-map-in (λ s. one-if (inside s)) l i 0 0 h ∙ rw f)))
-      (bool-cases (inside (at l i)))
+      (λ (f : included (at l i) ≡ false). absurd (ne (getD-map-in (λ s. one-if (included s)) l i 0 0 h ∙ rw f)))
+      (bool-cases (included (at l i)))
 
-  inside-mark : (l : List ℕ) (i : ℕ) → i < length l → inside (at l i) ≡ true → at (inside-marks l) i ≡ 0 → ⊥
-  inside-mark l i h t z = let e : _≡_ {A = ℕ} 1 0 = sym (ap one-if t) ∙ sym (getD-map-in (λ s. one-if (inside s)) l i 0 0 h) ∙ z in omega arith
+  included-mark : (l : List ℕ) (i : ℕ) → i < length l → included (at l i) ≡ true → at (included-marks l) i ≡ 0 → ⊥
+  included-mark l i h t z = let e : _≡_ {A = ℕ} 1 0 = sym (ap one-if t) ∙ sym (getD-map-in (λ s. one-if (included s)) l i 0 0 h) ∙ z in omega arith
 
-  -- the mask covers what they name
-  inside-union : (l : List ℕ) → Covers w (union (all-inside l))
-  inside-union l = union-covered (all-inside l) w (λ s m x t.
-      let p = element-place (all-inside l) s 0 m in
-      let o = selected-from (inside-marks l) l 0 (p .0) (p .1) in
-      inside-covered s (rw (sym (p .2), o .4) (mark-inside l (o .0) (o .2) (o .3))) x t)
+  -- the mask includes what they name
+  included-union : (l : List ℕ) → Includes w (union (all-included l))
+  included-union l = union-included (all-included l) w (λ s m x t.
+      let p = element-place (all-included l) s 0 m in
+      let o = selected-from (included-marks l) l 0 (p .0) (p .1) in
+      included-true s (rw (sym (p .2), o .4) (mark-included l (o .0) (o .2) (o .3))) x t)
 
   -- of two parts
-  inside-parts : {kept aside sets : List ℕ} → Parts kept aside sets → length (all-inside sets) ≡ length (all-inside kept) + length (all-inside aside)
+  included-parts : {kept aside sets : List ℕ} → Parts kept aside sets → length (all-included sets) ≡ length (all-included kept) + length (all-included aside)
   unfolding selected
-  inside-parts no-clauses = refl
-  inside-parts (one-kept s {kept} {aside} {sets} p) = by (inside s) (inside-parts p)
+  included-parts no-clauses = refl
+  included-parts (one-kept s {kept} {aside} {sets} p) = by (included s) (included-parts p)
     where
-      by : (b : Bool) → length (all-inside sets) ≡ length (all-inside kept) + length (all-inside aside)
-          → length (cond (eqb (one-if b) 0) (all-inside sets) (s ∷ all-inside sets)) ≡ length (cond (eqb (one-if b) 0) (all-inside kept) (s ∷ all-inside kept)) + length (all-inside aside)
+      by : (b : Bool) → length (all-included sets) ≡ length (all-included kept) + length (all-included aside)
+          → length (cond (eqb (one-if b) 0) (all-included sets) (s ∷ all-included sets)) ≡ length (cond (eqb (one-if b) 0) (all-included kept) (s ∷ all-included kept)) + length (all-included aside)
       by true e = omega arith
       by false e = e
-  inside-parts (one-aside s {kept} {aside} {sets} p) = by (inside s) (inside-parts p)
+  included-parts (one-aside s {kept} {aside} {sets} p) = by (included s) (included-parts p)
     where
-      by : (b : Bool) → length (all-inside sets) ≡ length (all-inside kept) + length (all-inside aside)
-          → length (cond (eqb (one-if b) 0) (all-inside sets) (s ∷ all-inside sets)) ≡ length (all-inside kept) + length (cond (eqb (one-if b) 0) (all-inside aside) (s ∷ all-inside aside))
+      by : (b : Bool) → length (all-included sets) ≡ length (all-included kept) + length (all-included aside)
+          → length (cond (eqb (one-if b) 0) (all-included sets) (s ∷ all-included sets)) ≡ length (all-included kept) + length (cond (eqb (one-if b) 0) (all-included aside) (s ∷ all-included aside))
       by true e = omega arith
       by false e = e
 
   -- all of a list
-  inside-whole : (l : List ℕ) → ((s : ℕ) → List·Memᴰ s l → Covers w s) → length (all-inside l) ≡ length l
+  included-whole : (l : List ℕ) → ((s : ℕ) → List·Memᴰ s l → Includes w s) → length (all-included l) ≡ length l
   unfolding selected
-  inside-whole [] f = refl
-  inside-whole (s ∷ l) f =
-      rw (covered-inside s (f s (List·Memᴰ·head refl))) (ap suc (inside-whole l (λ k m. f k (List·Memᴰ·tail m))))
+  included-whole [] f = refl
+  included-whole (s ∷ l) f =
+      rw (true-included s (f s (List·Memᴰ·head refl))) (ap suc (included-whole l (λ k m. f k (List·Memᴰ·tail m))))
 
-  -- a list of variables that has all members of the mask is as long as the mask is large
+  -- a list of variables that has all members of the mask is at least as long as the mask is large
   mask-room : (vs : List ℕ) → ((x : ℕ) → bit w x ≡ true → (i : ℕ) × (i < length vs) × (at vs i ≡ x)) → size w ≤ length vs
   mask-room vs f =
       let k = pigeon (bit w) 64 (λ _. true) (length vs) (λ x. owner vs x - 1)
@@ -219,28 +217,28 @@ module _ (w : ℕ) where
 
 -- ---- closed masks
 
--- A mask that covers the clauses left aside, and with the variable of a kept clause the clause; each of its variables is that of a kept
+-- A mask that includes the clauses left aside, and with the variable of a kept clause the clause; each of its variables is that of a kept
 -- clause. m has the variables of the kept clauses, in order.
 pub record Closed (kept m aside : List ℕ) (w : ℕ) : Type 0 where
-  pub asides : (r : ℕ) → List·Memᴰ r aside → Covers w r
-  pub keeps : (i : ℕ) → i < length kept → bit w (at m i) ≡ true → Covers w (at kept i)
+  pub asides : (r : ℕ) → List·Memᴰ r aside → Includes w r
+  pub keeps : (i : ℕ) → i < length kept → bit w (at m i) ≡ true → Includes w (at kept i)
   pub used : (x : ℕ) → bit w x ≡ true → (i : ℕ) × (i < length m) × (at m i ≡ x)
 
--- the clauses inside it are more than they name, by as many as are left aside
+-- the clauses that it includes are more than they name, by at least as many as are left aside
 pub closed-excess : {kept m aside sets : List ℕ} {w : ℕ} → Parts kept aside sets → length m ≡ length kept → Closed kept m aside w
     → (u : List ℕ) × Sublistᴰ u sets × (length aside + size (union u) ≤ length u)
 closed-excess {kept} {m} {aside} {sets} {w} p e C =
-    let marks = inside-marks w kept in
-    let k : length marks ≡ length kept = length-map kept (λ s. one-if (inside w s)) in
-    let a = covers-size w (union (all-inside w sets)) (inside-union w sets) in
+    let marks = included-marks w kept in
+    let k : length marks ≡ length kept = length-map kept (λ s. one-if (included w s)) in
+    let a = includes-size w (union (all-included w sets)) (included-union w sets) in
     let b = mask-room w (selected marks m)
     (λ x t.
     let u = C .used x t in
     let l : u .0 < length kept = omega (arith, u .1) in
     let f = selected-in marks m (u .0) (rw k l) (u .1)
-    (inside-mark w kept (u .0) l (covered-inside w (at kept (u .0)) (C .keeps (u .0) l (rw (u .2) t)))) in
+    (included-mark w kept (u .0) l (true-included w (at kept (u .0)) (C .keeps (u .0) l (rw (u .2) t)))) in
     (f .at, f .within, f .is ∙ u .2)) in
-    (all-inside w sets, selected-sub (inside-marks w sets) sets, omega (arith, inside-parts w p, inside-whole w aside (C .asides), selected-size marks kept m (sym e)))
+    (all-included w sets, selected-sub (included-marks w sets) sets, omega (arith, included-parts w p, included-whole w aside (C .asides), selected-size marks kept m (sym e)))
 
 -- what a failed search for r saw is closed
 stuck-closed : (kept m : List ℕ) (r : ℕ) → Partial (kept ++ (r ∷ [])) m → length m ≡ length kept → (s : Search) → Stuck (kept ++ (r ∷ [])) m s
@@ -279,10 +277,10 @@ closed-both {kept} {m} {rs} {ts} {v} {w} C D = record {
   used = λ x t. ⊎-elim (C .used x) (D .used x) (or-cases (bit v x) (bit w x) (sym (bit-or v w x) ∙ t));
 }
   where
-    left : (s : ℕ) → Covers v s → Covers (bitOr v w) s
+    left : (s : ℕ) → Includes v s → Includes (bitOr v w) s
     left s c x t = bit-or v w x ∙ or-left (bit v x) (bit w x) (c x t)
 
-    right : (s : ℕ) → Covers w s → Covers (bitOr v w) s
+    right : (s : ℕ) → Includes w s → Includes (bitOr v w) s
     right s c x t = bit-or v w x ∙ or-right (bit v x) (bit w x) (c x t)
 
 -- ---- clauses that can't be matched with the kept ones
@@ -291,16 +289,12 @@ closed-both {kept} {m} {rs} {ts} {v} {w} C D = record {
 pub partial-longer : (kept m : List ℕ) (r : ℕ) → Partial kept m → length m ≡ length kept → Partial (kept ++ (r ∷ [])) m
 partial-longer kept m r M e = record { named = λ i h. rw (List·getD-append kept (r ∷ []) 0 i (omega arith)) (M .named i h); distinct = M .distinct }
 
--- a matching of all clauses
-pub partial-matched : (sets m : List ℕ) → Partial sets m → length m ≡ length sets → Matched sets
-partial-matched sets m M e =
-    (m, record { one-each = e; named = λ i h. M .named i (omega arith); distinct = λ i j h k. M .distinct i j (omega arith) (omega arith) })
-
 -- where a path is found, one clause more is matched
 reached-matched : (sets m : List ℕ) → Partial sets m → length sets ≡ suc (length m) → (s : Search) → Reached sets m s → Matched sets
 reached-matched sets m M e s R =
     let P = rematch-partial sets (s .links) search-bound m (s .free) M (R .1 .0) (R .1 .1) in
-    partial-matched sets (rematch-from search-bound (s .links) m (s .free)) (P .0) (omega (arith, P .1))
+    let n = rematch-from search-bound (s .links) m (s .free) in
+    (n, partial-matches sets n (P .0) (omega (arith, P .1)))
 
 -- so there is a closed mask for all of them
 pub aside-closed : (kept m : List ℕ) → Words kept → Partial kept m → length m ≡ length kept → (aside : List ℕ)

@@ -19,9 +19,9 @@ use Rattle.matching.specs.Inner.{Partial}
 use Rattle.matching.specs.Deficiency.{sub-lists, largest, matched-length, most, deficiency, excess, largest-excess}
 use Rattle.matching.proofs.Augmenting.{rematch-partial}
 use Rattle.matching.proofs.SearchLaws.{Stuck, Reached, search-next}
-use Rattle.matching.proofs.MatchedLaws.{sub-matched}
-use Rattle.matching.proofs.OutcomeLaws.{matched-succeeds, succeeds-matched, violator-unmatched, stuck-violator}
-use Rattle.matching.proofs.DeficiencyLaws.{Parts, no-clauses, parts-length, parts-kept, parts-aside, parts-keep, parts-leave, words-sub, words-all, words-more, any-with-matched, closed-excess, partial-longer, partial-matched, aside-closed}
+use Rattle.matching.proofs.MatchedLaws.{sub-list-matched}
+use Rattle.matching.proofs.OutcomeLaws.{partial-matches, matched-succeeds, succeeds-matched, violator-unmatched, stuck-violator}
+use Rattle.matching.proofs.DeficiencyLaws.{Parts, no-clauses, parts-length, parts-kept, parts-aside, parts-keep, parts-leave, words-sub, words-element, words-more, any-with-matched, closed-excess, partial-longer, aside-closed}
 
 -- ── Clause by clause ──────────────────────────────────────────────────────────────────────────────────────────────────
 
@@ -46,7 +46,7 @@ module _ (done kept m : List ℕ) (s : ℕ) (W : Words (done ++ (s ∷ []))) (K 
   kept-words : Words (kept ++ (s ∷ []))
   kept-words =
       words-more kept s (words-sub (Sublistᴰ·trans (parts-kept (K .parts)) (sub-front done (s ∷ []))) W)
-      (words-all (done ++ (s ∷ [])) s W (Memᴰ·append-right done (List·Memᴰ·head refl)))
+      (words-element (done ++ (s ∷ [])) s W (Memᴰ·append-right done (List·Memᴰ·head refl)))
 
   longer : Partial (kept ++ (s ∷ [])) m
   longer = partial-longer kept m s (K .partial) (K .long)
@@ -99,41 +99,41 @@ module _ (done kept m : List ℕ) (s : ℕ) (W : Words (done ++ (s ∷ []))) (K 
         parts = parts-keep s (K .parts);
         partial = P .0;
         long = P .1 ∙ sym one-long;
-        unmatched = λ r n w. K .unmatched r n (sub-matched (Sublistᴰ·append (sub-front kept (s ∷ [])) (Sublistᴰ·refl (r ∷ []))) w);
+        unmatched = λ r n w. K .unmatched r n (sub-list-matched (Sublistᴰ·append (sub-front kept (s ∷ [])) (Sublistᴰ·refl (r ∷ []))) w);
       })
       ended
 
 -- some clauses of any list are kept
-abbrev Kept : List ℕ → Type 0
-Kept done = (kept : List ℕ) × (m : List ℕ) × Keeping done kept m
+abbrev SomeKept : List ℕ → Type 0
+SomeKept done = (kept : List ℕ) × (m : List ℕ) × Keeping done kept m
 
-keep-rest : (rest done : List ℕ) → Words (done ++ rest) → Kept done → Kept (done ++ rest)
-keep-rest [] done W K = subst Kept (sym (append-nil done)) K
+keep-rest : (rest done : List ℕ) → Words (done ++ rest) → SomeKept done → SomeKept (done ++ rest)
+keep-rest [] done W K = subst SomeKept (sym (append-nil done)) K
 keep-rest (s ∷ rest) done W K =
     let e : (done ++ (s ∷ [])) ++ rest ≡ done ++ (s ∷ rest) = append-assoc done (s ∷ []) rest in
     let X : Words ((done ++ (s ∷ [])) ++ rest) = subst Words (sym e) W in
     let U : Words (done ++ (s ∷ [])) = words-sub (sub-front (done ++ (s ∷ [])) rest) X in
     let free = next-search (K .0 ++ (s ∷ [])) (K .1) .free in
-    subst Kept e (keep-rest rest (done ++ (s ∷ [])) X
+    subst SomeKept e (keep-rest rest (done ++ (s ∷ [])) X
     (⊎-elim
     (λ (t : eqb free 64 ≡ true). (K .0, K .1, keeping-leave done (K .0) (K .1) s U (K .2) (eqb-true free 64 t)))
     (λ (f : eqb free 64 ≡ false). (_, _, keeping-more done (K .0) (K .1) s U (K .2) (eqb-false free 64 f)))
     (bool-cases (eqb free 64))))
 
-keep : (sets : List ℕ) → Words sets → Kept sets
+keep : (sets : List ℕ) → Words sets → SomeKept sets
 keep sets W = keep-rest sets [] W ([], [], keeping-begin)
 
 -- ── What is kept is the most ──────────────────────────────────────────────────────────────────────────────────────────
 
 module _ (sets kept m : List ℕ) (W : Words sets) (K : Keeping sets kept m) where
   kept-matched : Matched kept
-  kept-matched = partial-matched kept m (K .partial) (K .long)
+  kept-matched = (m, partial-matches kept m (K .partial) (K .long))
 
   -- some clauses have as large an excess as are left aside,
   aside-excess : (u : List ℕ) × Sublistᴰ u sets × (length (K .aside) + size (union u) ≤ length u)
   aside-excess =
       let c = aside-closed kept m (words-sub (parts-kept (K .parts)) W) (K .partial) (K .long) (K .aside)
-      (λ r n. (words-all sets r W (sub-within (parts-aside (K .parts)) r n), K .unmatched r n)) in
+      (λ r n. (words-element sets r W (sub-within (parts-aside (K .parts)) r n), K .unmatched r n)) in
       closed-excess (K .parts) (K .long) (c .1)
 
   -- so that no more than the kept ones can be matched,

@@ -43,6 +43,9 @@ holding-begin sets = record {
   keeping = keeping-begin;
 }
 
+words-take : (n : ℕ) (sets : List ℕ) → n ≤ length sets → Words sets → Words (take n sets)
+words-take n sets l W j h = let e = length-take-le n sets l in rw (getD-take n sets j 0 (omega arith)) (W j (omega arith))
+
 module _ (sets : List ℕ) (count : ℕ) (C : Clauses sets count) (i k : ℕ) (kept table owners queue : List ℕ) (H : Holding sets i k kept table owners queue) (l : i < count) where
   -- the next clause, and the array with it
   abbrev s : ℕ
@@ -54,19 +57,19 @@ module _ (sets : List ℕ) (count : ℕ) (C : Clauses sets count) (i k : ℕ) (k
   low : k < max-clauses
   low = omega (arith, H .fewer, C .few)
 
-  inside : i < length sets
-  inside = omega (arith, C .present)
+  present : i < length sets
+  present = omega (arith, C .present)
 
   pub more-words : Words more
   more-words j h =
       let e = length-set kept k s in
       ⊎-elim
-      (λ (p : (j ≡ k) × (at more j ≡ s)). rw (p .1) (C .words i inside))
+      (λ (p : (j ≡ k) × (at more j ≡ s)). rw (p .1) (C .words i present))
       (λ (p : (j ≡ k → ⊥) × (at more j ≡ at kept j)). rw (p .1) (H .words j (omega arith)))
       (set-cases kept k s j (omega arith))
 
-  long : length (take k table) ≡ k
-  long = table-long kept k table owners (H .tables) (H .words) .1
+  matching-long : length (take k table) ≡ k
+  matching-long = table-long kept k table owners (H .tables) (H .words) .1
 
   pub more-tables : Tables more k table owners
   more-tables = record {
@@ -74,7 +77,7 @@ module _ (sets : List ℕ) (count : ℕ) (C : Clauses sets count) (i k : ℕ) (k
     held = H .tables .held;
     owned = H .tables .owned;
     partial = record {
-      named = λ j h. rw (getD-set-other kept k j s 0 (λ e. omega (arith, long))) (H .tables .partial .named j h);
+      named = λ j h. rw (getD-set-other kept k j s 0 (λ e. omega (arith, matching-long))) (H .tables .partial .named j h);
       distinct = H .tables .partial .distinct;
     };
   }
@@ -83,17 +86,14 @@ module _ (sets : List ℕ) (count : ℕ) (C : Clauses sets count) (i k : ℕ) (k
   more-taken = rw add-one (take-suc-set kept k s (omega (arith, low, H .wide)))
 
   next-done : take (i + 1) sets ≡ take i sets ++ (s ∷ [])
-  next-done = rw add-one (take-suc sets i 0 inside)
+  next-done = rw add-one (take-suc sets i 0 present)
 
   done-words : Words (take i sets ++ (s ∷ []))
-  done-words =
-      subst Words next-done (λ j h.
-      let e = length-take-le (i + 1) sets (omega (arith, inside)) in
-      rw (getD-take (i + 1) sets j 0 (omega arith)) (C .words j (omega (arith, inside))))
+  done-words = subst Words next-done (words-take (i + 1) sets (omega (arith, present)) (C .words))
 
   -- the search in the array is that of the list
   searched : next-search more (take k table) ≡ next-search (take k kept ++ (s ∷ [])) (take k table)
-  searched = sym (next-take (k + 1) more (take k table) (omega (arith, long))) ∙ ap (λ (x : List ℕ). next-search x (take k table)) more-taken
+  searched = sym (next-take (k + 1) more (take k table) (omega (arith, matching-long))) ∙ ap (λ (x : List ℕ). next-search x (take k table)) more-taken
 
   module _ (front : Front) (queue′ table′ owners′ : List ℕ) (A : Augmented more (take k table) front queue′ table′ owners′) where
     free-is : front .free ≡ next-search (take k kept ++ (s ∷ [])) (take k table) .free
@@ -154,6 +154,4 @@ pub holding-done : (sets : List ℕ) (count : ℕ) → Clauses sets count → (k
     → k ≡ most (take count sets)
 holding-done sets count C k kept table owners queue H =
     sym (length-take-le k kept (omega (arith, H .tables .room, H .wide)))
-    ∙ sym (most-kept (take count sets) (take k kept) (take k table)
-    (λ j h. let n = length-take-le count sets (C .present) in rw (getD-take count sets j 0 (omega arith)) (C .words j (omega (arith, C .present))))
-    (H .keeping))
+    ∙ sym (most-kept (take count sets) (take k kept) (take k table) (words-take count sets (C .present) (C .words)) (H .keeping))

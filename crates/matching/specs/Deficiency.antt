@@ -26,7 +26,7 @@ matched-length l = cond (succeeds (outcome l)) (length l) 0
 unfoldable pub most : List ℕ → ℕ
 most sets = largest (map matched-length (sub-lists sets))
 
--- S22.1: the deficiency (request: shortfall): the clauses, less the most that can be matched together
+-- S22.1: the deficiency (request: shortfall; source: maximum deficiency): the clauses, less the most that can be matched together
 unfoldable pub deficiency : List ℕ → ℕ
 deficiency sets = length sets - most sets
 

@@ -1,4 +1,4 @@
-// Matching clauses to variables by breadth-first augmenting search, over masks (S5).
+// Matching clauses to variables by breadth-first augmenting search, over masks (S5, S22).
 //
 // It knows no signs and no bytes: a clause is the mask of its variables, and clauses and variables count from 0.
 use limits::MAX_CLAUSES;

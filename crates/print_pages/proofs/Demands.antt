@@ -7,6 +7,7 @@ use lib.ListN.{length, take}
 use Rattle.writing.specs.Text.{blanks}
 use Rattle.formula.specs.declared.Refusal.{Refusal}
 use Rattle.formula.specs.Format.{Literal, Encodes}
+use Rattle.assumptions.proofs.Demands.{none-bad}
 use Rattle.matched.specs.Acceptance.{declined, acceptance}
 use Rattle.matched.specs.Pairing.{Pairs, left-of}
 use Rattle.walk.specs.Task.{Task, under, Posed}
@@ -21,7 +22,6 @@ use Rattle.page.proofs.NextModelLaws.{start-models}
 use Rattle.page.proofs.Demands.{page-variables}
 use Rattle.printing.specs.Printed.{refused-line, printed}
 use Rattle.printing.specs.Printing.{max-input}
-use Rattle.printing.proofs.PrintedLaws.{none-bad}
 use Rattle.printing.proofs.PrintLaws.{declined-prints}
 use Rattle.print_pages.specs.PrintedPages.{max-pages, printed-pages, page-count}
 use Rattle.print_pages.proofs.PrintedLaws as prints

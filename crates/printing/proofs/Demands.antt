@@ -12,7 +12,7 @@ use Rattle.limits.specs.Limits.{max-clauses}
 use Rattle.formula.specs.declared.Refusal.the-variants.{Unmatched}
 use Rattle.formula.specs.Format.{Literal, Encodes}
 use Rattle.formula.proofs.Demands.{cut, accepted-all}
-use Rattle.assumptions.proofs.Demands.{no-assumptions}
+use Rattle.assumptions.proofs.Demands.{no-assumptions, none-bad}
 use Rattle.matched.specs.Acceptance.{acceptance}
 use Rattle.matched.specs.Judge.{Judged, refused-values, judge}
 use Rattle.matched.specs.Pairing.{Pairs, left-of, Pairable, marked}
@@ -32,7 +32,6 @@ use Rattle.printing.specs.Printed.{header, refused-line, max-models, wal
 use Rattle.printing.specs.PrintedGaps.{gap-lines}
 use Rattle.printing.specs.Printing.{max-input}
 use Rattle.printing.specs.WithoutAssumptions.{plain-lines}
-use Rattle.printing.proofs.PrintedLaws.{none-bad}
 use Rattle.printing.proofs.WalkLinesLaws.{lines-calls}
 use Rattle.printing.proofs.GapLinesLaws.{lines-gaps}
 use Rattle.printing.proofs.PrintLaws.{declined-prints}

@@ -16,8 +16,7 @@ use Rattle.formula.specs.Masked.{variables}
 use Rattle.formula.specs.Refusals.{table-row}
 use Rattle.formula.specs.Table.{Beginning, written, Given, no-kind, kind-unknown, kind-misplaced, no-body, count-bad, variable-unknown, literal-complementary, clause-extra, byte-extra}
 use Rattle.formula.proofs.Demands.{accepted-only, accepted-all, accepted-fits, refused-only, numbers}
-use Rattle.assumptions.specs.FirstBad.{NoneBad}
-use Rattle.assumptions.proofs.Demands.{literals-exactly, literals-are, no-assumptions}
+use Rattle.assumptions.proofs.Demands.{literals-are, no-assumptions, none-bad}
 use Rattle.matching.proofs.SelectedLaws.{selected-few}
 use Rattle.splitting.specs.Nodes.{remaining}
 use Rattle.matched.specs.Acceptance.{Acceptance, accepted, declined, acceptance}
@@ -87,10 +86,6 @@ module _ (T : Task) (m B : ℕ) (few : T .variables ≤ max-variables) (fewer : 
 -- the bound s × s × n × (n + 1) is at most 5,419,008, for s and n up to 48
 cost : (s n : ℕ) → s ≤ max-variables → n ≤ max-variables → s * (s * (n * suc n)) ≤ 5419008
 cost s n h k = let l : suc n ≤ 49 = omega arith in let c = mul-le-mul h (mul-le-mul h (mul-le-mul k l)) in omega arith
-
--- in an empty list no assumption is bad
-pub none-bad : (n : ℕ) → NoneBad n []
-none-bad n = literals-exactly n [] .0 ([], no-assumptions n)
 
 walk-short : (s : List ℕ) (n : ℕ) (cs : List (List Literal)) (row : List ℕ) (w : AcceptedInput s [] n [] cs row) (j : ℕ)
     → length (walk-lines (under n [] cs) j 0) ≤ max-model-line * j + length more-line

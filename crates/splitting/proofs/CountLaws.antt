@@ -8,16 +8,12 @@ use Rattle.lists.proofs.TestLaws.{and-left, bool-clash}
 use Rattle.masks.specs.Mask.{bit, size}
 use Rattle.masks.proofs.BitLaws.{bit-below}
 use Rattle.matching.proofs.MatchedLaws.{count-members}
-use Rattle.matching.proofs.Counting.{count, count-all, count-except, except, except-i, pigeon}
+use Rattle.matching.proofs.Counting.{count, count-sub, count-all, count-except, except, except-i, pigeon}
 
 -- what is in a set without a is in the set
 pub except-of : (f : ℕ → Bool) (a i : ℕ) → except f a i ≡ true → f i ≡ true
 unfolding except
 except-of f a i e = and-left (f i) (not (eqb i a)) e
-
--- a smaller set does not count more
-pub count-sub : (f g : ℕ → Bool) (n : ℕ) → ((i : ℕ) → f i ≡ true → g i ≡ true) → count f n ≤ count g n
-count-sub f g n sub = pigeon f n g n (λ i. i) (λ i l t. (l, sub i t)) (λ i j _ _ _ _ e. e)
 
 -- below n there are at most n
 pub count-le : (f : ℕ → Bool) (n : ℕ) → count f n ≤ n

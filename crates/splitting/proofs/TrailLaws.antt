@@ -12,14 +12,14 @@ use Rattle.lists.proofs.SublistLaws.{no-elements}
 use Rattle.lists.proofs.TestLaws.{or-cases, bool-cases, bool-clash, or-left, or-right}
 use Rattle.masks.specs.Mask.{bit, size}
 use Rattle.masks.proofs.BitLaws.{bit-below}
-use Rattle.matching.proofs.Counting.{count, count-except, except, except-i, except-ne}
+use Rattle.matching.proofs.Counting.{count, count-except, except, except-i, except-ne, count-sub}
 use Rattle.formula.specs.Format.{Literal, names}
 use Rattle.formula.proofs.ClauseLaws.{named-as}
 use Rattle.formula.proofs.FormatLaws.{distinct-rest}
 use Rattle.splitting.specs.Nodes.{remaining, less}
 use Rattle.splitting.specs.Terms.{Sound, Trail, Covers, Unassigned, Assigns}
 use Rattle.splitting.proofs.ClauseLaws.{named-by}
-use Rattle.splitting.proofs.CountLaws.{except-of, count-sub, count-drop, count-lacks, count-none, size-count}
+use Rattle.splitting.proofs.CountLaws.{except-of, count-drop, count-lacks, count-none, size-count}
 use Rattle.splitting.proofs.NodeLaws.{named-remaining}
 use Rattle.splitting.proofs.SoundLaws.{sound-satisfies}
 
