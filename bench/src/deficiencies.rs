@@ -1,7 +1,7 @@
 //! The times of deficiency, and their rows of the table. The plain reference matches from the variables' side: it has no search that fails
 //! for each clause that is left over, as the other two have.
 
-use crate::families::{fullest_input, unmatched, Case, FAMILIES};
+use crate::families::{fullest_case, unmatched, Case, FAMILIES};
 use crate::measure::{same, times, Row, Times};
 use std::hint::black_box;
 
@@ -38,10 +38,10 @@ fn deficiency_row(family: &str, cases: &[Case], is_expected: fn(usize) -> bool) 
 pub(crate) fn deficiency_rows() -> [Row; 3] {
     let matched = &FAMILIES[0];
     let (title, cases) = unmatched();
-    let fullest = Case::new("fullest input".to_string(), fullest_input());
+    let fullest = [fullest_case()];
     [
         deficiency_row(matched.title, &matched.cases(), |found| found == 0),
         deficiency_row(&title, &cases, |found| found > 0),
-        deficiency_row("fullest input", &[fullest], |found| found == 48),
+        deficiency_row(&fullest[0].name, &fullest, |found| found == 48),
     ]
 }

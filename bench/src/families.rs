@@ -210,6 +210,11 @@ pub fn fullest_input() -> Vec<u8> {
     })
 }
 
+/// The fullest input as a formula without assumptions.
+pub fn fullest_case() -> Case {
+    Case::new("fullest input".to_string(), fullest_input())
+}
+
 /// The fullest input with all literals negative: no formula is written as a longer text.
 pub fn longest_text_input() -> Vec<u8> {
     let input = full_input(|variable| -variable);

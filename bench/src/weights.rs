@@ -1,6 +1,6 @@
 //! The times of weigh, and their rows of the table.
 
-use crate::families::{fullest_input, unmatched, unmatched_half_assumed, Case};
+use crate::families::{fullest_case, unmatched, unmatched_half_assumed, Case};
 use crate::measure::{same, times, Row, Times};
 use std::hint::black_box;
 
@@ -52,7 +52,7 @@ fn unmatched_row((title, cases): (String, Vec<Case>)) -> Row {
 
 /// The row of the fullest input, with all clauses marked.
 fn fullest_row() -> Row {
-    let case = Case::new("fullest input".to_string(), fullest_input());
+    let case = fullest_case();
     let marks = [1; 96];
     require_weight(&case, &marks, (96, 48));
     let times = vec![weigh_times(&case, &marks)];

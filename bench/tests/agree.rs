@@ -172,7 +172,8 @@ fn on_deficiencies() {
         assert_eq!(found > 0, case.clauses > 48, "{}", case.name);
     }
     for case in unmatched().1 {
-        assert!(same_deficiency(&case.input) >= Ok(48), "{}", case.name);
+        let found = same_deficiency(&case.input).expect("a formula");
+        assert!(found >= 48, "{}", case.name);
     }
     let mut random = Random::new(2);
     let (mut matched, mut above, mut refused) = (0, 0, 0);

@@ -134,10 +134,10 @@ pub fn deficiency(input: &[u8]) -> Result<usize, Refusal> {
     let formula = decode(input)?;
     let mut named = [0; MAX_CLAUSES];
     let mut matching = Matching::new();
-    let mut left = 0;
+    let mut unmatched = 0;
     for (i, clause) in formula.clauses().iter().enumerate() {
         named[i] = clause.named();
-        left += usize::from(!matching.add(&named, !0, i));
+        unmatched += usize::from(!matching.add(&named, !0, i));
     }
-    Ok(left)
+    Ok(unmatched)
 }

@@ -207,10 +207,10 @@ pub fn weigh(input: &[u8], assumptions: &[Assumption], buffer: &[u8]) -> Result<
     }
 }
 
-/// How far a formula is from being matched, its deficiency (clubs: shortfall): the number of its clauses, less the most of them that can be
-/// matched together, each with a variable that it names and none used twice. At least so many clauses have to be struck until the others
-/// are matched, and so many are enough, if they are the right ones. It is also the largest excess of clauses over the variables that they
-/// name, in any set of clauses, the empty one included.
+/// How far a formula is from being matched, its deficiency (the field's maximum deficiency; clubs: shortfall): the number of its clauses,
+/// less the most of them that can be matched together, each with a variable that it names and none used twice. At least so many clauses
+/// have to be struck until the others are matched, and so many are enough, if they are the right ones. It is also the largest number by
+/// which some of the clauses are more than the variables that they name, and 0 if none are.
 ///
 /// It is that of the formula as it is read: there are no assumptions, and nothing is stripped before. So it is 0 exactly if the formula is
 /// matched as a whole, and above 0 the formula may be accepted, too, where it strips down to a matched one. Only a formula that can't be

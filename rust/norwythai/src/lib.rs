@@ -17,7 +17,7 @@
 //! clauses and the variables that they name. [`deficiency`] says by how many clauses any formula is too full to be matched as a whole.
 //!
 //! Clubs call these things sheets (formulas), rules (clauses), switches (variables), set-ups (assignments), fixed settings
-//! (assumptions), markers (checkpoints) and shortfall (deficiency); the sentences of refusals do, too.
+//! (assumptions) and markers (checkpoints); the sentences of refusals do, too. A deficiency is their shortfall.
 //!
 //! Variables are given by their numbers, which count from 1 as in the encoded formula.
 //!

@@ -5,7 +5,7 @@ use norwythai::{
 };
 use norwythai_reference as reference;
 use norwythai_samples::{
-    each_added, each_struck, encode, encoded_clauses, some_crowded_input, some_input, Moves, Random,
+    each_added, each_struck, encode, some_crowded_input, some_input_or_crowded, Changes, Random,
 };
 
 /// By the function and by the formula's own one, which are the same.
@@ -24,15 +24,6 @@ fn is_accepted(input: &[u8]) -> bool {
 fn is_matched(input: &[u8]) -> bool {
     let mut row = [0; 96];
     judge_into(input, &[], &mut row).is_ok() && row.iter().all(|byte| *byte < DROPPED)
-}
-
-/// An input of either kind.
-fn some_of_both(random: &mut Random) -> Vec<u8> {
-    if random.percent(50) {
-        some_crowded_input(random)
-    } else {
-        some_input(random, is_accepted)
-    }
 }
 
 /// The number of variables, the clauses, and the deficiency.
@@ -124,7 +115,7 @@ fn only_unreadable_formulas_are_refused() {
     let mut random = Random::new(1);
     let mut seen = [0; 10];
     for _ in 0..5_000 {
-        let input = some_of_both(&mut random);
+        let input = some_input_or_crowded(&mut random, is_accepted);
         let found = deficiency_both(&input);
         let checked = check(&input, Assignment::default());
         assert_eq!(found.err(), checked.err(), "{input:02x?}");
@@ -139,7 +130,7 @@ fn it_is_the_largest_excess_of_any_set_of_clauses() {
     let mut random = Random::new(2);
     let (mut matched, mut above, mut accepted, mut refused) = (0, 0, 0, 0);
     while matched + above < 2_000 {
-        let input = some_of_both(&mut random);
+        let input = some_input_or_crowded(&mut random, is_accepted);
         let Ok(found) = deficiency_both(&input) else {
             refused += 1;
             continue;
@@ -160,43 +151,29 @@ fn it_is_the_largest_excess_of_any_set_of_clauses() {
     assert!(matched > 400 && above > 400 && accepted > 100 && refused > 100);
 }
 
-/// The deficiency of a readable input.
-fn read_deficiency(input: &[u8]) -> usize {
-    deficiency(input).unwrap()
-}
-
 #[test]
-fn a_clause_moves_it_by_one_at_most() {
+fn a_clause_changes_it_by_one_at_most() {
     let mut random = Random::new(3);
-    let mut moves = Moves::default();
+    let mut changes = Changes::default();
     let (mut formulas, mut above, mut accepted, mut full) = (0, 0, 0, 0);
     while formulas < 500 {
-        let input = some_of_both(&mut random);
+        let input = some_input_or_crowded(&mut random, is_accepted);
         let Ok(before) = deficiency(&input) else {
             continue;
         };
         formulas += 1;
         above += usize::from(before > 0);
         accepted += usize::from(before > 0 && is_accepted(&input));
-        moves.strike(&input, read_deficiency);
-        let clauses = encoded_clauses(&input);
-        if clauses.len() == 96 {
+        if !changes.edit(&mut random, &input, deficiency) {
             full += 1;
             for added in each_added(&input, &[4]) {
                 assert_eq!(deficiency(&added).unwrap_err().number(), 8);
             }
-            continue;
-        }
-        moves.add(&input, &[4], read_deficiency);
-        let variable = random.between(1, input[1].into()) as u8;
-        moves.add(&input, &[3, variable, 4], read_deficiency);
-        if !clauses.is_empty() {
-            moves.add(&input, random.pick(&clauses), read_deficiency);
         }
     }
-    println!("{above} above 0, {accepted} of them accepted, {full} of 96 clauses: {moves:?}");
+    println!("{above} above 0, {accepted} of them accepted, {full} of 96 clauses: {changes:?}");
     assert!(above > 200 && accepted > 50 && full > 5);
-    assert!(moves.fewest() > 1_000);
+    assert!(changes.fewest() > 1_000);
 }
 
 #[test]

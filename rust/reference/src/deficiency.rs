@@ -5,18 +5,17 @@ use crate::formula::{decode, Clause, Refusal, MAX_CLAUSES, MAX_VARIABLES};
 
 /// A matching that grows variable by variable, and so from the other side than that of S5: a search starts from a variable, goes through
 /// the clauses that name it, and goes deeper by the variable that a clause has.
-struct Matching {
+struct FromVariables {
     /// By variable: the clauses that name it.
     naming: [u128; MAX_VARIABLES],
-    /// The matched clauses.
-    matched: u128,
+    matched_clauses: u128,
     /// By matched clause: its variable.
     variable_of: [u8; MAX_CLAUSES],
     /// The clauses that the last search has not tried.
     untried: u128,
 }
 
-impl Matching {
+impl FromVariables {
     fn new(clauses: &[Clause]) -> Self {
         let mut naming = [0; MAX_VARIABLES];
         for (i, clause) in clauses.iter().enumerate() {
@@ -24,9 +23,9 @@ impl Matching {
                 naming[variable] |= 1 << i;
             }
         }
-        Matching {
+        FromVariables {
             naming,
-            matched: 0,
+            matched_clauses: 0,
             variable_of: [0; MAX_CLAUSES],
             untried: 0,
         }
@@ -38,7 +37,7 @@ impl Matching {
             self.untried = !0;
             self.add(variable);
         }
-        self.matched.count_ones() as usize
+        self.matched_clauses.count_ones() as usize
     }
 
     /// Gives the variable a clause that the search has not tried, one that is not matched or whose variable gets another clause; false if
@@ -52,8 +51,8 @@ impl Matching {
             let clause = untried.trailing_zeros() as usize;
             self.untried &= !(1 << clause);
             let other = usize::from(self.variable_of[clause]);
-            if self.matched & 1 << clause == 0 || self.add(other) {
-                self.matched |= 1 << clause;
+            if self.matched_clauses & 1 << clause == 0 || self.add(other) {
+                self.matched_clauses |= 1 << clause;
                 self.variable_of[clause] = variable as u8;
                 return true;
             }
@@ -66,11 +65,11 @@ impl Matching {
 pub fn deficiency(input: &[u8]) -> Result<usize, Refusal> {
     let formula = decode(input)?;
     let clauses = formula.clauses();
-    Ok(clauses.len() - Matching::new(clauses).match_most())
+    Ok(clauses.len() - FromVariables::new(clauses).match_most())
 }
 
-/// S22.2: the largest excess of clauses over the variables that they name, in any set of these clauses, the empty one included. Each is
-/// given by the set of variables that it names. All sets are tried, so that there can be few clauses only.
+/// S22.2: the largest number by which some of the clauses are more than the variables that they name, and 0 if none are. Each is given by
+/// the set of variables that it names. All sets of clauses are tried, so that there can be few only.
 pub fn largest_excess(named: &[u64]) -> usize {
     let excess = |set: u64| {
         let union = numbers(set).fold(0, |union, clause| union | named[clause]);

@@ -7,8 +7,8 @@
 //! The acts are [`check`], [`judge`], [`start_checkpoint`], [`walk`], [`list`] and [`page()`], and between DIMACS CNF text and encoded
 //! formulas [`from_dimacs`] and [`to_dimacs`]; [`print()`] writes the printed walk, [`weigh`] counts what the marks in judge's buffer come
 //! to, and [`deficiency()`] says how far a formula is from being matched. Judge, weigh, walk, list and page also take assumptions.
-//! Variables count from 0 in the code, so that variable v is bit v of a mask; in bytes, texts and assumptions they count from 1 (switch s is
-//! variable s - 1).
+//! Variables count from 0 in the code, so that variable v is bit v of a mask; in bytes, texts and assumptions they count from 1 (switch s
+//! is variable s - 1).
 
 #![forbid(unsafe_code)]
 #![deny(missing_docs)]

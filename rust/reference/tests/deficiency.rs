@@ -2,9 +2,7 @@
 
 use norwythai_reference::bits::numbers;
 use norwythai_reference::{decode, deficiency, is_matched, judge, largest_excess, Clause, Refusal};
-use norwythai_samples::{
-    crowds, each_added, encode, encoded_clauses, some_crowded_input, some_input, Moves, Random,
-};
+use norwythai_samples::{crowds, each_added, encode, some_input_or_crowded, Changes, Random};
 
 fn is_accepted(input: &[u8]) -> bool {
     judge(input, &[], &mut [0; 96]).is_ok()
@@ -14,15 +12,6 @@ fn is_accepted(input: &[u8]) -> bool {
 fn named(input: &[u8]) -> Vec<u64> {
     let formula = decode(input).unwrap();
     formula.clauses().iter().map(Clause::named).collect()
-}
-
-/// An input of either kind.
-fn some_of_both(random: &mut Random) -> Vec<u8> {
-    if random.percent(50) {
-        some_crowded_input(random)
-    } else {
-        some_input(random, is_accepted)
-    }
 }
 
 /// A formula of up to so many clauses, over few variables or many.
@@ -76,7 +65,7 @@ fn the_most_clauses() {
     let twice: Vec<Vec<i8>> = all.iter().flat_map(|v| [vec![*v], vec![-*v]]).collect();
     assert_eq!(of(48, &twice), Ok(48));
     assert_eq!(of(48, &[&units[..], &units].concat()), Ok(48));
-    // Each clause but the last has its first variable, until the last one moves them all.
+    // Each clause but the last has its first variable, until the last one re-matches them all.
     let mut path: Vec<Vec<i8>> = (1..48).map(|v| vec![v, v + 1]).collect();
     path.push(vec![1]);
     assert_eq!(of(48, &path), Ok(0));
@@ -100,7 +89,7 @@ fn refusals_are_the_readers() {
     let mut random = Random::new(1);
     let mut seen = [0; 19];
     for _ in 0..5_000 {
-        let input = some_of_both(&mut random);
+        let input = some_input_or_crowded(&mut random, is_accepted);
         match (decode(&input), deficiency(&input)) {
             (Ok(_), Ok(_)) => seen[0] += 1,
             (Err(expected), Err(refusal)) => {
@@ -173,7 +162,7 @@ fn formulas_of_any_size() {
     let mut random = Random::new(4);
     let (mut matched, mut above, mut many, mut accepted) = (0, 0, 0, 0);
     while matched + above < 4_000 {
-        let input = some_of_both(&mut random);
+        let input = some_input_or_crowded(&mut random, is_accepted);
         let Ok(found) = deficiency(&input) else {
             continue;
         };
@@ -194,37 +183,23 @@ fn formulas_of_any_size() {
     assert!(matched > 1_000 && above > 1_000 && many > 200 && accepted > 300);
 }
 
-/// The deficiency of a readable input.
-fn read_deficiency(input: &[u8]) -> usize {
-    deficiency(input).unwrap()
-}
-
 #[test]
-fn a_clause_moves_it_by_one_at_most() {
+fn a_clause_changes_it_by_one_at_most() {
     let mut random = Random::new(5);
-    let mut moves = Moves::default();
+    let mut changes = Changes::default();
     let mut full = 0;
     for _ in 0..600 {
-        let input = some_of_both(&mut random);
+        let input = some_input_or_crowded(&mut random, is_accepted);
         if deficiency(&input).is_err() {
             continue;
         }
-        moves.strike(&input, read_deficiency);
-        let clauses = encoded_clauses(&input);
-        if clauses.len() == 96 {
+        if !changes.edit(&mut random, &input, deficiency) {
             full += 1;
             for added in each_added(&input, &[4]) {
                 assert_eq!(deficiency(&added).unwrap_err().number, 8);
             }
-            continue;
-        }
-        moves.add(&input, &[4], read_deficiency);
-        let variable = random.between(1, input[1].into()) as u8;
-        moves.add(&input, &[3, variable, 4], read_deficiency);
-        if !clauses.is_empty() {
-            moves.add(&input, random.pick(&clauses), read_deficiency);
         }
     }
-    println!("{moves:?}, {full} of 96 clauses");
-    assert!(moves.fewest() > 1_000 && full > 5);
+    println!("{changes:?}, {full} of 96 clauses");
+    assert!(changes.fewest() > 1_000 && full > 5);
 }

@@ -9,12 +9,19 @@ pub type Clauses = Vec<Vec<i8>>;
 pub fn encode(variables: usize, clauses: &[Vec<i8>]) -> Vec<u8> {
     let mut bytes = vec![1, variables as u8];
     for clause in clauses {
-        for literal in clause {
-            bytes.extend([if *literal > 0 { 2 } else { 3 }, literal.unsigned_abs()]);
-        }
-        bytes.push(4);
+        bytes.extend(encode_clause(clause));
     }
     bytes.push(5);
+    bytes
+}
+
+/// The encoded clause, with the record that ends it.
+pub(crate) fn encode_clause(clause: &[i8]) -> Vec<u8> {
+    let mut bytes = Vec::new();
+    for literal in clause {
+        bytes.extend([if *literal > 0 { 2 } else { 3 }, literal.unsigned_abs()]);
+    }
+    bytes.push(4);
     bytes
 }
 

@@ -217,7 +217,7 @@ fn some_crowds(random: &mut Random) -> Vec<u8> {
     encode(n, &clauses)
 }
 
-/// Inputs for what is asked of formulas that are not matched, too: most are formulas in crowds, and the others those with some damage.
+/// Formulas in crowds, some of them damaged: for acts that answer for unmatched formulas, too.
 pub fn some_crowded_input(random: &mut Random) -> Vec<u8> {
     let input = some_crowds(random);
     if random.percent(15) {
@@ -281,6 +281,15 @@ pub fn some_input(random: &mut Random, is_accepted: fn(&[u8]) -> bool) -> Vec<u8
             encode(variables, &left_unmatched(random, variables))
         }
         _ => noise(random),
+    }
+}
+
+/// Any input or, in half of the cases, one in crowds.
+pub fn some_input_or_crowded(random: &mut Random, is_accepted: fn(&[u8]) -> bool) -> Vec<u8> {
+    if random.percent(50) {
+        some_crowded_input(random)
+    } else {
+        some_input(random, is_accepted)
     }
 }
 

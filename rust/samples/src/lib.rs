@@ -18,9 +18,9 @@ pub use assumptions::some_assumptions;
 pub use calls::{
     some_assignment, some_budget, some_checkpoint, some_length, some_marks, some_serial,
 };
-pub use edits::{each_added, each_struck, encoded_clauses, Moves};
+pub use edits::{clauses_to_add, each_added, each_struck, encoded_clauses, Changes};
 pub use formulas::{crowds, encode, longest_path, stairs, stripped, Clauses, Stripping};
-pub use inputs::{some_accepted_formula, some_crowded_input, some_input};
+pub use inputs::{some_accepted_formula, some_crowded_input, some_input, some_input_or_crowded};
 pub use random::Random;
 pub use texts::some_text;
 pub use waits::{shared, trail_in, Stop, Wait, Waits};

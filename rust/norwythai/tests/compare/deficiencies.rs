@@ -6,7 +6,9 @@ use crate::is_accepted;
 use crate::raw;
 use crate::tally::Tally;
 use norwythai_reference::{self as reference, Clause, Refusal};
-use norwythai_samples::{each_added, each_struck, encoded_clauses, some_crowded_input, Random};
+use norwythai_samples::{
+    clauses_to_add, each_added, each_struck, encoded_clauses, some_crowded_input, Random,
+};
 use std::fmt;
 
 /// Compares a call, and gives the deficiency of an input that is not refused.
@@ -27,27 +29,23 @@ fn compare_deficiency(tally: &mut Tally, input: &[u8]) -> Option<usize> {
     expected.ok()
 }
 
-/// The input as it is, without one of its clauses, and with one more at some place: an empty one, one of its own, or one of one literal.
+/// The input as it is, without one of its clauses, and with one more at some place.
 fn compare_edited(tally: &mut Tally, random: &mut Random, input: &[u8]) {
     let Some(before) = compare_deficiency(tally, input) else {
         return;
     };
-    let clauses = encoded_clauses(input);
-    if !clauses.is_empty() {
-        let struck = &each_struck(input)[random.below(clauses.len())];
+    let clauses = encoded_clauses(input).len();
+    if clauses > 0 {
+        let struck = &each_struck(input)[random.below(clauses)];
         let after = compare_deficiency(tally, struck).unwrap();
-        tally.deficiencies.struck(before, after);
+        tally.deficiencies.struck(input, before, after);
     }
-    let unit = [3, random.between(1, input[1].into()) as u8, 4];
-    let clause = match random.below(4) {
-        0 => &[4],
-        1 if !clauses.is_empty() => random.pick(&clauses),
-        _ => &unit[..],
-    };
-    let added = &each_added(input, clause)[random.below(clauses.len() + 1)];
+    let more = clauses_to_add(random, input);
+    let clause = &more[random.below(more.len())];
+    let added = &each_added(input, clause)[random.below(clauses + 1)];
     match compare_deficiency(tally, added) {
-        Some(after) => tally.deficiencies.added(before, after),
-        None => assert_eq!(clauses.len(), 96, "{input:02x?}"),
+        Some(after) => tally.deficiencies.added(input, before, after),
+        None => assert_eq!(clauses, 96, "{input:02x?}"),
     }
 }
 
@@ -88,9 +86,9 @@ pub struct Deficiencies {
 }
 
 impl Deficiencies {
-    fn called(&mut self, input: &[u8], measured: Result<usize, Refusal>) {
-        self.outcomes.count(measured);
-        match measured {
+    fn called(&mut self, input: &[u8], answer: Result<usize, Refusal>) {
+        self.outcomes.count(answer);
+        match answer {
             Ok(deficiency) => self.measured(input, deficiency),
             Err(refusal) => {
                 let full = refusal.number == 8;
@@ -129,14 +127,14 @@ impl Deficiencies {
         seen.see("by all sets of few clauses", clauses <= FEW);
     }
 
-    fn struck(&mut self, before: usize, after: usize) {
-        assert!(after == before || after + 1 == before);
+    fn struck(&mut self, input: &[u8], before: usize, after: usize) {
+        assert!(after == before || after + 1 == before, "{input:02x?}");
         self.seen.see("struck: it stays", after == before);
         self.seen.see("struck: it falls by one", after < before);
     }
 
-    fn added(&mut self, before: usize, after: usize) {
-        assert!(after == before || after == before + 1);
+    fn added(&mut self, input: &[u8], before: usize, after: usize) {
+        assert!(after == before || after == before + 1, "{input:02x?}");
         self.seen.see("added: it stays", after == before);
         self.seen.see("added: it rises by one", after > before);
     }

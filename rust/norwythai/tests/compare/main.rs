@@ -124,7 +124,8 @@ fn wanted_calls() -> usize {
 fn every_act_answers_as_the_reference() {
     let wanted = wanted_calls().max(FEWEST_CALLS);
     let mut random = Random::new(2026);
-    // What deficiency gets beside the input leaves the calls of the other acts as they are.
+    // What deficiency gets beside the input has random numbers of its own, so that the other acts get what they got before, in somewhat
+    // fewer rounds.
     let mut crowded = Random::new(9);
     let mut tally = Tally::default();
     let mut others = Vec::new();

@@ -12,8 +12,8 @@ use norwythai_samples::{
     some_input, some_length, some_text, Random,
 };
 
-/// A longer input or printed walk takes much of a file of the corpus. Such an input is given to fewer calls, and such a walk is
-/// written only for one input of so many, which is no long one itself.
+/// A longer input or printed walk takes much of a file of the corpus. Such an input is given to fewer calls, or left out if it is a crowded
+/// one, and such a walk is written only for one input of so many, which is no long one itself.
 const LONG: usize = 5_000;
 const ONE_LONG_OF: usize = 16;
 
@@ -325,7 +325,7 @@ pub fn vectors_of(inputs: &[Vec<u8>], seed: u64) -> Vec<String> {
     lines
 }
 
-/// The vectors of so many inputs that are generated from a seed, and the deficiencies of as many others, of which most are unmatched.
+/// The vectors of so many inputs that are generated from a seed, and the deficiencies of up to as many others, of which most are unmatched.
 pub fn generated_vectors(seed: u64, count: usize) -> Vec<String> {
     let from = "random";
     let mut random = Random::new(seed);
