@@ -52,13 +52,13 @@
  *
  * THE RESULTS are NORWYTHAI_RESULTS numbers:
  *
- *              check  judge        weigh            deficiency  walk         list                   page          from_dimacs, to_dimacs
+ *              check  judge        weigh            deficiency  walk         list                     page          from_dimacs, to_dimacs
  *   results[0] the answer, 0 to 3 as below
- *   results[1] 0      0            0                0           model, or 0  last call's, or 0      0             0
+ *   results[1] 0      0            0                0           model, or 0  last call's model, or 0  0             0
  *   results[2] the refusal's number, or 0 if the answer is no refusal
  *   results[3] the refusal's place, or 0 if the answer is no refusal
- *   results[4] 0      variables n  marked clauses   deficiency  steps made   models written         lines filled  bytes written
- *   results[5] 0      clauses m    their variables  0           expansions   0                      0             0
+ *   results[4] 0      variables n  marked clauses   deficiency  steps made   models written           lines filled  bytes written
+ *   results[5] 0      clauses m    their variables  0           expansions   0                        0             0
  *
  *   answer  check               judge               walk                                 list
  *   0       NORWYTHAI_YES       NORWYTHAI_ACCEPTED  NORWYTHAI_MODEL                      NORWYTHAI_MODEL: `models` is full
