@@ -355,7 +355,8 @@ pub fn deficiency(input: &[u8]) -> Measured
             let count = f.count;
             let sets = clause_masks(f);
             let k = matching::match_most(&sets, count);
-            Measured::Deficiency(count - k)
+            let left_over = count - k;
+            Measured::Deficiency(left_over)
         }
     }
 }

@@ -42,8 +42,8 @@ clause-masks-requires c κs = read c .fits .few
 match-most-requires : tie.Need-match-most-requires
 match-most-requires c κs = masks-clauses _ _ (read (c .before .before)) _ (c .before .clause-masks .ensures)
 
-sub-t12 : tie.Need-sub-t12
-sub-t12 c =
+sub-left-over : tie.Need-sub-left-over
+sub-left-over c =
     let m = c .before .before in
     counted-few _ _ (read (m .before)) _ (m .clause-masks .ensures) _ (c .match-most .ensures)
 
@@ -56,6 +56,6 @@ deficiency-spec =
     enum-told
     clause-masks-requires
     match-most-requires
-    sub-t12
+    sub-left-over
     returns
     returns-2)
