@@ -28,7 +28,7 @@ abbrev pub measured-values : Measured → MeasuredValues
 measured-values (Deficiency d) = measured d
 measured-values (Refused r) = unmeasured r
 
--- what was read
+-- of what the reader gives
 abbrev pub deficiency-read : Decoding → MeasuredValues
 deficiency-read (readable n cs) = measured (deficiency (map variables cs))
 deficiency-read (refused r) = unmeasured r
