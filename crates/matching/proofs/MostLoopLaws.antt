@@ -1,6 +1,6 @@
 -- Laws of the loop of match_most: its arrays hold the kept clauses and their matching.
 use Prim.Native.Nat.{ℕ, _+_, _≤_, _<_}
-use mathlib.Core.Bool.{true, false}
+use mathlib.Core.Bool.{true}
 use mathlib.Core.List.{List, [], _∷_, _++_}
 use mathlib.Core.Logic.{⊎-elim}
 use mathlib.Core.Path.{_≡_, sym, _∙_, ap, subst}
@@ -9,19 +9,17 @@ use native.Mathlib.Omega.{arith}
 use lib.Dec.{eqb}
 use lib.ListN.{length, set, take, replicate, length-set, length-replicate, getD-replicate}
 use lib.Seq.{take-suc, take-suc-set, take-set-le, getD-take, length-take-le, getD-set-other}
-use borrow.Author.Tests.{eq-eqb, ne-eqb}
+use borrow.Author.Tests.{eq-eqb}
 use Rattle.limits.specs.Limits.{max-clauses}
-use Rattle.lists.specs.Padded.{padded}
-use Rattle.lists.proofs.PaddedLaws.{take-padded}
 use Rattle.matching.specs.Sets.{Words}
 use Rattle.matching.specs.Search.{Search, next-search, rematch-from, search-bound}
-use Rattle.matching.specs.Inner.{at, owners-of, Tables, augmented, Augmented}
+use Rattle.matching.specs.Inner.{at, Tables, augmented, Augmented}
 use Rattle.matching.specs.Result.{Clauses}
 use Rattle.matching.specs.Deficiency.{most}
 use Rattle.matching.specs.declared.Front.{Front}
 use Rattle.matching.proofs.Augmenting.{set-cases}
 use Rattle.matching.proofs.PrefixLaws.{next-take}
-use Rattle.matching.proofs.WholeLaws.{running-begin, table-long}
+use Rattle.matching.proofs.WholeLaws.{running-begin, table-long, table-rematched, tables-more}
 use Rattle.matching.proofs.MostLaws.{Keeping, keeping-begin, keeping-leave, keeping-more, most-kept}
 
 -- of the first i clauses k are kept: the arrays hold these and their matching
@@ -117,36 +115,17 @@ module _ (sets : List ℕ) (count : ℕ) (C : Clauses sets count) (i k : ℕ) (k
 
     -- a path was found
     pub holding-more : (front .free ≡ 64 → ⊥) → Holding sets (i + 1) (k + 1) more table′ owners′ queue′
-    unfolding augmented
     holding-more ne =
         let m = take k table in
-        let x = next-search (take k kept ++ (s ∷ [])) m in
-        let n = rematch-from search-bound (x .links) m (x .free) in
         let K = keeping-more (take i sets) (take k kept) m s done-words (H .keeping) (λ q. ne (free-is ∙ q)) in
-        let f : eqb (next-search more m .free) 64 ≡ false = ne-eqb _ 64 (λ q. ne (A .free ∙ q)) in
-        let g : augmented more m ≡ n = rw f (ap (λ (r : Search). rematch-from search-bound (r .links) m (r .free)) searched) in
-        let t : table′ ≡ padded max-clauses 0 n = A .table-is ∙ ap (padded max-clauses 0) g in
-        let e : length n ≡ k + 1 = K .long ∙ ap length (sym more-taken) ∙ length-take-le (k + 1) more (omega (arith, low, length-set kept k s, H .wide)) in
-        let h : take (k + 1) table′ ≡ n = rw (t, ← e) (take-padded max-clauses 0 n) in
-        let P = K .partial in
+        let same = ap (λ (x : Search). rematch-from search-bound (x .links) m (x .free)) searched in
         record {
           fewer = omega (arith, H .fewer);
-          tables = record {
-            room = omega (arith, low);
-            held = t ∙ ap (padded max-clauses 0) (sym h);
-            owned = A .owners-are ∙ ap owners-of (g ∙ sym h);
-            partial = rw h (record {
-              named = λ j b.
-                  let c : j < k + 1 = omega (arith, e) in
-                  let q : at (take k kept ++ (s ∷ [])) j ≡ at more j = ap (λ (y : List ℕ). at y j) (sym more-taken) ∙ getD-take (k + 1) more j 0 c in
-                  rw (← q) (P .named j b);
-              distinct = P .distinct;
-            });
-          };
+          tables = tables-more more k table owners more-tables more-words front queue′ table′ owners′ A ne low;
           long = A .long;
           wide = length-set kept k s ∙ H .wide;
           words = more-words;
-          keeping = rw (h, next-done, more-taken) K;
+          keeping = rw (table-rematched more k table owners more-tables more-words front queue′ table′ owners′ A ne, same, next-done, more-taken) K;
         }
 
 -- all clauses are done

@@ -19,7 +19,7 @@ use Rattle.masks.proofs.BitLaws.{bit-below}
 use Rattle.matching.specs.Sets.{Words}
 use Rattle.matching.specs.Search.{owner, Search, begin, front, search-from, rematch-from, search-bound, next-search, success, failure, match-rest, outcome, marks}
 use Rattle.lists.proofs.TabulatedLaws.{tabulated-of}
-use Rattle.matching.specs.Inner.{at, owners-of, Tables, search-of, SearchSound, Owned, Augments, augmented, Augmented}
+use Rattle.matching.specs.Inner.{at, owners-of, Partial, Tables, search-of, SearchSound, Owned, Augments, augmented, Augmented}
 use Rattle.matching.specs.Result.{Clauses, packed}
 use Rattle.matching.specs.declared.Front.{Front}
 use Rattle.matching.proofs.Counting.{zero-or-pos}
@@ -114,6 +114,34 @@ module _ (sets : List ℕ) (n : ℕ) (table owners : List ℕ) (T : Tables sets 
           owners-are = rw f (T .owned);
         }
 
+  -- what the arrays hold after a path: the matching that it gives, with the next clause
+  module _ (front : Front) (queue table′ owners′ : List ℕ) (A : Augmented sets (take n table) front queue table′ owners′) (ne : front .free ≡ 64 → ⊥) where
+    abbrev rematched : List ℕ
+    rematched = let s = next-search sets (take n table) in rematch-from search-bound (s .links) (take n table) (s .free)
+
+    augmented-is : augmented sets (take n table) ≡ rematched
+    unfolding augmented
+    augmented-is = rw (ne-eqb (next-search sets (take n table) .free) 64 (λ q. ne (A .free ∙ q)))
+
+    rematched-partial : Partial sets rematched × (length rematched ≡ suc (length (take n table)))
+    rematched-partial =
+        let s = next-search sets (take n table) in
+        let R : Reached sets (take n table) s = ⊎-elim (λ S. absurd (ne (A .free ∙ S .none))) (λ R. R) (next-ended .0) in
+        rematch-partial sets (s .links) search-bound (take n table) (s .free) (T .partial) (R .1 .0) (R .1 .1)
+
+    pub table-rematched : take (n + 1) table′ ≡ rematched
+    table-rematched =
+        let k : n + 1 ≡ length rematched = omega (arith, rematched-partial .1, table-long .1) in
+        rw (A .table-is, augmented-is, k) (take-padded max-clauses 0 rematched)
+
+    pub tables-more : n < max-clauses → Tables sets (n + 1) table′ owners′
+    tables-more l = record {
+      room = omega arith;
+      held = A .table-is ∙ ap (padded max-clauses 0) (augmented-is ∙ sym table-rematched);
+      owned = A .owners-are ∙ ap owners-of (augmented-is ∙ sym table-rematched);
+      partial = rw table-rematched (rematched-partial .0);
+    }
+
 -- ── Marks ─────────────────────────────────────────────────────────────────────────────────────────────────────────────
 
 marks-more : (n : ℕ) (l : List ℕ) (c : ℕ) → marks n (l ++ (c ∷ [])) ≡ set (marks n l) c 1
@@ -176,25 +204,13 @@ module _ (sets : List ℕ) (count i : ℕ) (table owners queue : List ℕ) (e : 
 
     -- a path was found
     pub running-on : (front .free ≡ 64 → ⊥) → Running sets count (i + 1) table′ owners′ queue′ (e + front .head)
-    unfolding augmented
     running-on ne =
-        let T = R .tables in
         let m = take i table in
-        let s = next-search sets m in
-        let E = next-ended sets i table owners T (K .words) in
-        let F : Reached sets m s = ⊎-elim (λ S. absurd (ne (A .free ∙ S .none))) (λ F. F) (E .0) in
-        let n = rematch-from search-bound (s .links) m (s .free) in
-        let P = rematch-partial sets (s .links) search-bound m (s .free) (T .partial) (F .1 .0) (F .1 .1) in
-        let f : eqb (s .free) 64 ≡ false = ne-eqb (s .free) 64 (λ q. ne (A .free ∙ q)) in
-        let t : table′ ≡ padded max-clauses 0 n = A .table-is ∙ rw f in
-        let o : owners′ ≡ owners-of n = A .owners-are ∙ rw f in
-        let k : i + 1 ≡ length n = omega (arith, P .1, matching-long) in
-        let h : take (i + 1) table′ ≡ n = rw (t, k) (take-padded max-clauses 0 n) in
         record {
-          tables = record { room = omega (arith, K .few); held = t ∙ ap (padded max-clauses 0) (sym h); owned = o ∙ ap owners-of (sym h); partial = rw h (P .0) };
+          tables = tables-more sets i table owners (R .tables) (K .words) front queue′ table′ owners′ A ne (omega (arith, K .few));
           long = A .long;
           small = omega (arith, R .small, head-le, K .few);
-          same = rw (h, A .head) (sym (match-on (count - (i + 1)) sets m e (λ q. ne (A .free ∙ q))) ∙ ap (λ (k : ℕ). match-rest k sets m e) (sym steps) ∙ R .same);
+          same = rw (table-rematched sets i table owners (R .tables) (K .words) front queue′ table′ owners′ A ne, A .head) (sym (match-on (count - (i + 1)) sets m e (λ q. ne (A .free ∙ q))) ∙ ap (λ (k : ℕ). match-rest k sets m e) (sym steps) ∙ R .same);
         }
 
     -- the search failed
