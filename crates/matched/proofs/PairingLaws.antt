@@ -16,13 +16,14 @@ use Rattle.masks.specs.Mask.{bit, minus}
 use Rattle.masks.proofs.BitLaws.{bit-minus, bit-none, bit-or, minus-lt}
 use Rattle.masks.proofs.MembersLaws.{mask-same}
 use Rattle.formula.specs.declared.Formula.{Formula}
-use Rattle.formula.specs.Format.{Literal, names, ClauseOver, Sized}
+use Rattle.formula.specs.Format.{Literal, names, names-as, ClauseOver, Sized}
 use Rattle.formula.specs.InnerFits.{clause-variables}
 use Rattle.formula.specs.InnerMasked.{no-clause, clause-of, formula-of}
 use Rattle.formula.specs.Masked.{variables}
-use Rattle.formula.proofs.ClauseLaws.{variables-bit, variables-lt}
+use Rattle.formula.proofs.ClauseLaws.{clause-names, clause-side, variables-bit, variables-lt}
 use Rattle.matching.specs.Sets.{Words, union}
 use Rattle.matching.specs.InnerMatched.{Matches}
+use Rattle.splitting.specs.Nodes.{occurs, named}
 use Rattle.splitting.proofs.MaskClauseLaws.{sets-variables}
 use Rattle.matched.specs.Pairing.{Pairs, PairsBut, named-but}
 
@@ -44,6 +45,32 @@ pub array-masks : (n : ℕ) (cs : List (List Literal)) (f : Formula) → f ≡ f
 array-masks n cs f e =
     let h : take (length cs) (formula-of n cs .clauses) ≡ map clause-of cs = rw (← length-map cs clause-of) (take-padded max-clauses no-clause (map clause-of cs)) in
     ap (λ (g : Formula). map clause-variables (take (g .count) (g .clauses))) e ∙ ap (map clause-variables) h ∙ sets-variables cs
+
+-- ---- what clauses together name
+
+names-both : (c : List Literal) (v : ℕ) → names c v ≡ names-as c v true || names-as c v false
+names-both c v =
+    sym (clause-names c v) ∙ bit-or (clause-of c .positive) (clause-of c .negative) v ∙ ap₂ (λ (x y : Bool). x || y) (clause-side c true v) (clause-side c false v)
+
+or-pairs : (a b x y : Bool) → (a || b) || (x || y) ≡ (a || x) || (b || y)
+or-pairs true b x y = refl
+or-pairs false true true y = refl
+or-pairs false true false y = refl
+or-pairs false false x y = refl
+
+pub bit-union : (cs : List (List Literal)) (v : ℕ) → bit (union (map variables cs)) v ≡ named cs v
+unfolding union named occurs
+bit-union [] v = bit-none v
+bit-union (c ∷ cs) v =
+    bit-or (variables c) (union (map variables cs)) v
+    ∙ ap₂ (λ (x y : Bool). x || y) (variables-bit c v ∙ names-both c v) (bit-union cs v)
+    ∙ or-pairs (names-as c v true) (names-as c v false) (occurs cs v true) (occurs cs v false)
+
+-- the variables of t not counted
+pub bit-named : (t : List Literal) (cs : List (List Literal)) (v : ℕ) → bit (named-but t cs) v ≡ named cs v && not (names t v)
+bit-named t cs v = bit-minus (union (map variables cs)) (variables t) v ∙ ap₂ (λ (x y : Bool). x && not y) (bit-union cs v) (variables-bit t v)
+
+-- ---- matchings
 
 -- a matching of the masks pairs the clauses
 pub matches-pairs : (cs : List (List Literal)) (vs : List ℕ) → Matches (map variables cs) vs → Pairs cs vs

@@ -292,6 +292,15 @@ fn named_by(f: Formula, marks: &[u8]) -> u64
     named
 }
 
+// The variables that the clauses of a formula name (S23.1): what they name if every one is marked.
+pub fn named(f: Formula) -> u64
+    requires { ⌜ f .count ≤ max-clauses ⌝ }
+    ensures { λ r. ⌜ r ≡ union (map clause-variables (take (f .count) (f .clauses))) ⌝ }
+{
+    let marks = [1u8; limits::MAX_CLAUSES];
+    named_by(f, &marks)
+}
+
 // S20.2: how much the marks of a buffer weigh, over the masks of the assumptions.
 pub fn weigh_marks_under(input: &[u8], u: Assumptions, buffer: &[u8]) -> Weighed
     requires { ⌜ ((us : List Assumption) × MasksOf (now input) us u) ⌝ }

@@ -4,7 +4,7 @@ use mathlib.Core.Path.{_≡_, refl, sym, ap, _∙_}
 use mathlib.Core.Bool.{Bool, true, false, cond}
 use mathlib.Core.List.{List, [], _∷_, _++_, map, Sublistᴰ, Sublistᴰ·slnil, Sublistᴰ·cons, Sublistᴰ·cons-cons, Sublistᴰ·nil-sublist}
 use native.Mathlib.Omega.{arith}
-use lib.ListN.{length, getD, set}
+use lib.ListN.{length, getD, set, replicate}
 use lib.Dec.{eqb}
 use borrow.Author.Tests.{eqb-false}
 use Rattle.matching.specs.Sets.{selected}
@@ -15,6 +15,14 @@ module _ {A : Type 0} where
   unfolding selected
   selected-empty [] = refl
   selected-empty (mark ∷ marks) = refl
+
+  -- all of them, if each has a mark
+  pub selected-all : (k : ℕ) (l : List A) → length l ≤ k → selected (replicate k 1) l ≡ l
+  unfolding selected
+  selected-all zero [] h = refl
+  selected-all zero (x ∷ l) h = absurd (omega arith)
+  selected-all (suc k) [] h = refl
+  selected-all (suc k) (x ∷ l) h = ap (λ (m : List A). x ∷ m) (selected-all k l (omega arith))
 
   -- no more are selected than there are
   pub selected-few : (marks : List ℕ) (l : List A) → length (selected marks l) ≤ length l

@@ -5,17 +5,20 @@ use mathlib.Core.List.{List, [], _∷_, _++_, map, List·Memᴰ}
 use mathlib.Core.Logic.{_⊎_, inl, inr, ⊎-elim, _↔_}
 use mathlib.Core.Path.{_≡_, sym, ap, _∙_}
 use native.Mathlib.Omega.{arith}
+use lib.Bits.{bitAnd}
 use lib.ListN.{length, length-map, replicate}
 use Rattle.limits.specs.Limits.{max-variables, max-clauses}
 use Rattle.lists.specs.Distinct.{Distinct}
 use Rattle.lists.specs.Every.{Every}
-use Rattle.masks.specs.Mask.{bit}
+use Rattle.lists.proofs.TestLaws.{or-cases, or-left, or-right, bool-clash}
+use Rattle.masks.specs.Mask.{bit, minus, full}
 use Rattle.formula.specs.declared.Refusal.{Refusal}
 use Rattle.formula.specs.declared.Refusal.the-variants.{Unmatched, ForeignCheckpoint, BadAssumption}
-use Rattle.formula.specs.Format.{Literal, names, Encodes}
+use Rattle.formula.specs.Format.{Literal, names, Sized, Encodes}
 use Rattle.formula.specs.Table.{Refuses}
+use Rattle.formula.specs.Masked.{variables}
 use Rattle.formula.specs.Models.{Model}
-use Rattle.formula.proofs.Demands.{accepted-all, refused-all}
+use Rattle.formula.proofs.Demands.{accepted-all, accepted-fits, refused-all}
 use Rattle.assumptions.specs.declared.Assumption.{Assumption}
 use Rattle.assumptions.specs.Assumed.{literal-of}
 use Rattle.assumptions.specs.FirstBad.{NoneBad, FirstBad}
@@ -27,8 +30,9 @@ use Rattle.matched.specs.WithoutAssumptions.{plain-acceptance}
 use Rattle.matched.specs.WithoutStripping.{whole-acceptance}
 use Rattle.matched.proofs.Demands.{acceptance-kept}
 use Rattle.matched.proofs.AcceptanceLaws.{left-accepted}
+use Rattle.splitting.specs.Nodes.{named}
 use Rattle.splitting.specs.Terms.{Agrees, opened}
-use Rattle.walk.specs.Task.{Task, whole, under, to-assign, choice-at, ModelFor, Posed}
+use Rattle.walk.specs.Task.{Task, whole, under, to-assign, visible, choice-at, ModelFor, Posed}
 use Rattle.walk.specs.Plain.{assigns, assignment, plain-walk, listing}
 use Rattle.walk.specs.Checkpoints.{Checkpoint, trail-in, checkpoint-of, start, behind}
 use Rattle.walk.specs.PlainMachine.{found, spent, ended, plain-call, plain-calls, state-after, Has}
@@ -73,15 +77,28 @@ pub record Dealt (s : List ℕ) (us : List Assumption) (T : Task) (bs : List ℕ
   pub ample : (b : ℕ) → ample-budget ≤ b
       → (walk-call s us (last-checkpoint s us start bs) b .kind ≡ says-model) ⊎ (walk-call s us (last-checkpoint s us start bs) b .kind ≡ says-ended)
 
--- The task of a formula under assumptions, of which none is bad: the variables to assign are those that are not assumed,
-pub under-size : (n : ℕ) (us : List Assumption) (cs : List (List Literal)) → n ≤ max-variables → NoneBad n us → to-assign (under n (map literal-of us) cs) ≡ n - length us
-under-size n us cs h good =
-    unders.under-size n (map literal-of us) cs (omega arith) (literals-over n us (map literal-of us) (none-bad-literals n us good))
-    ∙ ap (λ (k : ℕ). n - k) (length-map us literal-of)
+-- S23.1: the task of a formula under assumptions. The variables to assign are those that some clause names and that are not assumed: the
+-- clauses are those of the input, as they are before anything is assumed.
+pub scope-exactly : (n : ℕ) (us : List Assumption) (cs : List (List Literal)) (v : ℕ)
+    → (bit (under n (map literal-of us) cs .scope) v ≡ true) ↔ ((named cs v ≡ true) × (names (map literal-of us) v ≡ false))
+scope-exactly n us cs = unders.scope-exactly n (map literal-of us) cs
 
--- and what is listed are the formula's models that keep the assumptions.
+-- S23.3: the variables whose values a model shows are those that some clause names or that are assumed.
+pub visible-exactly : (n : ℕ) (us : List Assumption) (cs : List (List Literal)) (v : ℕ)
+    → (bit (visible (under n (map literal-of us) cs)) v ≡ true) ↔ ((named cs v ≡ true) ⊎ (names (map literal-of us) v ≡ true))
+visible-exactly n us cs v =
+    let e = unders.visible-bit n (map literal-of us) cs v in
+    (λ h. or-cases (named cs v) _ (sym e ∙ h), λ w. e ∙ ⊎-elim (or-left (named cs v) _) (or-right (named cs v) _) w)
+
+-- S23.5: where the clauses name every variable, all that are not assumed are to be assigned, as before there was S23.
+pub all-named : (n : ℕ) (us : List Assumption) (cs : List (List Literal)) → Sized n cs → ((v : ℕ) → v < n → named cs v ≡ true)
+    → under n (map literal-of us) cs .scope ≡ minus (full n) (variables (map literal-of us))
+all-named n us cs = unders.all-named n (map literal-of us) cs
+
+-- S23.2: what is listed are the formula's models that keep the assumptions, with no variable true that is neither named nor assumed.
 pub under-models : (n : ℕ) (us : List Assumption) (cs : List (List Literal)) (a : ℕ)
-    → ModelFor (under n (map literal-of us) cs) a ↔ (Model n cs a × Agrees (bit a) (map literal-of us))
+    → ModelFor (under n (map literal-of us) cs) a
+    ↔ (Model n cs a × Agrees (bit a) (map literal-of us) × ((v : ℕ) → bit a v ≡ true → (named cs v ≡ true) ⊎ (names (map literal-of us) v ≡ true)))
 under-models n us cs a = unders.under-models n (map literal-of us) cs a
 
 -- An input whose walk calls are those on a task, where what stripping leaves at the first node is matched.
@@ -113,6 +130,9 @@ module _ (s : List ℕ) (us : List Assumption) (n : ℕ) (cs : List (List Litera
   abbrev pub task : Task
   task = under n (map literal-of us) cs
 
+  sized : Sized n cs
+  sized = accepted-fits s n cs (accepted-all s n cs encodes)
+
   abbrev row : List ℕ
   row = left-accepted s us n (map literal-of us) cs (accepted-all s n cs encodes) (none-bad-literals n us good) vs pairs .0
 
@@ -142,8 +162,8 @@ module _ (s : List ℕ) (us : List Assumption) (n : ℕ) (cs : List (List Litera
   pub paced-sharper : (bs : List ℕ) → Paced (to-assign task) (to-assign task * (n * suc n)) (gaps (walk-calls s us start bs))
   paced-sharper = laws.calls-paced-sound s us task posed walks
 
-  -- ---- S21: the waits, which `paced` has as one statement about the whole list of calls. In the comments n is `to-assign task`, the variables
-  -- that are not assumed (`under-size`).
+  -- ---- S21: the waits, which `paced` has as one statement about the whole list of calls. In the comments n is `to-assign task`, the number of
+  -- variables that some clause names and that are not assumed (`scope-exactly`).
 
   -- S21.1: the trail of every model that calls bring, from the start or from any other checkpoint that the walk has, is that in the
   -- checkpoint which comes back with it;
@@ -199,24 +219,40 @@ module _ (s : List ℕ) (us : List Assumption) (n : ℕ) (cs : List (List Litera
 
   -- ---- the listing, single calls and checkpoints
 
-  -- S10, demands 2 and 3: the listing has the models of the formula that keep the assumptions and no others: `exact`, over the formula
-  -- itself
-  pub listing-exact : (a : ℕ) → List·Memᴰ a (listing task) ↔ (Model n cs a × Agrees (bit a) (map literal-of us))
+  -- S10, demands 2 and 3, S23.2: the listing has the models of the formula that keep the assumptions and have no variable true that is
+  -- neither named nor assumed, and no others: `exact`, over the formula itself
+  pub listing-exact : (a : ℕ) → List·Memᴰ a (listing task)
+      ↔ (Model n cs a × Agrees (bit a) (map literal-of us) × ((v : ℕ) → bit a v ≡ true → (named cs v ≡ true) ⊎ (names (map literal-of us) v ≡ true)))
   listing-exact a =
       let e = laws.listing-models s us task posed walks a in
       let w = under-models n us cs a in
       (λ m. w .0 (e .0 m), λ m. e .1 (w .1 m))
 
+  -- S23.2: of every model of the formula that keeps the assumptions, what is visible is listed;
+  pub setting-listed : (a : ℕ) → Model n cs a → Agrees (bit a) (map literal-of us) → List·Memᴰ (bitAnd a (visible task)) (listing task)
+  setting-listed a m g = laws.listing-models s us task posed walks (bitAnd a (visible task)) .1 (unders.part-model n (map literal-of us) cs a m g)
+
+  -- and the same is visible of two of them exactly if they agree on the named variables. So each setting of these that some such model has is
+  -- listed once (`once`), and nothing is lost but the values of variables that are neither named nor assumed.
+  pub same-setting : (a b : ℕ) → Agrees (bit a) (map literal-of us) → Agrees (bit b) (map literal-of us)
+      → (bitAnd a (visible task) ≡ bitAnd b (visible task)) ↔ ((v : ℕ) → named cs v ≡ true → bit a v ≡ bit b v)
+  same-setting = unders.part-same n (map literal-of us) cs
+
+  -- S23.5: a model that keeps the assumptions, to which check says yes, is not listed exactly if it has a variable true that is neither named
+  -- nor assumed.
+  pub unlisted : (a : ℕ) → Model n cs a → Agrees (bit a) (map literal-of us)
+      → (List·Memᴰ a (listing task) → ⊥) ↔ ((v : ℕ) × (bit a v ≡ true) × (named cs v ≡ false) × (names (map literal-of us) v ≡ false))
+  unlisted a m g = (
+    λ h. unders.outside n (map literal-of us) cs a (λ w. h (listing-exact a .1 (m, g, w))),
+    λ w i. ⊎-elim (λ x. bool-clash x (w .2)) (λ x. bool-clash x (w .3)) (listing-exact a .0 i .2 (w .0) (w .1)),
+  )
+
   -- S6.6: at every node of the walk that is not full, a value of the chosen variable is open exactly if some model keeps the assumptions,
   -- agrees with the trail and has it.
-  pub open-means : (k : ℕ) → length (behind task k .trail) < n - length us → (b : Bool)
+  pub open-means : (k : ℕ) → length (behind task k .trail) < to-assign task → (b : Bool)
       → (opened (choice-at task (behind task k .trail)) b ≡ true)
       ↔ ((a : ℕ) × Model n cs a × Agrees (bit a) (map literal-of us) × Agrees (bit a) (behind task k .trail) × (bit a (choice-at task (behind task k .trail) .variable) ≡ b))
-  open-means k h b =
-      let e = laws.node-open s us task posed walks k (rw (under-size n us cs (posed .most) good) h) b in (
-        λ o. let w = e .0 o in (w .0, w .1 .model, w .1 .agrees, w .2, w .3),
-        λ w. e .1 (w .0, under-models n us cs (w .0) .1 (w .1, w .2), w .3, w .4),
-      )
+  open-means = laws.node-open s us task posed walks
 
   -- From every checkpoint that the walk has, and on any budget, a call gives what the plain machine gives from there.
   pub from-checkpoint : (c : Checkpoint) (w : Has task c) (b : ℕ) → walk-call s us c b ≡ plain-result task (plain-call task b (state-after task 0 (w .0)))
@@ -238,9 +274,17 @@ module _ (s : List ℕ) (us : List Assumption) (n : ℕ) (cs : List (List Litera
   pub proper : (c : Checkpoint) → Has task c ↔ Proper task c
   proper c = laws.has-proper s us task posed walks c
 
-  -- S17.3: an assumed variable is in no trail of the walk, and so in no checkpoint.
-  pub trail-apart : (k v : ℕ) → names (behind task k .trail) v ≡ true → names (map literal-of us) v ≡ false
-  trail-apart = laws.behind-apart s us task posed walks
+  -- S17.3, S23.1: every variable in a trail of the walk is named by some clause and not assumed,
+  pub trail-named : (k v : ℕ) → names (behind task k .trail) v ≡ true → (named cs v ≡ true) × (names (map literal-of us) v ≡ false)
+  trail-named k v h = scope-exactly n us cs v .0 (laws.behind-inside s us task posed walks k v h)
+
+  -- and so is every variable in a checkpoint that the walk has: one with another variable in its trail is refused by 11, on any budget.
+  pub unnamed-foreign : (c : Checkpoint) (v b : ℕ) → names (trail-in c) v ≡ true → (named cs v ≡ false) ⊎ (names (map literal-of us) v ≡ true)
+      → walk-call s us c b ≡ refusing (ForeignCheckpoint 0) c
+  unnamed-foreign c v b h o =
+      foreign-returned c b (λ w.
+          let x = scope-exactly n us cs v .0 (laws.has-inside s us task posed walks c w v h) in
+          ⊎-elim (λ y. bool-clash (x .0) y) (λ y. bool-clash y (x .1)) o)
 
   -- S8.2: a call that says spent has made all the steps of its budget
   pub spent-exactly : (bs : List ℕ) (b : ℕ) → walk-call s us (last-checkpoint s us start bs) b .kind ≡ says-spent → walk-call s us (last-checkpoint s us start bs) b .steps ≡ b
@@ -254,20 +298,31 @@ module _ (s : List ℕ) (us : List Assumption) (n : ℕ) (cs : List (List Litera
   pub from-end : (b : ℕ) → walk-call s us (checkpoint-of 4 []) b ≡ answered ended 0 0 (checkpoint-of 4 [])
   from-end b = laws.call-over s us task posed walks b
 
-  -- S8.2: where a variable is not assumed, a call on budget 0 from the start checkpoint says spent, and returns it
-  pub start-zero : length us < n → walk-call s us start 0 ≡ answered spent 0 0 start
-  start-zero h = laws.start-zero s us task posed walks (let e = under-size n us cs (posed .most) good in omega arith)
+  -- S23.4: nothing is to be assigned exactly if every named variable is assumed
+  pub none-exactly : (to-assign task ≡ 0) ↔ ((v : ℕ) → named cs v ≡ true → names (map literal-of us) v ≡ true)
+  none-exactly = unders.none-exactly n (map literal-of us) cs sized
 
-  -- no call of budget 0 brings a model then
-  pub zero-model : length us < n → (c : Checkpoint) → walk-call s us c 0 .kind ≡ says-model → ⊥
-  zero-model h = laws.zero-brings-none s us task posed walks (let e = under-size n us cs (posed .most) good in omega arith)
+  -- and never more than the assumptions leave
+  pub under-most : to-assign task + length us ≤ n
+  under-most =
+      rw (← length-map us literal-of)
+      (unders.under-most n (map literal-of us) cs sized (literals-over n us (map literal-of us) (none-bad-literals n us good)))
 
-  -- S17.5: where all variables are assumed, there is one model, that of the assumptions. On any budget a call from the start checkpoint
+  -- S8.2: where something is to be assigned, a call on budget 0 from the start checkpoint says spent, and returns it,
+  pub start-zero : 0 < to-assign task → walk-call s us start 0 ≡ answered spent 0 0 start
+  start-zero = laws.start-zero s us task posed walks
+
+  -- no call of budget 0 brings a model,
+  pub zero-model : 0 < to-assign task → (c : Checkpoint) → walk-call s us c 0 .kind ≡ says-model → ⊥
+  zero-model = laws.zero-brings-none s us task posed walks
+
+  -- and mode 1 at length 0 is refused by 11.
+  pub assigned-none-foreign : 0 < to-assign task → (b : ℕ) → walk-call s us (checkpoint-of 1 []) b ≡ refusing (ForeignCheckpoint 0) (checkpoint-of 1 [])
+  assigned-none-foreign h b = foreign-returned (checkpoint-of 1 []) b (laws.has-assigned s us task posed walks h)
+
+  -- S17.5, S23.4: where nothing is to be assigned, there is one model, that of the assumptions. On any budget a call from the start checkpoint
   -- hands it out, with no step made, and returns mode 1 and no trail;
-  module _ (all : n ≤ length us) where
-    none : to-assign task ≡ 0
-    none = let e = under-size n us cs (posed .most) good in omega arith
-
+  module _ (none : to-assign task ≡ 0) where
     pub none-left-listing : listing task ≡ assignment (map literal-of us) ∷ []
     none-left-listing = lefts.one-model task none
 
@@ -328,7 +383,7 @@ bad-assumption-exactly s us c b i = (
 pub unreadable : (s : List ℕ) (us : List Assumption) (r : Refusal) (c : Checkpoint) (b : ℕ) → Refuses s r → walk-call s us c b ≡ refusing r c
 unreadable s us r c b w = refusals.call-unreadable s us r c b (refused-all s r w)
 
--- S17.6: an empty list of assumptions changes nothing: the task is the formula's own, all n variables to assign and none assigned before,
+-- S17.6: an empty list of assumptions changes nothing: the task is the formula's own, the named variables to assign and none assigned before,
 pub task-unassumed : (n : ℕ) (cs : List (List Literal)) → under n [] cs ≡ whole n cs
 task-unassumed = unders.under-none
 

@@ -1,8 +1,8 @@
 -- The walk calls on an input that is walked as a task: none is refused, and they are those of the plain machine.
 use Prim.Native.Nat.{ℕ, suc, _*_, _-_, _≤_, _<_}
 use mathlib.Core.Bool.{Bool, true, false, cond}
-use mathlib.Core.List.{List, [], _∷_, _++_, map, List·Memᴰ}
-use mathlib.Core.Logic.{_⊎_, inl, inr, _↔_}
+use mathlib.Core.List.{List, [], _∷_, _++_, map, List·Memᴰ, List·Memᴰ·append-cases}
+use mathlib.Core.Logic.{_⊎_, inl, inr, ⊎-elim, _↔_}
 use mathlib.Core.Path.{_≡_, refl, sym, ap, ap₂, _∙_, subst}
 use native.Mathlib.Nat.{sub-zero}
 use native.Mathlib.Omega.{arith}
@@ -16,7 +16,7 @@ use Rattle.masks.specs.Mask.{bit}
 use Rattle.masks.proofs.SizeLaws.{size-le}
 use Rattle.formula.specs.declared.Refusal.the-variants.{ForeignCheckpoint}
 use Rattle.formula.specs.Format.{Literal, names}
-use Rattle.formula.proofs.FormatLaws.{once-apart}
+use Rattle.formula.specs.Models.{Model}
 use Rattle.assumptions.specs.declared.Assumption.{Assumption}
 use Rattle.splitting.specs.Terms as terms
 use Rattle.splitting.specs.Terms.{opened}
@@ -46,7 +46,7 @@ use Rattle.walk.proofs.MetLaws.{start-stops, down-spent, all-got}
 use Rattle.walk.proofs.AcceptLaws.{stack-replayed, shown-bytes, shown-trail, shown-position, call-shown, accepted-stopped, stopped-accepted}
 use Rattle.walk.proofs.ProperLaws.{stop-proper, proper-stop}
 use Rattle.walk.proofs.ByteLaws.{Below}
-use Rattle.walk.proofs.TreeLaws.{walk-same, trail-over, trail-agrees, agrees-trail, trail-below, live, open-model, model-open, full-every, splits, cheap, cheap-sound}
+use Rattle.walk.proofs.TreeLaws.{walk-same, trail-inside, agrees-trail, trail-below, live, open-model, any-open, full-every, splits, cheap, cheap-sound}
 
 module _ (T : Task) where
   -- the mode and the trail behind k entries, and their checkpoint, are those of the position
@@ -393,10 +393,11 @@ module _ (s : List ℕ) (us : List Assumption) (T : Task) (P : Posed T) (walks :
   pub start-zero : 0 < to-assign T → walk-call s us start 0 ≡ answered spent 0 0 start
   start-zero h = rw start-shown (call-goes 0 (down empty) tt start-stop ∙ ap resumed-result (down-spent (tree T) alive empty h))
 
-  -- at every node of the walk a value of the chosen variable is open exactly if some model agrees with what is assigned and has it
+  -- at every node of the walk a value of the chosen variable is open exactly if some model of the formula agrees with what is assigned and
+  -- has it
   pub node-open : (k : ℕ) → length (behind T k .trail) < to-assign T → (b : Bool)
       → (opened (choice-at T (behind T k .trail)) b ≡ true)
-      ↔ ((a : ℕ) × ModelFor T a × terms.Agrees (bit a) (behind T k .trail) × (bit a (choice-at T (behind T k .trail) .variable) ≡ b))
+      ↔ ((a : ℕ) × Model (T .variables) (T .clauses) a × terms.Agrees (bit a) (T .before) × terms.Agrees (bit a) (behind T k .trail) × (bit a (choice-at T (behind T k .trail) .variable) ≡ b))
   node-open k h b =
       let x = at-every (tree T) alive k in
       let t = stack-of (x .0) in
@@ -404,8 +405,8 @@ module _ (s : List ℕ) (us : List Assumption) (T : Task) (P : Posed T) (walks :
       let e : behind T k .trail ≡ trail-of (stack-of (x .0)) = ap (λ (b : Behind). b .trail) (at-behind T (x .1)) in
       let d : depth (stack-of (x .0)) < to-assign T = omega (arith, length-trail (stack-of (x .0)), (rw e at h)) in
       rw e (
-        λ o. let w = open-model T P t r d b o in (w .0, w .1, agrees-trail (w .0) t (w .2 .1), w .2 .0),
-        λ w. model-open T P t r d b (w .0) (w .1) (w .3, trail-agrees (w .0) t (w .2)),
+        λ o. let w = open-model T P t r d b o in (w .0, w .1 .model, w .1 .agrees, agrees-trail (w .0) t (w .2 .1), w .2 .0),
+        λ w. any-open T P t r d b (w .0) (w .1) (λ l i. ⊎-elim (λ j. w .2 l j) (λ j. w .3 l j) (List·Memᴰ·append-cases (T .before) i)) (w .4),
       )
 
   -- the expansions of one assignment
@@ -416,13 +417,28 @@ module _ (s : List ℕ) (us : List Assumption) (T : Task) (P : Posed T) (walks :
   pub assignment-cheap-sound : (l : Literal) (e : ℕ) → List·Memᴰ (assigns l e) (plain-walk T) → e ≤ to-assign T * (T .variables * suc (T .variables))
   assignment-cheap-sound l e m = walk-cheap (tree T) (to-assign T * (T .variables * suc (T .variables))) (cheap-sound T P) l e (rw (walk-same T) at m)
 
-  -- a variable of the trail is none of those assigned before
-  pub behind-apart : (k v : ℕ) → names (behind T k .trail) v ≡ true → names (T .before) v ≡ false
-  behind-apart k v h =
+  -- a variable of the trail is one of those to assign,
+  pub behind-inside : (k v : ℕ) → names (behind T k .trail) v ≡ true → bit (T .scope) v ≡ true
+  behind-inside k v h =
       let x = at-every (tree T) alive k in
       let t = stack-of (x .0) in
       let e : behind T k .trail ≡ trail-of t = ap (λ (b : Behind). b .trail) (at-behind T (x .1)) in
-      once-apart (T .before) (trail-of t) v (trail-over T P t (stack-replayed (tree T) (x .0) (x .1 .fine)) .once) (rw e at h)
+      trail-inside T P t (stack-replayed (tree T) (x .0) (x .1 .fine)) v (rw e at h)
+
+  -- also one of the trail in a checkpoint that the walk has
+  pub has-inside : (c : Checkpoint) → Has T c → (v : ℕ) → names (trail-in c) v ≡ true → bit (T .scope) v ≡ true
+  has-inside c w v h =
+      let p = standing (w .0) in
+      let a = standing-at (w .0) in
+      let e : trail-in c ≡ trail-of (stack-of p) = ap trail-in (sym (w .1) ∙ at-checkpoint T a) ∙ told p (a .fine) in
+      trail-inside T P (stack-of p) (stack-replayed (tree T) p (a .fine)) v (rw e at h)
+
+  -- where something is to be assigned, the walk has no checkpoint of mode 1 and no trail
+  pub has-assigned : 0 < to-assign T → Has T (checkpoint-of 1 []) → ⊥
+  unfolding checkpoint-of
+  has-assigned some w =
+      let p = has-proper (checkpoint-of 1 []) .0 w in
+      ⊎-elim (λ h. let e = ap (λ (c : Checkpoint). c .length) (p .written) in omega arith) (λ e. omega arith) (p .mode-fits)
 
   -- where something is to be assigned, a call of budget 0 brings no model
   pub zero-brings-none : 0 < to-assign T → (c : Checkpoint) → walk-call s us c 0 .kind ≡ says-model → ⊥

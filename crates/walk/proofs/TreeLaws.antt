@@ -16,6 +16,7 @@ use Rattle.masks.specs.Mask.{bit}
 use Rattle.masks.proofs.BitLaws.{bit-above}
 use Rattle.formula.specs.Format.{Literal, names, distinct}
 use Rattle.formula.proofs.FormatLaws.{names-append, clause-more}
+use Rattle.formula.specs.Models.{Model}
 use Rattle.splitting.specs.declared.Choice.{Choice}
 use Rattle.splitting.specs.Nodes.{remaining, named}
 use Rattle.splitting.specs.Terms as terms
@@ -116,12 +117,12 @@ module _ (T : Task) (P : Posed T) where
     inside : bit (T .scope) (picked t .variable) ≡ true
     fresh : names (assigned t) (picked t .variable) ≡ false
     open-model : (b : Bool) → opened (picked t) b ≡ true → (a : ℕ) × ModelAt (T .variables) (T .scope) (T .clauses) (assigned t) a × (bit a (picked t .variable) ≡ b)
-    model-open : (b : Bool) (a : ℕ) → ModelAt (T .variables) (T .scope) (T .clauses) (assigned t) a → bit a (picked t .variable) ≡ b → opened (picked t) b ≡ true
+    any-open : (b : Bool) (a : ℕ) → Model (T .variables) (T .clauses) a → terms.Agrees (bit a) (assigned t) → bit a (picked t .variable) ≡ b → opened (picked t) b ≡ true
 
   choosing : (t : Stack) → Node t → depth t < to-assign T → Chosen t
   choosing t N h =
       let w = open-means (T .variables) (T .scope) (T .clauses) (assigned t) fits (P .clauses) (covered t) (N .trail) (lacking t N h) (N .sound) in
-      record { below = w .0; inside = w .1; fresh = w .2; open-model = w .3; model-open = λ b a m e. w .4 b a (m .model) (m .agrees) e }
+      record { below = w .0; inside = w .1; fresh = w .2; open-model = w .3; any-open = w .4 }
 
   -- one assignment more
   child : (t : Stack) → Node t → depth t < to-assign T → (b : Bool) → opened (picked t) b ≡ true → Node (push (picked t .variable) b t)
@@ -157,6 +158,10 @@ module _ (T : Task) (P : Posed T) where
   -- what is assigned at a node: variables below n, none twice
   pub trail-over : (t : Stack) → Replayed (tree T) t → Trail (T .variables) (assigned t)
   trail-over t r = node t r .trail
+
+  -- the variables of a trail are among those to assign
+  pub trail-inside : (t : Stack) → Replayed (tree T) t → (v : ℕ) → names (trail-of t) v ≡ true → bit (T .scope) v ≡ true
+  trail-inside t r = node t r .inside
 
   -- the chosen variable is below n and not assigned yet
   pub choice-fresh : (t : Stack) → Replayed (tree T) t → depth t < to-assign T
@@ -199,10 +204,15 @@ module _ (T : Task) (P : Posed T) where
       let x = leave t N (w .0) (w .1) in
       (w .0, x .0, (w .2, x .1))
 
+  -- and already if a model of the formula does, whatever it has of variables that are not to be assigned
+  pub any-open : (t : Stack) → Replayed (tree T) t → depth t < to-assign T → (b : Bool) (a : ℕ) → Model (T .variables) (T .clauses) a → terms.Agrees (bit a) (assigned t)
+      → bit a (picked t .variable) ≡ b → opened (picked t) b ≡ true
+  any-open t r h b a m g e = choosing t (node t r) h .any-open b a m g e
+
   -- and back
   pub model-open : (t : Stack) → Replayed (tree T) t → depth t < to-assign T → (b : Bool) → (a : ℕ) → ModelFor T a → Agrees a (push (picked t .variable) b t)
       → opened (picked t) b ≡ true
-  model-open t r h b a m g = choosing t (node t r) h .model-open b a (enter t a m (g .1)) (g .0)
+  model-open t r h b a m g = any-open t r h b a (m .model) (enter t a m (g .1) .agrees) (g .0)
 
   has-model : (t : Stack) → Node t → (a : ℕ) × ModelFor T a × Agrees a t
   has-model t N =

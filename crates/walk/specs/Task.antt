@@ -1,13 +1,16 @@
 -- S9.1: what a walk is over: the one parameter of the plain walk, its machine and its checkpoints.
 use Prim.Native.Nat.{ℕ, _^_, _≤_, _<_}
 use mathlib.Core.Bool.{true, false}
-use mathlib.Core.List.{List, [], _++_}
+use mathlib.Core.List.{List, [], _++_, map}
 use mathlib.Core.Path.{_≡_}
+use lib.Bits.{bitOr}
 use Rattle.limits.specs.Limits.{max-variables}
 use Rattle.lists.specs.Every.{Every}
-use Rattle.masks.specs.Mask.{bit, minus, full, size}
+use Rattle.masks.specs.Mask.{bit, size}
 use Rattle.formula.specs.Format.{Literal, names, ClauseOver}
 use Rattle.formula.specs.Masked.{variables}
+use Rattle.matching.specs.Sets.{union}
+use Rattle.matched.specs.Pairing.{named-but}
 use Rattle.splitting.specs.declared.Choice.{Choice}
 use Rattle.splitting.specs.Nodes.{remaining}
 use Rattle.splitting.specs.Choosing.{choice}
@@ -20,18 +23,23 @@ pub record Task : Type 0 where
   pub scope : ℕ
   pub before : List Literal
 
--- the task of a formula: all n variables are to be assigned, also those that no clause names, and none is assigned before
-abbrev pub whole : ℕ → List (List Literal) → Task
-whole n cs = record { variables = n; clauses = cs; scope = full n; before = [] }
-
--- S17.3: the task of a formula under assumptions (request: fixed settings): their literals are the trail before, and all other variables
--- are to be assigned
+-- S17.3, S23.1: the task of a formula under assumptions (request: fixed settings): their literals are the trail before, and to be assigned
+-- (request: settled) are the variables that some clause names, as the clauses are written, and that are not assumed
 abbrev pub under : ℕ → List Literal → List (List Literal) → Task
-under n t cs = record { variables = n; clauses = cs; scope = minus (full n) (variables t); before = t }
+under n t cs = record { variables = n; clauses = cs; scope = named-but t cs; before = t }
 
--- how many variables are to be assigned: n for a formula's own task, and n less the assumptions under these
+-- the task of a formula: the variables that its clauses name are to be assigned, and none is assigned before
+abbrev pub whole : ℕ → List (List Literal) → Task
+whole n cs = record { variables = n; clauses = cs; scope = union (map variables cs); before = [] }
+
+-- how many variables are to be assigned (request: n in the waits, from slip 10 on)
 abbrev pub to-assign : Task → ℕ
 to-assign T = size (T .scope)
+
+-- S23.3: the variables whose values a model shows, as a mask: those to assign and those of the trail before. Under assumptions these are the
+-- named and the assumed ones
+abbrev pub visible : Task → ℕ
+visible T = bitOr (T .scope) (variables (T .before))
 
 -- the choice at the node of a trail
 abbrev pub choice-at : Task → List Literal → Choice
