@@ -1,9 +1,10 @@
 -- The cases of the tables specs/MarkedCases.antt, specs/AssumedCases.antt, specs/StrippedCases.antt, specs/ViolatorCases.antt,
--- specs/WaitCases.antt, specs/DeficiencyCases.antt and specs/PageCases.antt, and some more, computed from the definitions.
+-- specs/WaitCases.antt, specs/DeficiencyCases.antt, specs/PageCases.antt and specs/UnnamedCases.antt, and some more, computed from the
+-- definitions.
 use mathlib.Core.Bool.{xor}
 use Prim.Native.Nat.{ℕ, zero, suc, _≤_, _<_}
-use mathlib.Core.List.{List, [], _∷_, _++_, map}
-use mathlib.Core.Logic.{inl}
+use mathlib.Core.List.{List, [], _∷_, _++_, map, List·Memᴰ·eq-of-singleton}
+use mathlib.Core.Logic.{_⊎_, inl, inr}
 use mathlib.Core.Path.{_≡_, refl, ap, _∙_}
 use native.Mathlib.Omega.{arith}
 use lib.ListN.{length, replicate}
@@ -16,6 +17,8 @@ use Rattle.masks.specs.Mask.{bit, members}
 use Rattle.writing.specs.Text.{line-feed, blank, decimal-within, decimal, blanks}
 use Rattle.formula.specs.InnerDecode.{decode, records, read-record}
 use Rattle.formula.specs.Format.{Literal, names, names-as, add, literal-bytes, literals-bytes, clause-bytes, clauses-bytes, formula-bytes}
+use Rattle.formula.specs.Check.{checked}
+use Rattle.formula.specs.InnerModels.{satisfied, stray}
 use Rattle.formula.specs.Masked.{variables}
 use Rattle.assumptions.specs.declared.Assumption.{Assumption}
 use Rattle.assumptions.specs.Assumed.{is-bad, assumed-from, assumed}
@@ -29,18 +32,18 @@ use Rattle.matched.proofs.WeighLaws.{weigh-short, weigh-refused, weigh-bad, wei
 use Rattle.splitting.specs.Nodes.{less, assign, remaining, satisfied-by, occurs, named, first-from, upward-from}
 use Rattle.splitting.specs.Stripping.{pure, not-naming, strip}
 use Rattle.splitting.specs.Choosing.{matching-of, trial, first-passing, candidates, among, listed, last, emptied, last-listed, choice}
-use Rattle.walk.specs.Task.{Task, under, Posed}
+use Rattle.walk.specs.Task.{Task, under, to-assign, visible, Posed}
 use Rattle.walk.specs.Checkpoints.{Checkpoint, trail-in, checkpoint-of, without-last, last-value, start, past-all, behind, checkpoint-after}
 use Rattle.walk.specs.WalkCall.{walk-call, walk-calls}
 use Rattle.walk.specs.InnerLocate.{task-call}
 use Rattle.walk.specs.Plain.{assignment, node-walk, plain-walk}
 use Rattle.walk.specs.Gaps.{to-model, to-end, gaps-from, gaps, shared, ample-budget}
-use Rattle.walk.specs.PlainMachine.{go-on, plain-call, plain-calls, state-after}
+use Rattle.walk.specs.PlainMachine.{go-on, plain-call, plain-calls, state-after, Has}
 use Rattle.walk.specs.Results.{Result, plain-result}
 use Rattle.walk.proofs.Demands.{start-zero}
-use Rattle.walk.proofs.TaskLaws.{calls-plain, calls-unrefused, last-plain}
+use Rattle.walk.proofs.TaskLaws.{calls-plain, calls-unrefused, last-plain, foreign}
 use Rattle.walk.proofs.RefusalLaws.{accepted-posed, call-accepted, call-declined}
-use Rattle.walk.proofs.NothingLeftLaws.{call-first, call-second}
+use Rattle.walk.proofs.NothingLeftLaws.{one-model, three-checkpoints, call-first, call-second}
 use Rattle.page.specs.PageLines.{page-lines, page-size, page-line, blank-line}
 use Rattle.page.specs.Pages.{ample-budgets, with-models, line-at, joined, filled-values, max-serial, page-call}
 use Rattle.page.proofs.JoinedLaws.{joined-same}
@@ -54,6 +57,7 @@ use Rattle.edge_cases.specs.ViolatorCases.{ViolatorCases}
 use Rattle.edge_cases.specs.WaitCases.{gaps-under, WaitCases}
 use Rattle.edge_cases.specs.PageCases.{line-of-these, PageCases}
 use Rattle.edge_cases.specs.TextCases.{ascii}
+use Rattle.edge_cases.specs.UnnamedCases.{no-clause, UnnamedCases}
 
 -- ---- what computes: to unfold one of these is to unfold all that its line names
 
@@ -94,7 +98,7 @@ unfolding searching stripping choice remaining assign less named upward-from mat
 choosing = tt
 
 walking : Unit {0}
-unfolding judging encoding choosing plain-calls plain-call go-on plain-walk node-walk assignment
+unfolding judging encoding choosing union plain-calls plain-call go-on plain-walk node-walk assignment
 walking = tt
 
 printing : Unit {0}
@@ -126,7 +130,7 @@ marked-cases = record {
   example-printed = refl;
   three-pairs = walked-plain _ _ _ _ _ _ refl 5;
   wrong-turn = walked-plain _ _ _ _ _ _ refl 3;
-  no-clauses = walked-plain _ _ _ _ _ _ refl 5;
+  no-clauses = refl;
   no-bytes = refl;
   empty-clause = λ b l. rw (le-ltb (length b) max-clauses l);
   both-ways = λ b l. rw (le-ltb (length b) max-clauses l);
@@ -171,7 +175,7 @@ assumed-cases = record {
   above = (λ b l. rw (le-ltb (length b) max-clauses l), λ c b. call-declined _ _ _ _ c b refl);
   again = (λ b l. rw (le-ltb (length b) max-clauses l), λ c b. call-declined _ _ _ _ c b refl);
   other-value = (λ b l. rw (le-ltb (length b) max-clauses l), λ c b. call-declined _ _ _ _ c b refl);
-  free-walked = walked-plain _ _ _ _ _ _ refl 3;
+  free-walked = walked-plain _ _ _ _ _ _ refl 2;
 }
 
 -- ---- formulas that strip down
@@ -236,7 +240,7 @@ gaps-plain s us n t cs row e bs =
     ap (λ (rs : List Result). gaps rs) (calls-plain s us (under n t cs) (accepted-posed s us n t cs row e) (call-accepted s us n t cs row e) bs)
 
 both-gaps : (b d : ℕ) → gaps-under example both-given (b ∷ d ∷ []) ≡ to-model 0 0 [] ∷ to-end 0 0 ∷ []
-unfolding walk-calls gaps-from trail-in checkpoint-of members bit variables
+unfolding walk-calls gaps-from trail-in checkpoint-of members bit variables union
 both-gaps b d = rw (call-first both-task refl example both-given both-posed both-walks b, call-second both-task refl example both-given both-posed both-walks d)
 
 pub wait-cases : WaitCases
@@ -260,17 +264,17 @@ wait-cases = record {
 -- ---- pages
 
 -- the lines of results, from a serial on, and that they are those of their page
-abbrev lines-of : ℕ → ℕ → List Result → List (List ℕ)
-lines-of n serial [] = []
-lines-of n serial (r ∷ rs) = page-line serial n (r .model) (r .steps) ∷ lines-of n (suc serial) rs
+abbrev lines-of : ℕ → ℕ → ℕ → List Result → List (List ℕ)
+lines-of n mask serial [] = []
+lines-of n mask serial (r ∷ rs) = page-line serial n mask (r .model) (r .steps) ∷ lines-of n mask (suc serial) rs
 
-line-these : (n serial : ℕ) (rs : List Result) (i : ℕ) → line-at n serial rs i ≡ line-of-these (lines-of n serial rs) i
-line-these n serial [] i = refl
-line-these n serial (r ∷ rs) zero = refl
-line-these n serial (r ∷ rs) (suc i) = line-these n (suc serial) rs i
+line-these : (n mask serial : ℕ) (rs : List Result) (i : ℕ) → line-at n mask serial rs i ≡ line-of-these (lines-of n mask serial rs) i
+line-these n mask serial [] i = refl
+line-these n mask serial (r ∷ rs) zero = refl
+line-these n mask serial (r ∷ rs) (suc i) = line-these n mask (suc serial) rs i
 
-joined-these : (n serial : ℕ) (rs : List Result) (k : ℕ) → joined (line-at n serial rs) k ≡ joined (line-of-these (lines-of n serial rs)) k
-joined-these n serial rs k = joined-same (line-at n serial rs) (line-of-these (lines-of n serial rs)) k (λ i l. line-these n serial rs i)
+joined-these : (n mask serial : ℕ) (rs : List Result) (k : ℕ) → joined (line-at n mask serial rs) k ≡ joined (line-of-these (lines-of n mask serial rs)) k
+joined-these n mask serial rs k = joined-same (line-at n mask serial rs) (line-of-these (lines-of n mask serial rs)) k (λ i l. line-these n mask serial rs i)
 
 -- a page from the start has the lines of what the plain machine brings
 page-plain : (s : List ℕ) (us : List Assumption) (n : ℕ) (t : List Literal) (cs : List (List Literal)) (row : List ℕ) → acceptance s us ≡ accepted n t cs row
@@ -281,7 +285,7 @@ page-plain : (s : List ℕ) (us : List Assumption) (n : ℕ) (t : List Literal) 
     ≡ record {
       answer = filled-values (length rs);
       checkpoint = checkpoint-after (under n t cs) (state-after (under n t cs) 0 bs);
-      page = over (joined (line-of-these (lines-of n serial rs)) page-lines) b;
+      page = over (joined (line-of-these (lines-of n (visible (under n t cs)) serial rs)) page-lines) b;
     })
 unfolding walk-calls
 page-plain s us n t cs row e serial b l some most =
@@ -292,7 +296,7 @@ page-plain s us n t cs row e serial b l some most =
       calls-plain s us (under n t cs) P w (ample-budgets page-lines),
       last-plain s us (under n t cs) P w (ample-budgets page-lines),
       e,
-      ← joined-these n serial (with-models (map (plain-result (under n t cs)) (plain-calls (under n t cs) 0 (ample-budgets page-lines)))) page-lines,
+      ← joined-these n (visible (under n t cs)) serial (with-models (map (plain-result (under n t cs)) (plain-calls (under n t cs) 0 (ample-budgets page-lines)))) page-lines,
     )
 
 -- a blank line, byte for byte
@@ -311,6 +315,55 @@ page-cases = record {
   reading-third = λ c b l.
       let e = call-declined (1 ∷ 2 ∷ []) [] _ _ c ample-budget refl in
       page-refused (1 ∷ 2 ∷ []) [] c 1 b l (omega arith) (omega arith) (ap (λ (r : Result). r .kind) e) ∙ rw e;
+}
+
+-- ---- variables that no clause names
+
+-- 2 variables and no clause are accepted, with nothing to assign
+abbrev none-task : Task
+none-task = under 2 [] []
+
+none-accepted : acceptance no-clause [] ≡ accepted 2 [] [] []
+unfolding judging
+none-accepted = refl
+
+none-posed : Posed none-task
+none-posed = accepted-posed no-clause [] 2 [] [] [] none-accepted
+
+none-walks : (c : Checkpoint) (b : ℕ) → walk-call no-clause [] c b ≡ task-call none-task c b
+none-walks = call-accepted no-clause [] 2 [] [] [] none-accepted
+
+none-left : to-assign none-task ≡ 0
+unfolding members bit variables union
+none-left = refl
+
+-- its walk has no checkpoint with a variable in its trail
+none-assigned : Has none-task (checkpoint-of 1 (off 1 ∷ [])) → ⊥
+unfolding checkpoint-of
+none-assigned w = by (three-checkpoints none-task none-left (checkpoint-of 1 (off 1 ∷ [])) .0 w)
+  where
+    long : (m : ℕ) → checkpoint-of 1 (off 1 ∷ []) ≡ checkpoint-of m [] → ⊥
+    long m e = omega (arith, ap (λ (c : Checkpoint). c .length) e)
+
+    by : (checkpoint-of 1 (off 1 ∷ []) ≡ start) ⊎ ((checkpoint-of 1 (off 1 ∷ []) ≡ checkpoint-of 1 []) ⊎ (checkpoint-of 1 (off 1 ∷ []) ≡ checkpoint-of 4 [])) → ⊥
+    unfolding start
+    by (inl e) = long 0 e
+    by (inr (inl e)) = long 1 e
+    by (inr (inr e)) = long 4 e
+
+pub unnamed-cases : UnnamedCases
+unfolding judging walking printing paging checked satisfied stray
+unnamed-cases = record {
+  none-first = λ b. call-first none-task none-left no-clause [] none-posed none-walks b;
+  none-second = λ b. call-second none-task none-left no-clause [] none-posed none-walks b;
+  none-foreign = λ b. foreign no-clause [] none-task none-posed none-walks (checkpoint-of 1 (off 1 ∷ [])) b none-assigned;
+  none-checked = refl;
+  none-unlisted = λ m. let e = List·Memᴰ·eq-of-singleton (rw (one-model none-task none-left) at m) in absurd (omega arith);
+  none-assumed = λ b l. page-plain _ _ _ _ _ _ refl 1 b l (omega arith) (omega arith);
+  none-assumed-false = λ b l. page-plain _ _ _ _ _ _ refl 1 b l (omega arith) (omega arith);
+  two-printed = refl;
+  satisfied-walked = walked-plain _ _ _ _ _ _ refl 3;
+  satisfied-page = λ b l. page-plain _ _ _ _ _ _ refl 1 b l (omega arith) (omega arith);
 }
 
 -- ---- more cases

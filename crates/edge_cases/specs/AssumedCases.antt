@@ -47,5 +47,5 @@ pub record AssumedCases : Type 0 where
   pub again : BadAt example (assume-on 1 ∷ assume-on 1 ∷ []) 1
   -- and with the other
   pub other-value : BadAt example (assume-on 1 ∷ assume-off 1 ∷ []) 1
-  -- 2 variables and no clause, 2 true: 1 is assigned, the lowest that is not assumed
-  pub free-walked : walked-under (1 ∷ 2 ∷ 5 ∷ []) (assume-on 2 ∷ []) 3 ≡ model-at (0 ∷ 1 ∷ []) 1 0 ∷ model-at (1 ∷ 1 ∷ []) 2 0 ∷ end-at 1 0 ∷ []
+  -- 2 variables and no clause, 2 true: no variable is to be assigned
+  pub free-walked : walked-under (1 ∷ 2 ∷ 5 ∷ []) (assume-on 2 ∷ []) 2 ≡ model-at (0 ∷ 1 ∷ []) 0 0 ∷ end-at 0 0 ∷ []

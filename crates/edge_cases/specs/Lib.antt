@@ -4,5 +4,6 @@ pub mod MarkedCases
 pub mod PageCases
 pub mod StrippedCases
 pub mod TextCases
+pub mod UnnamedCases
 pub mod ViolatorCases
 pub mod WaitCases

@@ -6,7 +6,7 @@ use mathlib.Core.List.{List, [], _∷_, _++_, map}
 use mathlib.Core.Path.{_≡_}
 use lib.ListN.{length, drop, replicate}
 use Rattle.limits.specs.Limits.{max-clauses}
-use Rattle.writing.specs.Text.{line-feed, blank}
+use Rattle.writing.specs.Text.{dash, line-feed, blank}
 use Rattle.formula.specs.InnerDecode.{decode}
 use Rattle.formula.specs.Decoding.{Decoding, readable, refused}
 use Rattle.formula.specs.Format.{Literal, formula-bytes, Encodes}
@@ -16,6 +16,7 @@ use Rattle.assumptions.specs.Assumed.{literal-of}
 use Rattle.assumptions.specs.FirstBad.{NoneBad}
 use Rattle.matched.specs.Judge.{accepted-values, judge}
 use Rattle.matched.specs.Pairing.{Pairs, left-of}
+use Rattle.walk.specs.Task.{under, to-assign}
 use Rattle.walk.specs.Gaps.{ample-budget}
 use Rattle.walk.specs.Checkpoints.{start}
 use Rattle.walk.specs.PlainMachine.{spent}
@@ -124,9 +125,11 @@ pub record MarkedCases : Type 0 where
   -- with 1 false no clause is empty yet, but no model is left; the walk never assigns it so
   pub wrong-turn : walked wrong-turn-formula 3
       ≡ model-at (1 ∷ 0 ∷ []) 2 0 ∷ model-at (1 ∷ 1 ∷ []) 4 0 ∷ end-at 2 0 ∷ []
-  -- 2 variables and no clause: all four assignments are models
-  pub no-clauses : walked (1 ∷ 2 ∷ 5 ∷ []) 5
-      ≡ model-at (0 ∷ 0 ∷ []) 2 0 ∷ model-at (0 ∷ 1 ∷ []) 2 0 ∷ model-at (1 ∷ 0 ∷ []) 4 0 ∷ model-at (1 ∷ 1 ∷ []) 2 0 ∷ end-at 2 0 ∷ []
+  -- 2 variables and no clause, which since slip 10 has one model, printed as `switches 2 rules 0`, `-- 0 0`, `end 0 0`
+  pub no-clauses : printed (1 ∷ 2 ∷ 5 ∷ [])
+      ≡ (switches-word ++ (blank ∷ 50 ∷ blank ∷ [])) ++ (rules-word ++ (blank ∷ 48 ∷ line-feed ∷ []))
+      ++ (dash ∷ dash ∷ blank ∷ 48 ∷ blank ∷ 48 ∷ line-feed ∷ [])
+      ++ (end-word ++ (blank ∷ 48 ∷ blank ∷ 48 ∷ line-feed ∷ []))
   -- the empty input: 2 at 0
   pub no-bytes : refusal-of (decode []) ≡ number-at 2 0
   -- an empty clause alone: 10, one clause marked
@@ -145,7 +148,7 @@ pub record MarkedCases : Type 0 where
   pub clause-not-ended : refusal-of (decode (1 ∷ 1 ∷ 2 ∷ 1 ∷ 5 ∷ [])) ≡ number-at 4 4
   -- a byte behind kind 5: 9 at offset 3
   pub tail-byte : refusal-of (decode (1 ∷ 1 ∷ 5 ∷ 0 ∷ [])) ≡ number-at 9 3
-  -- S8.2: an accepted formula with a variable that is not assumed, from the start checkpoint, on budget 0: spent, with no step made and
-  -- the checkpoint unchanged
+  -- S8.2: an accepted formula with something to assign, from the start checkpoint, on budget 0: spent, with no step made and the checkpoint
+  -- unchanged. With nothing to assign the model comes: `none-first` in specs/UnnamedCases.antt
   pub start-zero : (s : List ℕ) (us : List Assumption) (n : ℕ) (cs : List (List Literal)) → Encodes s n cs → NoneBad n us
-      → (vs : List ℕ) → Pairs (left-of n (map literal-of us) cs) vs → length us < n → walk-call s us start 0 ≡ answered spent 0 0 start
+      → (vs : List ℕ) → Pairs (left-of n (map literal-of us) cs) vs → 0 < to-assign (under n (map literal-of us) cs) → walk-call s us start 0 ≡ answered spent 0 0 start

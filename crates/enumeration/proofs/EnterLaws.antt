@@ -17,7 +17,7 @@ use Rattle.splitting.specs.declared.Assignment.{Assignment}
 use Rattle.matched.specs.Acceptance.{accepted}
 use Rattle.matched.specs.InnerAccept.{assigned-by, Takes, Decides}
 use Rattle.matched.proofs.AcceptLaws.{given-assignment}
-use Rattle.walk.specs.Task.{Task, under}
+use Rattle.walk.specs.Task.{Task, under, visible}
 use Rattle.walk.specs.Checkpoints.{Checkpoint}
 use Rattle.walk.specs.InnerStack.{Tree, tree}
 use Rattle.walk.specs.InnerTest.{accepts, read, position-of}
@@ -27,11 +27,11 @@ use Rattle.walk.proofs.TaskLaws.{call-tested}
 use Rattle.walk.proofs.RefusalLaws.{call-declined, call-accepted, accepted-posed}
 use Rattle.enumeration.specs.declared.entering.Entered.{Entered}
 use Rattle.enumeration.specs.declared.scope.Scope.{Scope}
-use Rattle.enumeration.specs.InnerScope.{scope-under}
+use Rattle.enumeration.specs.InnerScope.{scope-under, visible-in, task-scope}
 use Rattle.enumeration.specs.InnerState.{position-in, Follows, Holds}
 use Rattle.enumeration.specs.InnerEnter.{WalkedAs, Walkable, Begun}
 use Rattle.enumeration.proofs.FollowsLaws.{follows}
-use Rattle.enumeration.proofs.ScopeLaws.{under-task}
+use Rattle.enumeration.proofs.ScopeLaws.{under-task, visible-task}
 use Rattle.enumeration.proofs.ListLaws.{brought-resumed, brought-from}
 
 -- ---- an input that is walked as a task
@@ -74,22 +74,31 @@ module _ (s : List ℕ) (us : List Assumption) (f : Formula) (z : Scope) (w : Wa
 abbrev pub tree-of : (s : List ℕ) (us : List Assumption) (f : Formula) → Takes s us f → Tree
 tree-of s us f w = tree (under (w .variables) (w .trail) (w .clauses))
 
-module _ (s : List ℕ) (us : List Assumption) (u : Assumptions) (given : MasksOf s us u) (f : Formula) (z : Scope) (e : z ≡ scope-under (f .variables) (assigned-by u)) where
+module _ (s : List ℕ) (us : List Assumption) (u : Assumptions) (given : MasksOf s us u) (f : Formula) (z : Scope) (e : z ≡ scope-under f (assigned-by u)) where
+  -- its scope is its task's
+  takes-scope : (w : Takes s us f) → z ≡ task-scope (under (w .variables) (w .trail) (w .clauses))
+  takes-scope w =
+      e
+      ∙ ap₂ scope-under (w .formula) (given-assignment s us u given (w .variables) (w .clauses) (w .reads) (w .trail) (w .assumes))
+      ∙ under-task (w .variables) (w .clauses) (w .trail)
+
+  -- and shows what its task does
+  pub takes-visible : (w : Takes s us f) → visible-in z ≡ visible (under (w .variables) (w .trail) (w .clauses))
+  takes-visible w = ap visible-in (takes-scope w) ∙ visible-task (under (w .variables) (w .trail) (w .clauses))
+
   abbrev takes-walked : Takes s us f → WalkedAs s us f z
   takes-walked w = record {
     task = under (w .variables) (w .trail) (w .clauses);
     posed = accepted-posed s us (w .variables) (w .trail) (w .clauses) (w .row) (w .accepts);
     formula = w .formula;
-    scope =
-        e
-        ∙ ap₂ (λ (g : Formula) (a : Assignment). scope-under (g .variables) a) (w .formula) (given-assignment s us u given (w .variables) (w .clauses) (w .reads) (w .trail) (w .assumes))
-        ∙ under-task (w .variables) (w .clauses) (w .trail);
+    scope = takes-scope w;
     fits = w .fits;
     accepted = record {
       trail = w .trail;
       clauses = w .clauses;
       row = w .row;
       accepts = w .accepts ∙ ap (λ (g : Formula). accepted (g .variables) (w .trail) (w .clauses) (w .row)) (sym (w .formula));
+      shows = takes-visible w;
     };
     calls = call-accepted s us (w .variables) (w .trail) (w .clauses) (w .row) (w .accepts);
   }

@@ -1,35 +1,45 @@
 -- What the code takes to be assigned is what a task has.
-use Prim.Native.Nat.{ℕ, _<_}
-use mathlib.Core.List.{List}
-use mathlib.Core.Path.{_≡_, refl, sym, _∙_}
+use Prim.Native.Nat.{ℕ, _≤_}
+use mathlib.Core.List.{List, map}
+use mathlib.Core.Path.{_≡_, refl, ap, ap₂, _∙_}
 use native.Mathlib.Omega.{arith}
-use Rattle.masks.specs.Mask.{minus, full, size}
-use Rattle.masks.proofs.MembersLaws.{mask-same}
+use lib.Bits.{bitOr}
+use lib.ListN.{take}
+use Rattle.limits.specs.Limits.{max-clauses}
+use Rattle.masks.specs.Mask.{minus, size}
 use Rattle.formula.specs.declared.Decoded.{Decoded}
+use Rattle.formula.specs.declared.Formula.{Formula}
 use Rattle.formula.specs.Decoding.{Decoding, readable, refused}
 use Rattle.formula.specs.Format.{Literal}
 use Rattle.formula.specs.Masked.{variables}
 use Rattle.formula.specs.InnerDecode.{decode}
-use Rattle.formula.specs.InnerMasked.{held, decoded}
-use Rattle.formula.proofs.ClauseLaws.{variables-bit}
+use Rattle.formula.specs.InnerFits.{clause-variables}
+use Rattle.formula.specs.InnerMasked.{held, decoded, formula-of}
 use Rattle.formula.proofs.Demands.{accepted-fits}
+use Rattle.matching.specs.Sets.{union}
 use Rattle.splitting.specs.InnerChoose.{assigned, assignment-of}
-use Rattle.splitting.proofs.MaskNodeLaws.{assigned-trail}
-use Rattle.walk.specs.Task.{under}
-use Rattle.enumeration.specs.InnerScope.{scope-under, task-scope}
+use Rattle.splitting.proofs.MaskNodeLaws.{assigned-variables}
+use Rattle.matched.proofs.PairingLaws.{array-masks}
+use Rattle.walk.specs.Task.{Task, under, visible}
+use Rattle.enumeration.specs.declared.scope.Scope.{Scope}
+use Rattle.enumeration.specs.InnerScope.{named-less, scope-under, visible-in, task-scope}
 
--- a trail is assigned before, and the others of n variables are to be assigned
-pub under-task : (n : ℕ) (cs : List (List Literal)) (t : List Literal)
-    → scope-under n (assignment-of t) ≡ task-scope (under n t cs)
+-- a trail is assigned before, and what the clauses name besides is to be assigned
+pub under-task : (n : ℕ) (cs : List (List Literal)) (t : List Literal) → scope-under (formula-of n cs) (assignment-of t) ≡ task-scope (under n t cs)
 under-task n cs t =
-    let e : assigned (assignment-of t) ≡ variables t = mask-same _ _ (λ i. assigned-trail t i ∙ sym (variables-bit t i)) in
-    λ i. record { mask = minus (full n) (e i); size = size (minus (full n) (e i)); before = assignment-of t }
+    let e : named-less (formula-of n cs) (assignment-of t) ≡ minus (union (map variables cs)) (variables t) =
+    ap₂ (λ (l : List ℕ) (m : ℕ). minus (union l) m) (array-masks n cs (formula-of n cs) refl) (assigned-variables t) in
+    ap (λ (m : ℕ). record { mask = m; size = size m; before = assignment-of t }) e
 
--- what is read has at most 48 variables
-pub decoded-small : (s : List ℕ) (d : Decoded) → d ≡ decoded s → d .formula .variables < 64
+-- a scope shows what its task does
+pub visible-task : (T : Task) → visible-in (task-scope T) ≡ visible T
+visible-task T = ap (bitOr (T .scope)) (assigned-variables (T .before))
+
+-- what is read has at most 96 clauses
+pub decoded-few : (s : List ℕ) (d : Decoded) → d ≡ decoded s → d .formula .count ≤ max-clauses
 unfolding decoded
-decoded-small s d e = rw e (at (decode s) refl)
+decoded-few s d e = rw e (at (decode s) refl)
   where
-    at : (x : Decoding) → decode s ≡ x → held x .formula .variables < 64
-    at (readable n cs) q = omega (arith, accepted-fits s n cs q .most)
+    at : (x : Decoding) → decode s ≡ x → held x .formula .count ≤ max-clauses
+    at (readable n cs) q = omega (arith, accepted-fits s n cs q .few)
     at (refused r) q = omega arith

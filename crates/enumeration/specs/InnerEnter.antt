@@ -15,7 +15,7 @@ use Rattle.formula.specs.InnerMasked.{formula-of}
 use Rattle.formula.specs.InnerFits.{FormulaFits}
 use Rattle.assumptions.specs.declared.Assumption.{Assumption}
 use Rattle.matched.specs.Acceptance.{accepted, acceptance}
-use Rattle.walk.specs.Task.{Task, Posed}
+use Rattle.walk.specs.Task.{Task, under, visible, Posed}
 use Rattle.walk.specs.Checkpoints.{Checkpoint}
 use Rattle.walk.specs.InnerStack.{Tree}
 use Rattle.walk.specs.InnerMachine.{resume}
@@ -26,7 +26,7 @@ use Rattle.walk.specs.WalkCall.{walk-call}
 use Rattle.walk.specs.Results.{refusing}
 use Rattle.enumeration.specs.declared.entering.Entered.{Entered}
 use Rattle.enumeration.specs.declared.scope.Scope.{Scope}
-use Rattle.enumeration.specs.InnerScope.{task-scope}
+use Rattle.enumeration.specs.InnerScope.{visible-in, task-scope}
 use Rattle.enumeration.specs.InnerState.{position-in, Follows, Holds}
 use Rattle.enumeration.specs.InnerLists.{filling}
 use Rattle.enumeration.specs.Lists.{next-models}
@@ -37,12 +37,13 @@ pub record Stands (K : Tree) (c : Checkpoint) (r : Entered) : Type 0 where
       → (accepts K c ≡ true) × Holds K (r .state) × (position-in (r .state) ≡ position-of (K .size) (c .mode) (read c))
   pub foreign : (e : Refusal) → r .outcome ≡ outcomes.Refused e → (e ≡ ForeignCheckpoint 0) × (accepts K c ≡ false)
 
--- the input is accepted, and f has its number of variables
-pub record AcceptedAs (s : List ℕ) (us : List Assumption) (f : Formula) : Type 0 where
+-- the input is accepted, f has its number of variables, and z shows the variables that its task does
+pub record AcceptedAs (s : List ℕ) (us : List Assumption) (f : Formula) (z : Scope) : Type 0 where
   pub trail : List Literal
   pub clauses : List (List Literal)
   pub row : List ℕ
   pub accepts : acceptance s us ≡ accepted (f .variables) trail clauses row
+  pub shows : visible-in z ≡ visible (under (f .variables) trail clauses)
 
 -- under the assumptions us the input s is walked as a task, and f and z hold it
 pub record WalkedAs (s : List ℕ) (us : List Assumption) (f : Formula) (z : Scope) : Type 0 where
@@ -51,7 +52,7 @@ pub record WalkedAs (s : List ℕ) (us : List Assumption) (f : Formula) (z : Sco
   pub formula : f ≡ formula-of (task .variables) (task .clauses)
   pub scope : z ≡ task-scope task
   pub fits : FormulaFits f
-  pub accepted : AcceptedAs s us f
+  pub accepted : AcceptedAs s us f z
   pub calls : (c : Checkpoint) (b : ℕ) → walk-call s us c b ≡ task-call task c b
 
 -- o is what comes of the input: it is walked so, or every call is refused
@@ -64,7 +65,7 @@ pub record Walkable (s : List ℕ) (us : List Assumption) (o : Outcome) (f : For
 pub record Begun (s : List ℕ) (us : List Assumption) (f : Formula) (z : Scope) (c : Checkpoint) (r : Entered) : Type 0 where
   pub tree : Tree
   pub fits : FormulaFits f
-  pub accepted : AcceptedAs s us f
+  pub accepted : AcceptedAs s us f z
   pub follows : Follows f z tree
   pub holds : Holds tree (r .state)
   pub passes : accepts tree c ≡ true

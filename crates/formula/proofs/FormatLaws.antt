@@ -2,11 +2,11 @@
 use Prim.Native.Nat.{ℕ, _<_}
 use mathlib.Core.Bool.{Bool, true, false, not, _&&_, _||_, Bool·beq, or-assoc, or-true, and-eq-true-iff}
 use mathlib.Core.List.{List, [], _∷_, _++_, append-assoc}
-use mathlib.Core.Path.{_≡_, refl, sym, ap, _∙_}
-use borrow.Author.Tests.{not-true, eq-eqb, ne-eqb}
+use mathlib.Core.Path.{_≡_, refl, sym, _∙_}
+use borrow.Author.Tests.{not-true, eq-eqb}
 use lib.Dec.{eqb}
 use Rattle.lists.proofs.EveryLaws.{every-append}
-use Rattle.lists.proofs.TestLaws.{or-none, or-right, bool-clash, eqb-comm, sign-itself}
+use Rattle.lists.proofs.TestLaws.{or-none, eqb-comm, sign-itself}
 use Rattle.formula.specs.Format.{Literal, literals-bytes, clauses-bytes, names, names-as, distinct, ClauseOver}
 
 -- the literals of two lists are written one list after the other
@@ -58,15 +58,6 @@ unfolding distinct
 distinct-rest l c h =
     let a : (not (names c (l .variable)) ≡ true) × (distinct c ≡ true) = and-eq-true-iff (not (names c (l .variable))) (distinct c) .0 h in
     (not-true (names c (l .variable)) (a .0), a .1)
-
--- of two lists that together have no variable twice, what the second names the first does not
-pub once-apart : (c d : List Literal) (v : ℕ) → distinct (c ++ d) ≡ true → names d v ≡ true → names c v ≡ false
-unfolding names
-once-apart [] d v h e = refl
-once-apart (l ∷ c) d v h e =
-    let r = distinct-rest l (c ++ d) h in
-    let apart : l .variable ≡ v → ⊥ = λ q. bool-clash (or-right (names c v) (names d v) e) (sym (names-append c d v) ∙ ap (names (c ++ d)) (sym q) ∙ r .0) in
-    rw (ne-eqb (l .variable) v apart) (once-apart c d v (r .1) e)
 
 -- a clause with no variable twice, and one more variable, has none twice
 pub distinct-more : (c : List Literal) (l : Literal) → distinct c ≡ true → names c (l .variable) ≡ false → distinct (c ++ (l ∷ [])) ≡ true

@@ -15,7 +15,6 @@ use Rattle.limits.specs.Limits.{max-clauses}
 use Rattle.lists.specs.Over.{over}
 use Rattle.lists.proofs.OverLaws.{over-length}
 use Rattle.masks.specs.Mask.{minus, size}
-use Rattle.masks.proofs.MembersLaws.{mask-same}
 use Rattle.formula.specs.declared.Clause.{Clause}
 use Rattle.formula.specs.declared.Formula.{Formula}
 use Rattle.formula.specs.declared.Refusal.{Refusal}
@@ -26,7 +25,6 @@ use Rattle.formula.specs.Format.{Literal}
 use Rattle.formula.specs.Masked.{variables}
 use Rattle.formula.specs.InnerFits.{clause-variables}
 use Rattle.formula.specs.InnerMasked.{no-clause}
-use Rattle.formula.proofs.ClauseLaws.{variables-bit}
 use Rattle.formula.proofs.Demands.{accepted-fits}
 use Rattle.formula.proofs.MaskedLaws.{Accepts}
 use Rattle.assumptions.specs.declared.Assumption.{Assumption}
@@ -36,8 +34,8 @@ use Rattle.assumptions.specs.InnerAssumed.{MasksOf}
 use Rattle.matching.specs.Sets.{union, selected}
 use Rattle.matching.proofs.MatchedLaws.{union-more}
 use Rattle.matching.proofs.SelectedLaws.{selected-more, selected-front, selected-map, selected-size}
-use Rattle.splitting.specs.InnerChoose.{assigned, assignment-of}
-use Rattle.splitting.proofs.MaskNodeLaws.{assigned-trail}
+use Rattle.splitting.specs.InnerChoose.{assigned}
+use Rattle.splitting.proofs.MaskNodeLaws.{assigned-variables}
 use Rattle.matched.specs.Acceptance.{Acceptance, accepted, declined, acceptance}
 use Rattle.matched.specs.Judge.{Judged, judge}
 use Rattle.matched.specs.Pairing.{marked, named-but, Violator}
@@ -85,10 +83,6 @@ module _ (marks : List ℕ) (cs : List Clause) (i m : ℕ) (inside : i < length 
   pub gathered-unmarked : getD marks i 0 ≡ 0 → m ≡ union (selected marks (map clause-variables (take (i + 1) cs)))
   gathered-unmarked z =
       rw (selected-map clause-variables marks (take (i + 1) cs), next-unmarked marks cs i no-clause inside few z, ← selected-map clause-variables marks (take i cs)) gathered
-
--- the variables of literals are those that their assignment has
-assigned-variables : (t : List Literal) → assigned (assignment-of t) ≡ variables t
-assigned-variables t = mask-same (assigned (assignment-of t)) (variables t) (λ i. assigned-trail t i ∙ sym (variables-bit t i))
 
 -- ---- what is weighed, by the cases of its definition
 

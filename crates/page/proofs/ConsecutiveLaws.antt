@@ -16,7 +16,7 @@ use Rattle.walk.specs.Results.{Result}
 use Rattle.walk.specs.WalkCall.{walk-call}
 use Rattle.walk.specs.InnerLocate.{task-call}
 use Rattle.page.specs.PageLines.{page-lines, line-size, page-size}
-use Rattle.page.specs.Pages.{next-results, next-checkpoint, line-at, PageCall, accepted-variables, max-serial, filling-page, page-call, page-calls}
+use Rattle.page.specs.Pages.{next-results, next-checkpoint, line-at, PageCall, accepted-variables, accepted-visible, max-serial, filling-page, page-call, page-calls}
 use Rattle.page.proofs.LineAtLaws.{line-drop, line-take}
 use Rattle.page.proofs.NextLaws.{checkpoint-zero, checkpoint-append}
 use Rattle.page.proofs.NextModelLaws.{nexts, one-unrefused, next-part}
@@ -111,16 +111,17 @@ module _ (s : List ℕ) (us : List Assumption) (T : Task) (P : Posed T) (walks :
       -- its lines are those of these results,
       pub behind-line : (i : ℕ) → i < page-lines
           → take line-size (drop (line-size * i) (p .page))
-          ≡ line-at (accepted-variables (acceptance s us)) serial (next-results s us c (page-lines * length bs)) (page-lines * length ps + i)
+          ≡ line-at (accepted-variables (acceptance s us)) (accepted-visible (acceptance s us)) serial (next-results s us c (page-lines * length bs)) (page-lines * length ps + i)
       behind-line i l =
           let n = accepted-variables (acceptance s us) in
+          let m = accepted-visible (acceptance s us) in
           let j = page-lines * length ps in
           let x = page-among bs c serial g room ps qs p e in
           ap (λ (q : PageCall). take line-size (drop (line-size * i) (q .page))) (x .filled)
           ∙ filled-line s us (next-checkpoint s us c j) (serial + j) (x .most) (x .before) i l
-          ∙ ap (λ (rs : List Result). line-at n (serial + j) rs i) (sym part)
-          ∙ line-take n page-lines (serial + j) (drop j (next-results s us c (page-lines * length bs))) i l
-          ∙ sym (line-drop n j serial (next-results s us c (page-lines * length bs)) i)
+          ∙ ap (λ (rs : List Result). line-at n m (serial + j) rs i) (sym part)
+          ∙ line-take n m page-lines (serial + j) (drop j (next-results s us c (page-lines * length bs))) i l
+          ∙ sym (line-drop n m j serial (next-results s us c (page-lines * length bs)) i)
 
       -- so many are filled,
       pub behind-count : p .answer .lines ≡ length (take page-lines (drop (page-lines * length ps) (next-results s us c (page-lines * length bs))))

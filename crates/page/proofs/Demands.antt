@@ -3,24 +3,27 @@
 use Prim.Native.Nat.{ℕ, suc, _+_, _*_, _-_, _≤_, _<_}
 use mathlib.Core.List.{List, [], _∷_, _++_, map}
 use mathlib.Core.Logic.{_⊎_, inr, _↔_}
-use mathlib.Core.Path.{_≡_, sym, ap, _∙_}
+use mathlib.Core.Path.{_≡_, sym, ap, ap₂, _∙_}
 use native.Mathlib.Omega.{arith}
 use lib.ListN.{length, getD, take, drop, length-append, length-take, length-map, take-append-drop}
 use lib.Seq.{take-all, getD-take}
 use Rattle.limits.specs.Limits.{max-clauses}
+use Rattle.writing.specs.Text.{digit, dash}
+use Rattle.writing.proofs.ColumnLaws.{column-dash, column-digit}
 use Rattle.lists.specs.Over.{over}
 use Rattle.lists.specs.Distinct.{Distinct}
 use Rattle.lists.specs.Every.{Every}
 use Rattle.lists.proofs.DistinctLaws.{distinct-first}
 use Rattle.formula.specs.declared.Refusal.the-variants.{Unmatched, ShortPage, BadSerial}
-use Rattle.formula.specs.Format.{Literal, Encodes}
+use Rattle.formula.specs.Format.{Literal, names, Encodes}
 use Rattle.assumptions.specs.declared.Assumption.{Assumption}
 use Rattle.assumptions.specs.Assumed.{literal-of}
 use Rattle.assumptions.specs.FirstBad.{NoneBad}
+use Rattle.splitting.specs.Nodes.{named}
 use Rattle.matched.specs.Acceptance.{acceptance}
 use Rattle.matched.specs.Judge.{refused-values, judge}
 use Rattle.matched.specs.Pairing.{Pairs, left-of}
-use Rattle.walk.specs.Task.{Task, under, to-assign, Posed}
+use Rattle.walk.specs.Task.{Task, under, to-assign, visible, Posed}
 use Rattle.walk.specs.Plain.{plain-walk, models-of, listing}
 use Rattle.walk.specs.Checkpoints.{Checkpoint, trail-in, checkpoint-of, start}
 use Rattle.walk.specs.PlainMachine.{ended, state-after, Has}
@@ -31,9 +34,10 @@ use Rattle.walk.specs.InnerLocate.{task-call}
 use Rattle.walk.proofs.TaskLaws.{answer-unrefused}
 use Rattle.walk.proofs.HasLaws.{start-has}
 use Rattle.walk.proofs.Demands as walk
-use Rattle.walk.proofs.Demands.{from-end}
-use Rattle.page.specs.PageLines.{page-lines, line-size, page-size, page-line, blank-line}
-use Rattle.page.specs.Pages.{ample-budgets, next-results, next-checkpoint, steps-at, trail-at, line-at, joined, filled-values, PageCall, unfilled, refusing-page, accepted-variables, max-serial, line-of-page, filling-page, page-call, page-calls}
+use Rattle.walk.proofs.Demands.{visible-exactly, hidden-exactly, from-end}
+use Rattle.page.specs.PageLines.{page-lines, line-size, page-size, page-columns, page-line, blank-line}
+use Rattle.page.specs.Pages.{ample-budgets, next-results, next-checkpoint, steps-at, trail-at, line-at, joined, filled-values, PageCall, unfilled, refusing-page, accepted-variables, accepted-visible, max-serial, line-of-page, filling-page, page-call, page-calls}
+use Rattle.page.proofs.LineLaws.{columns-front}
 use Rattle.page.proofs.LineAtLaws as lines
 use Rattle.page.proofs.NextModelLaws as nexts
 use Rattle.page.proofs.PageWaitLaws as waits
@@ -43,11 +47,11 @@ use Rattle.page.proofs.ConsecutiveLaws as follow
 -- ---- lines
 
 -- Line i is that of result i, with the serial i above the first; or blank, if there is no such result.
-pub line-told : (n serial : ℕ) (rs : List Result) (i : ℕ) → i < length rs
-    → line-at n serial rs i ≡ page-line (serial + i) n (getD (map (λ r. r .model) rs) i 0) (steps-at rs i)
+pub line-told : (n mask serial : ℕ) (rs : List Result) (i : ℕ) → i < length rs
+    → line-at n mask serial rs i ≡ page-line (serial + i) n mask (getD (map (λ r. r .model) rs) i 0) (steps-at rs i)
 line-told = lines.line-told
 
-pub line-none : (n serial : ℕ) (rs : List Result) (i : ℕ) → length rs ≤ i → line-at n serial rs i ≡ blank-line
+pub line-none : (n mask serial : ℕ) (rs : List Result) (i : ℕ) → length rs ≤ i → line-at n mask serial rs i ≡ blank-line
 line-none = lines.line-none
 
 module _ (s : List ℕ) (us : List Assumption) (c : Checkpoint) (serial : ℕ) where
@@ -134,6 +138,22 @@ module _ (s : List ℕ) (us : List Assumption) (n : ℕ) (cs : List (List Litera
   pub page-variables : accepted-variables (acceptance s us) ≡ n
   page-variables = ap accepted-variables (walk.accepted-row s us n cs encodes good vs pairs .1)
 
+  -- S23.3: and they show the values of the variables that some clause names or that are assumed, and no others (`dash-exactly`)
+  pub page-visible : accepted-visible (acceptance s us) ≡ visible task
+  page-visible = ap accepted-visible (walk.accepted-row s us n cs encodes good vs pairs .1)
+
+  -- The column of a variable is a dash exactly if no clause names it and it is not assumed,
+  pub dash-exactly : (a v : ℕ) → v < n → (getD (page-columns n (visible task) a) v 0 ≡ dash) ↔ ((named cs v ≡ false) × (names (map literal-of us) v ≡ false))
+  dash-exactly a v h =
+      let d = column-dash n (visible task) a v h in
+      let w = hidden-exactly n us cs v in
+      let e = columns-front n (visible task) a v h in
+      (λ x. w .0 (d .0 (sym e ∙ x)), λ x. e ∙ d .1 (w .1 x))
+
+  -- else the digit of its value;
+  pub digit-exactly : (a v : ℕ) → v < n → (named cs v ≡ true) ⊎ (names (map literal-of us) v ≡ true) → getD (page-columns n (visible task) a) v 0 ≡ digit a v
+  digit-exactly a v h o = columns-front n (visible task) a v h ∙ column-digit n (visible task) a v h (visible-exactly n us cs v .1 o)
+
   -- From a checkpoint that the walk has, with so many entries of the plain walk behind it, and for any number k of calls:
   module _ (c : Checkpoint) (w : Has task c) (k : ℕ) where
     -- S19.2: the models are the next ones of the walk, in order, k of them or all that are left
@@ -199,12 +219,12 @@ module _ (s : List ℕ) (us : List Assumption) (n : ℕ) (cs : List (List Litera
   pub page-line-waits : (c : Checkpoint) → Has task c → (serial : ℕ) (before : List ℕ) → page-call s us c serial before .answer .number ≡ 0 → (i : ℕ) → suc i < page-lines
       → (let rs = next-results s us c page-lines in suc i < length rs
       → take line-size (drop (line-size * suc i) (page-call s us c serial before .page))
-      ≡ page-line (serial + suc i) n (getD (map (λ r. r .model) rs) (suc i) 0) (2 * (length (trail-at rs (suc i)) - shared (trail-at rs i) (trail-at rs (suc i)))))
+      ≡ page-line (serial + suc i) n (visible task) (getD (map (λ r. r .model) rs) (suc i) 0) (2 * (length (trail-at rs (suc i)) - shared (trail-at rs i) (trail-at rs (suc i)))))
   page-line-waits c w serial before h i l m =
       let rs = next-results s us c page-lines in
       line-stands s us c serial before h (suc i) l
-      ∙ line-told (accepted-variables (acceptance s us)) serial rs (suc i) m
-      ∙ rw (page-variables, page-waits c w page-lines i m)
+      ∙ line-told (accepted-variables (acceptance s us)) (accepted-visible (acceptance s us)) serial rs (suc i) m
+      ∙ rw (page-variables, page-visible, page-waits c w page-lines i m)
 
   -- S19.5: pages one after the other, from the start checkpoint and the serial `first`, each into one of the lent `buffers`, no serial
   -- handed in above the highest
@@ -228,10 +248,10 @@ module _ (s : List ℕ) (us : List Assumption) (n : ℕ) (cs : List (List Litera
     -- the page p behind the pages ps has 50 lines of the whole, those behind the 50 of each page before: so model i (from 0) has the serial
     -- `first` + i (`pages-model`), and no model is on two lines: `pages-once`;
     pub pages-lines : (ps qs : List PageCall) (p : PageCall) → page-calls s us start first buffers ≡ ps ++ (p ∷ qs) → (i : ℕ) → i < page-lines
-        → take line-size (drop (line-size * i) (p .page)) ≡ line-at n first all-results (page-lines * length ps + i)
+        → take line-size (drop (line-size * i) (p .page)) ≡ line-at n (visible task) first all-results (page-lines * length ps + i)
     pages-lines ps qs p e i l =
         follow.behind-line s us task posed walks buffers start first begins room ps qs p e i l
-        ∙ ap (λ (m : ℕ). line-at m first all-results (page-lines * length ps + i)) page-variables
+        ∙ ap₂ (λ (k m : ℕ). line-at k m first all-results (page-lines * length ps + i)) page-variables page-visible
 
     -- so many of its lines are filled;
     pub pages-count : (ps qs : List PageCall) (p : PageCall) → page-calls s us start first buffers ≡ ps ++ (p ∷ qs)
@@ -266,10 +286,10 @@ module _ (s : List ℕ) (us : List Assumption) (n : ℕ) (cs : List (List Litera
 
     -- line k of all
     model-line : (k : ℕ) → k < page-lines * length buffers → k < length (listing task)
-        → line-at n first all-results k ≡ page-line (first + k) n (getD (listing task) k 0) (steps-at all-results k)
+        → line-at n (visible task) first all-results k ≡ page-line (first + k) n (visible task) (getD (listing task) k 0) (steps-at all-results k)
     model-line k j h =
-        line-told n first all-results k (omega (arith, results-number, length-take (page-lines * length buffers) (listing task)))
-        ∙ ap (λ (a : ℕ). page-line (first + k) n a (steps-at all-results k))
+        line-told n (visible task) first all-results k (omega (arith, results-number, length-take (page-lines * length buffers) (listing task)))
+        ∙ ap (λ (a : ℕ). page-line (first + k) n (visible task) a (steps-at all-results k))
         (ap (λ (l : List ℕ). getD l k 0) pages-models ∙ getD-take (page-lines * length buffers) (listing task) k 0 j)
 
     -- Model k of the listing, from 0, is on line k of all, with the serial `first` + k, and with the steps of S21.4 (`page-waits` and
@@ -277,7 +297,7 @@ module _ (s : List ℕ) (us : List Assumption) (n : ℕ) (cs : List (List Litera
     pub pages-model : (ps qs : List PageCall) (p : PageCall) → page-calls s us start first buffers ≡ ps ++ (p ∷ qs) → (i : ℕ) → i < page-lines
         → page-lines * length ps + i < length (listing task)
         → take line-size (drop (line-size * i) (p .page))
-        ≡ page-line (first + (page-lines * length ps + i)) n (getD (listing task) (page-lines * length ps + i) 0)
+        ≡ page-line (first + (page-lines * length ps + i)) n (visible task) (getD (listing task) (page-lines * length ps + i) 0)
         (steps-at all-results (page-lines * length ps + i))
     pages-model ps qs p e i l h = pages-lines ps qs p e i l ∙ model-line (page-lines * length ps + i) (line-among ps qs p e i l) h
 
@@ -287,7 +307,7 @@ module _ (s : List ℕ) (us : List Assumption) (n : ℕ) (cs : List (List Litera
     pages-blank ps qs p e i l h =
         let none : length all-results ≤ page-lines * length ps + i =
         omega (arith, results-number, length-take (page-lines * length buffers) (listing task)) in
-        pages-lines ps qs p e i l ∙ line-none n first all-results (page-lines * length ps + i) none
+        pages-lines ps qs p e i l ∙ line-none n (visible task) first all-results (page-lines * length ps + i) none
 
     -- Behind the last serial that is not too high, the next page is refused by 18 and leaves everything; and the walk goes on under any other.
     module _ (other : ℕ) (b : List ℕ) (lent : page-size ≤ length b) where

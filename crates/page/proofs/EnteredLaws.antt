@@ -8,6 +8,7 @@ use Rattle.lists.specs.Over.{over}
 use Rattle.formula.specs.declared.Formula.{Formula}
 use Rattle.formula.specs.declared.Refusal.{Refusal}
 use Rattle.assumptions.specs.declared.Assumption.{Assumption}
+use Rattle.matched.specs.Acceptance.{Acceptance}
 use Rattle.walk.specs.Checkpoints.{Checkpoint}
 use Rattle.walk.specs.Gaps.{ample-budget}
 use Rattle.walk.specs.PlainMachine.{Answer, found, spent, ended}
@@ -22,13 +23,14 @@ use Rattle.walk.proofs.AcceptLaws.{shown-bytes}
 use Rattle.walk.proofs.TaskLaws.{answer-unrefused}
 use Rattle.enumeration.specs.declared.entering.Entered.{Entered}
 use Rattle.enumeration.specs.declared.scope.Scope.{Scope}
+use Rattle.enumeration.specs.InnerScope.{visible-in}
 use Rattle.enumeration.specs.InnerState.{position-in}
 use Rattle.enumeration.specs.InnerEnter.{Begun}
 use Rattle.enumeration.proofs.ListLaws.{small, call-at, position-fine}
 use Rattle.enumeration.proofs.ArriveLaws.{Arrives, arrives}
 use Rattle.page.specs.declared.Paged.{Paged}
 use Rattle.page.specs.PageLines.{page-lines, page-size}
-use Rattle.page.specs.Pages.{ample-budgets, if-model, with-models, next-results, next-checkpoint, line-at, joined, filled-values, page-told, refusing-page, accepted-variables, max-serial, page-call}
+use Rattle.page.specs.Pages.{ample-budgets, if-model, with-models, next-results, next-checkpoint, line-at, joined, filled-values, page-told, refusing-page, accepted-variables, accepted-visible, max-serial, page-call}
 use Rattle.page.specs.InnerPages.{while-model, stop-of, found-from, stopped-from, PageFilled}
 use Rattle.page.proofs.RunLaws.{over-found, over-stopped}
 use Rattle.page.proofs.PageCallLaws.{walk-refused, unrefused-filled}
@@ -94,13 +96,16 @@ module _ (s : List ℕ) (us : List Assumption) (f : Formula) (z : Scope) (c : Ch
 
   module _ (serial : ℕ) (before : List ℕ) (room : page-size ≤ length before) (some : 0 < serial) (most : serial ≤ max-serial) where
     -- the page of the entered checkpoint is that of the runs from its state
-    pub page-entered : (t : Paged) (after : List ℕ) → PageFilled (B .tree) (f .variables) serial (position-in (r .state)) before after t
+    pub page-entered : (t : Paged) (after : List ℕ) → PageFilled (B .tree) (f .variables) (visible-in z) serial (position-in (r .state)) before after t
         → page-call s us c serial before ≡ page-told t after
     page-entered t after F =
         let w = runs-entered page-lines (omega arith) in
         let a = ap (λ (rs : List Result). filled-values (length rs)) (w .results) ∙ sym (F .answer) in
         let d = w .checkpoint ∙ sym (F .checkpoint) in
-        let l = ap₂ (λ (n : ℕ) (rs : List Result). over (joined (line-at n serial rs) page-lines) before) (ap accepted-variables (B .accepted .accepts)) (w .results) ∙ sym (F .written) in
+        let l =
+        ap₂ (λ (x : Acceptance) (rs : List Result). over (joined (line-at (accepted-variables x) (accepted-visible x) serial rs) page-lines) before) (B .accepted .accepts) (w .results)
+        ∙ ap (λ (m : ℕ). over (joined (line-at (f .variables) m serial (found-from (B .tree) page-lines (position-in (r .state)))) page-lines) before) (sym (B .accepted .shows))
+        ∙ sym (F .written) in
         unrefused-filled s us c serial before room some most unrefused ∙ (λ i. record { answer = a i; checkpoint = d i; page = l i })
 
 -- a refusal of every call from a checkpoint is that of the page

@@ -26,27 +26,27 @@ use Rattle.page.proofs.RunLaws.{found-steps, found-most, run-model, run
 
 -- the lines of the models that runs from p find
 abbrev lines-from : Tree → ℕ → ℕ → Position → ℕ → List ℕ
-lines-from K n serial p = line-at n serial (found-from K page-lines p)
+lines-from K n mask serial p = line-at n mask serial (found-from K page-lines p)
 
 -- each has 60 bytes
-found-sixty : (K : Tree) (n serial : ℕ) (p : Position) → n ≤ max-variables → serial ≤ max-serial → Sixty (lines-from K n serial p)
-found-sixty K n serial p most low i l = line-length n most serial (found-from K page-lines p) (found-steps K page-lines p) i (omega arith)
+found-sixty : (K : Tree) (n mask serial : ℕ) (p : Position) → n ≤ max-variables → serial ≤ max-serial → Sixty (lines-from K n mask serial p)
+found-sixty K n mask serial p most low i l = line-length n mask most serial (found-from K page-lines p) (found-steps K page-lines p) i (omega arith)
 
 -- i lines are written, those of the models found so far, and the others go on from s
-pub record Going (K : Tree) (n serial : ℕ) (p : Position) (before now : List ℕ) (s : State) (i : ℕ) : Type 0 where
+pub record Going (K : Tree) (n mask serial : ℕ) (p : Position) (before now : List ℕ) (s : State) (i : ℕ) : Type 0 where
   pub holds : Holds K s
   pub found : List Result
   pub many : length found ≡ i
   pub results : found-from K page-lines p ≡ found ++ found-from K (page-lines - i) (position-in s)
   pub stops : stopped-from K page-lines p ≡ stopped-from K (page-lines - i) (position-in s)
-  pub written : now ≡ over (joined (lines-from K n serial p) i) before
+  pub written : now ≡ over (joined (lines-from K n mask serial p) i) before
 
 -- nothing is written yet
-pub going-first : (K : Tree) (n serial : ℕ) (before : List ℕ) (s : State) → Holds K s → Going K n serial (position-in s) before before s 0
+pub going-first : (K : Tree) (n mask serial : ℕ) (before : List ℕ) (s : State) → Holds K s → Going K n mask serial (position-in s) before before s 0
 unfolding joined
 going-first K n serial before s h = record { holds = h; found = []; many = refl; results = refl; stops = refl; written = refl }
 
-module _ (K : Tree) (n serial : ℕ) (p : Position) (before now : List ℕ) (s : State) (i : ℕ) (g : Going K n serial p before now s i) where
+module _ (K : Tree) (n mask serial : ℕ) (p : Position) (before now : List ℕ) (s : State) (i : ℕ) (g : Going K n mask serial p before now s i) where
   module _ (r : Run) (R : Ran K r (resume K ample-budget (position-in s))) (l : i < page-lines) where
     -- so many runs are left
     left : page-lines - i ≡ suc (page-lines - (i + 1))
@@ -62,15 +62,15 @@ module _ (K : Tree) (n serial : ℕ) (p : Position) (before now : List ℕ) (s :
       results-more = g .results ∙ ap (λ (l : List Result). g .found ++ l) (ap (λ (k : ℕ). found-from K k (position-in s)) left ∙ run-found K (position-in s) r R m e (page-lines - (i + 1)))
 
       -- the line that comes
-      line-more : lines-from K n serial p i ≡ page-line (serial + i) n m (r .steps)
+      line-more : lines-from K n mask serial p i ≡ page-line (serial + i) n mask m (r .steps)
       line-more =
-          ap (λ (x : List Result). line-at n serial x i) results-more
-          ∙ ap (line-at n serial (g .found ++ (result ∷ _))) (sym (g .many))
+          ap (λ (x : List Result). line-at n mask serial x i) results-more
+          ∙ ap (line-at n mask serial (g .found ++ (result ∷ _))) (sym (g .many))
           ∙ line-behind n serial (g .found) _ result
           ∙ rw (g .many, run-model K (position-in s) r R m e, R .steps)
 
-      pub going-more : (now′ : List ℕ) → n ≤ max-variables → serial ≤ max-serial → now′ ≡ placed (line-size * i) (page-line (serial + i) n m (r .steps)) now
-          → Going K n serial p before now′ (r .state) (i + 1)
+      pub going-more : (now′ : List ℕ) → n ≤ max-variables → serial ≤ max-serial → now′ ≡ placed (line-size * i) (page-line (serial + i) n mask m (r .steps)) now
+          → Going K n mask serial p before now′ (r .state) (i + 1)
       going-more now′ most low w =
           record {
             holds = R .holds;
@@ -80,11 +80,11 @@ module _ (K : Tree) (n serial : ℕ) (p : Position) (before now : List ℕ) (s :
             stops = g .stops ∙ ap (λ (k : ℕ). stopped-from K k (position-in s)) left ∙ run-stops K (position-in s) r R m e (page-lines - (i + 1));
             written =
                 w ∙ ap (λ (x : List ℕ). placed (line-size * i) x now) (sym line-more)
-                ∙ joined-next (lines-from K n serial p) (found-sixty K n serial p most low) i before now l (g .written);
+                ∙ joined-next (lines-from K n mask serial p) (found-sixty K n mask serial p most low) i before now l (g .written);
           }
 
     -- the run brought no model
-    pub going-none : ((m : ℕ) → r .ending ≡ Model m → ⊥) → LinesFilled K n serial p before now (record { count = i; state = r .state })
+    pub going-none : ((m : ℕ) → r .ending ≡ Model m → ⊥) → LinesFilled K n mask serial p before now (record { count = i; state = r .state })
     going-none h =
         let x = run-last K (position-in s) r R h (page-lines - (i + 1)) in
         record {
@@ -95,7 +95,7 @@ module _ (K : Tree) (n serial : ℕ) (p : Position) (before now : List ℕ) (s :
         }
 
   -- the page is full
-  pub going-full : i ≡ page-lines → LinesFilled K n serial p before now (record { count = i; state = s })
+  pub going-full : i ≡ page-lines → LinesFilled K n mask serial p before now (record { count = i; state = s })
   unfolding found-from stopped-from
   going-full e =
       let z : page-lines - i ≡ 0 = omega arith in
@@ -108,14 +108,14 @@ module _ (K : Tree) (n serial : ℕ) (p : Position) (before now : List ℕ) (s :
 
 -- ---- the whole page
 
-module _ (K : Tree) (n serial : ℕ) (p : Position) (before now : List ℕ) (t : Lines) (filled : LinesFilled K n serial p before now t) where
+module _ (K : Tree) (n mask serial : ℕ) (p : Position) (before now : List ℕ) (t : Lines) (filled : LinesFilled K n mask serial p before now t) where
   -- no more lines are filled than a page has
   pub filled-most : t .count ≤ page-lines
   filled-most = omega (arith, filled .count, found-most K page-lines p)
 
   -- the others are blank
-  pub filled-blanked : (now′ : List ℕ) → n ≤ max-variables → serial ≤ max-serial → now′ ≡ blanked (t .count) now → now′ ≡ over (joined (lines-from K n serial p) page-lines) before
+  pub filled-blanked : (now′ : List ℕ) → n ≤ max-variables → serial ≤ max-serial → now′ ≡ blanked (t .count) now → now′ ≡ over (joined (lines-from K n mask serial p) page-lines) before
   filled-blanked now′ most low w =
       w
-      ∙ joined-blank (lines-from K n serial p) (found-sixty K n serial p most low) (t .count) filled-most
-      (λ i l. line-none n serial (found-from K page-lines p) i (omega (arith, filled .count))) before now (filled .written)
+      ∙ joined-blank (lines-from K n mask serial p) (found-sixty K n mask serial p most low) (t .count) filled-most
+      (λ i l. line-none n mask serial (found-from K page-lines p) i (omega (arith, filled .count))) before now (filled .written)

@@ -3,25 +3,30 @@ use Prim.Native.Nat.{ℕ, _+_, _*_, _-_, _≤_, _<_}
 use mathlib.Core.List.{List, [], _∷_, _++_, append-assoc}
 use mathlib.Core.Path.{_≡_, ap, _∙_}
 use native.Mathlib.Omega.{arith}
-use lib.ListN.{length, take, drop, length-append}
+use lib.ListN.{length, getD, take, drop, length-append, List·getD-append}
 use Rattle.limits.specs.Limits.{max-variables}
 use Rattle.lists.proofs.TabulatedLaws.{length-tabulated}
 use Rattle.writing.specs.Placed.{placed}
-use Rattle.writing.specs.Text.{line-feed, blank, decimal, digit, digits, line-of, blanks, right}
+use Rattle.writing.specs.Text.{line-feed, blank, decimal, column, columns, line-of, blanks, right}
 use Rattle.writing.proofs.BlankLaws.{blanks-length, right-length}
 use Rattle.writing.proofs.DecimalLaws.{decimal-length}
 use Rattle.writing.proofs.PlacedLaws.{placed-part}
-use Rattle.page.specs.PageLines.{line-size, serial-width, steps-width, columns, page-line, blank-line}
+use Rattle.page.specs.PageLines.{line-size, serial-width, steps-width, page-columns, page-line, blank-line}
 
 -- the words of a line are as wide as their columns
 pub serial-length : (serial : ℕ) → serial < 1000000 → length (right serial-width (decimal serial)) ≡ serial-width
 serial-length serial h = right-length serial-width (decimal serial) (decimal-length 5 serial h)
 
-columns-length : (n a : ℕ) → n ≤ max-variables → length (columns n a) ≡ max-variables
-columns-length n a h =
-    let d = length-tabulated (digit a) n in
+columns-length : (n mask a : ℕ) → n ≤ max-variables → length (page-columns n mask a) ≡ max-variables
+columns-length n mask a h =
+    let d = length-tabulated (column mask a) n in
     let b = blanks-length (max-variables - n) in
-    length-append (digits n a) (blanks (max-variables - n)) ∙ omega arith
+    length-append (columns n mask a) (blanks (max-variables - n)) ∙ omega arith
+
+-- the columns of the variables come first
+pub columns-front : (n mask a v : ℕ) → v < n → getD (page-columns n mask a) v 0 ≡ getD (columns n mask a) v 0
+columns-front n mask a v h =
+    List·getD-append (columns n mask a) (blanks (max-variables - n)) 0 v (let l = length-tabulated (column mask a) n in omega arith)
 
 pub steps-length : (steps : ℕ) → steps < 1000 → length (right steps-width (decimal steps)) ≡ steps-width
 steps-length steps h = right-length steps-width (decimal steps) (decimal-length 2 steps h)
@@ -35,13 +40,13 @@ pub words-parts : (u d b w : List ℕ) → (((((u ++ (blank ∷ [])) ++ d) ++ b)
 words-parts u d b w = simp append-assoc
 
 -- the line of a model
-pub page-line-length : (serial n a steps : ℕ) → serial < 1000000 → n ≤ max-variables → steps < 1000 → length (page-line serial n a steps) ≡ line-size
+pub page-line-length : (serial n mask a steps : ℕ) → serial < 1000000 → n ≤ max-variables → steps < 1000 → length (page-line serial n mask a steps) ≡ line-size
 unfolding page-line
-page-line-length serial n a steps hs hn ht =
+page-line-length serial n mask a steps hs hn ht =
     let u = serial-length serial hs in
-    let v = columns-length n a hn in
+    let v = columns-length n mask a hn in
     let w = steps-length steps ht in
-    words-length (right serial-width (decimal serial)) (columns n a) (right steps-width (decimal steps)) ∙ omega arith
+    words-length (right serial-width (decimal serial)) (page-columns n mask a) (right steps-width (decimal steps)) ∙ omega arith
 
 -- a line without one
 pub blank-length : length blank-line ≡ line-size

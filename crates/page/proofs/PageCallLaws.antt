@@ -21,7 +21,7 @@ use Rattle.walk.specs.Results.{AnswerKind, says-model, says-spent, says-ended, 
 use Rattle.walk.specs.WalkCall.{walk-call}
 use Rattle.walk.proofs.RefusalLaws.{accepted-posed, call-number}
 use Rattle.page.specs.PageLines.{page-lines, line-size, page-size}
-use Rattle.page.specs.Pages.{next-results, joined, PageCall, unfilled, refusing-page, unless-refused, accepted-variables, max-serial, line-of-page, filling-page, page-call}
+use Rattle.page.specs.Pages.{next-results, joined, PageCall, unfilled, refusing-page, unless-refused, accepted-variables, accepted-visible, max-serial, line-of-page, filling-page, page-call}
 use Rattle.page.proofs.JoinedLaws.{Sixty, joined-length, joined-part}
 use Rattle.page.proofs.LineAtLaws.{line-length}
 use Rattle.page.proofs.NextLaws.{next-steps}
@@ -44,7 +44,7 @@ module _ (s : List ℕ) (us : List Assumption) (c : Checkpoint) (serial : ℕ) w
   module _ (most : serial ≤ max-serial) where
     -- every line has 60 bytes
     pub lines-sixty : Sixty (line-of-page s us c serial)
-    lines-sixty i l = line-length (accepted-variables (acceptance s us)) (variables-most s us) serial (next-results s us c page-lines) (next-steps s us c page-lines) i (omega arith)
+    lines-sixty i l = line-length (accepted-variables (acceptance s us)) (accepted-visible (acceptance s us)) (variables-most s us) serial (next-results s us c page-lines) (next-steps s us c page-lines) i (omega arith)
 
     lines-length : length (joined (line-of-page s us c serial) page-lines) ≡ page-size
     lines-length = joined-length (line-of-page s us c serial) lines-sixty page-lines (omega arith)

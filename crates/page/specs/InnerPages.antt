@@ -67,14 +67,14 @@ pub record Fillable (f : Formula) (z : Scope) (s : State) (serial : ℕ) (page :
   pub room : page-size ≤ length page
 
 -- the lines of the models that runs from p find, how many, and the state behind them
-pub record LinesFilled (K : Tree) (n serial : ℕ) (p : Position) (before after : List ℕ) (r : Lines) : Type 0 where
+pub record LinesFilled (K : Tree) (n mask serial : ℕ) (p : Position) (before after : List ℕ) (r : Lines) : Type 0 where
   pub count : r .count ≡ length (found-from K page-lines p)
-  pub written : after ≡ over (joined (line-at n serial (found-from K page-lines p)) (r .count)) before
+  pub written : after ≡ over (joined (line-at n mask serial (found-from K page-lines p)) (r .count)) before
   pub position : position-in (r .state) ≡ stopped-from K page-lines p
   pub holds : Holds K (r .state)
 
 -- the same with the whole page, and with the checkpoint
-pub record PageFilled (K : Tree) (n serial : ℕ) (p : Position) (before after : List ℕ) (r : Paged) : Type 0 where
+pub record PageFilled (K : Tree) (n mask serial : ℕ) (p : Position) (before after : List ℕ) (r : Paged) : Type 0 where
   pub answer : page-values (r .answer) ≡ filled-values (length (found-from K page-lines p))
   pub checkpoint : checkpoint-values (r .checkpoint) ≡ shown (stopped-from K page-lines p)
-  pub written : after ≡ over (joined (line-at n serial (found-from K page-lines p)) page-lines) before
+  pub written : after ≡ over (joined (line-at n mask serial (found-from K page-lines p)) page-lines) before

@@ -2,7 +2,7 @@
 use Prim.Native.Nat.{ℕ, _*_, _-_}
 use mathlib.Core.List.{List, [], _∷_, _++_}
 use Rattle.limits.specs.Limits.{max-variables}
-use Rattle.writing.specs.Text.{decimal, digits, line-of, blanks, right}
+use Rattle.writing.specs.Text.{decimal, columns, line-of, blanks, right}
 
 -- how many lines a page has, how many bytes a line, and so the page: 3,000
 abbrev pub page-lines : ℕ
@@ -21,13 +21,13 @@ serial-width = 6
 abbrev pub steps-width : ℕ
 steps-width = 3
 
--- 48 columns: a digit for each of the n variables, and blanks past n
-abbrev pub columns : ℕ → ℕ → List ℕ
-columns n a = digits n a ++ blanks (max-variables - n)
+-- 48 columns: those of the n variables, of which the mask has the ones whose values are shown (S23.3), and blanks past n
+abbrev pub page-columns : ℕ → ℕ → ℕ → List ℕ
+page-columns n mask a = columns n mask a ++ blanks (max-variables - n)
 
 -- the line of a model of n variables: its serial, its columns, and the steps that led to it; a blank between two, and a line feed
-unfoldable pub page-line : ℕ → ℕ → ℕ → ℕ → List ℕ
-page-line serial n a steps = line-of (right serial-width (decimal serial) ∷ columns n a ∷ right steps-width (decimal steps) ∷ [])
+unfoldable pub page-line : ℕ → ℕ → ℕ → ℕ → ℕ → List ℕ
+page-line serial n mask a steps = line-of (right serial-width (decimal serial) ∷ page-columns n mask a ∷ right steps-width (decimal steps) ∷ [])
 
 -- a line without a model: 59 blanks and a line feed
 unfoldable pub blank-line : List ℕ

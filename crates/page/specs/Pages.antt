@@ -11,6 +11,7 @@ use Rattle.formula.specs.declared.Refusal.the-variants.{ShortPage, BadSerial}
 use Rattle.formula.specs.Refusals.{table-row}
 use Rattle.assumptions.specs.declared.Assumption.{Assumption}
 use Rattle.matched.specs.Acceptance.{Acceptance, accepted, declined, acceptance}
+use Rattle.walk.specs.Task.{under, visible}
 use Rattle.walk.specs.Checkpoints.{Checkpoint, trail-in, start}
 use Rattle.walk.specs.Gaps.{ample-budget}
 use Rattle.walk.specs.Results.{AnswerKind, says-model, says-spent, says-ended, says-refused, Result}
@@ -59,10 +60,10 @@ trail-at rs i = trail-in (getD (map (λ r. r .checkpoint) rs) i start)
 
 -- S19.1: line i, from 0: that of result i, whose steps are its own call's, with a serial one above that of the line before; blank if there
 -- is no such result
-abbrev pub line-at : ℕ → ℕ → List Result → ℕ → List ℕ
-line-at n serial [] i = blank-line
-line-at n serial (r ∷ rs) zero = page-line serial n (r .model) (r .steps)
-line-at n serial (r ∷ rs) (suc i) = line-at n (suc serial) rs i
+abbrev pub line-at : ℕ → ℕ → ℕ → List Result → ℕ → List ℕ
+line-at n mask serial [] i = blank-line
+line-at n mask serial (r ∷ rs) zero = page-line serial n mask (r .model) (r .steps)
+line-at n mask serial (r ∷ rs) (suc i) = line-at n mask (suc serial) rs i
 
 -- lines 0 to k - 1, one behind the other
 unfoldable pub joined : (ℕ → List ℕ) → ℕ → List ℕ
@@ -117,13 +118,19 @@ abbrev pub accepted-variables : Acceptance → ℕ
 accepted-variables (accepted n t cs row) = n
 accepted-variables (declined r row) = 0
 
+-- S23.3: and those of which the lines show the values, as a mask: what its task shows
+abbrev pub accepted-visible : Acceptance → ℕ
+accepted-visible (accepted n t cs row) = visible (under n t cs)
+accepted-visible (declined r row) = 0
+
 -- S19.3: the highest first serial: that of the last line is then 999,999
 abbrev pub max-serial : ℕ
 max-serial = 999950
 
 -- S19.2: line i of the page from c
 abbrev pub line-of-page : List ℕ → List Assumption → Checkpoint → ℕ → ℕ → List ℕ
-line-of-page s us c serial = line-at (accepted-variables (acceptance s us)) serial (next-results s us c page-lines)
+line-of-page s us c serial =
+    line-at (accepted-variables (acceptance s us)) (accepted-visible (acceptance s us)) serial (next-results s us c page-lines)
 
 -- S19.2: the page of the next 50 models from c: its lines over the first 3,000 bytes of what was lent
 abbrev pub filling-page : List ℕ → List Assumption → Checkpoint → ℕ → List ℕ → PageCall

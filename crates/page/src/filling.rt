@@ -3,6 +3,7 @@ ghost use mathlib.Core.Path.{_≡_};
 ghost use Prim.Native.Nat.{_≤_};
 ghost use lib.ListN.{length};
 ghost use Rattle.walk.specs.InnerStack.{Tree};
+ghost use Rattle.enumeration.specs.InnerScope.{visible-in};
 ghost use Rattle.enumeration.specs.InnerState.{position-in, Follows, Holds};
 ghost use Rattle.page.specs.PageLines.{page-lines, page-size};
 ghost use Rattle.page.specs.InnerPages.{blanked, Fillable, LinesFilled, PageFilled};
@@ -22,10 +23,10 @@ pub struct Lines {
     state: State,
 }
 
-// Lines of the next models from a state, until the page is full or a run brings none.
-fn fill_lines(f: Formula, z: Scope, start: State, serial: u64, page: &mut [u8]) -> Lines
+// Lines of the next models from a state, until the page is full or a run brings none. The mask has the variables whose values are shown.
+fn fill_lines(f: Formula, z: Scope, mask: u64, start: State, serial: u64, page: &mut [u8]) -> Lines
     requires { ⌜ Fillable f z start serial (now page) ⌝ }
-    ensures { λ r. ⌜ ((K : Tree) → Follows f z K → Holds K start → LinesFilled K (f .variables) serial (position-in start) (now (page .entry)) (now (page .exit)) r) ⌝ }
+    ensures { λ r. ⌜ ((K : Tree) → Follows f z K → Holds K start → LinesFilled K (f .variables) mask serial (position-in start) (now (page .entry)) (now (page .exit)) r) ⌝ }
 {
     let mut s = start;
     let mut i: usize = 0;
@@ -37,7 +38,7 @@ fn fill_lines(f: Formula, z: Scope, start: State, serial: u64, page: &mut [u8]) 
         let Ending::Model(model) = ending else {
             return Lines { count: i, state: s };
         };
-        put_line_at(serial + i as u64, f.variables, model, steps, page, i);
+        put_line_at(serial + i as u64, f.variables, mask, model, steps, page, i);
         i += 1;
     }
     Lines { count: i, state: s }
@@ -58,9 +59,10 @@ fn blank_rest(page: &mut [u8], i: usize)
 // The whole page from a state, and the checkpoint behind its last model, or that of the end.
 pub fn fill_page(f: Formula, z: Scope, start: State, serial: u64, page: &mut [u8]) -> Paged
     requires { ⌜ Fillable f z start serial (now page) ⌝ }
-    ensures { λ r. ⌜ ((K : Tree) → Follows f z K → Holds K start → PageFilled K (f .variables) serial (position-in start) (now (page .entry)) (now (page .exit)) r) ⌝ }
+    ensures { λ r. ⌜ ((K : Tree) → Follows f z K → Holds K start → PageFilled K (f .variables) (visible-in z) serial (position-in start) (now (page .entry)) (now (page .exit)) r) ⌝ }
 {
-    let lines = fill_lines(f, z, start, serial, page);
+    let mask = enumeration::visible_in(z);
+    let lines = fill_lines(f, z, mask, start, serial, page);
     let count = lines.count;
     let state = lines.state;
     blank_rest(page, count);

@@ -72,7 +72,7 @@ pub fn write_page_under(
     let f = d.formula;
     let row = matched::accept(read, f, u);
     let accepted = row.outcome;
-    let z = enumeration::scope_of(f.variables, matched::assigned_by(u));
+    let z = enumeration::scope_of(f, matched::assigned_by(u));
     let e = enumeration::enter(accepted, f, z, checkpoint);
     let outcome = e.outcome;
     match outcome {

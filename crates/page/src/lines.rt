@@ -20,14 +20,14 @@ const SERIAL_WIDTH: usize = 6;
 
 const STEPS_WIDTH: usize = 3;
 
-// The line of a model of n variables.
-fn put_line(serial: u64, n: usize, a: u64, steps: u64, line: &mut [u8])
+// The line of a model of n variables, of which the mask has those whose values are shown.
+fn put_line(serial: u64, n: usize, mask: u64, a: u64, steps: u64, line: &mut [u8])
     requires { ⌜ (length (now line) ≡ line-size) × (serial < 1000000) × (n ≤ max-variables) × (steps < 1000) ⌝ }
-    ensures { λ _. ⌜ now (line .exit) ≡ page-line serial n a steps ⌝ }
+    ensures { λ _. ⌜ now (line .exit) ≡ page-line serial n mask a steps ⌝ }
 {
     let first = writing::put_right(serial, SERIAL_WIDTH, line, 0);
-    let digits = writing::put_byte(b' ', line, first);
-    let past = writing::put_digits(n, a, line, digits);
+    let columns = writing::put_byte(b' ', line, first);
+    let past = writing::put_columns(n, mask, a, line, columns);
     let second = writing::put_blanks(limits::MAX_VARIABLES - n, line, past);
     let last = writing::put_byte(b' ', line, second);
     let feed = writing::put_right(steps, STEPS_WIDTH, line, last);
@@ -44,13 +44,13 @@ fn put_blank(line: &mut [u8])
 }
 
 // Line i of a page: the line of a model.
-pub fn put_line_at(serial: u64, n: usize, a: u64, steps: u64, page: &mut [u8], i: usize)
+pub fn put_line_at(serial: u64, n: usize, mask: u64, a: u64, steps: u64, page: &mut [u8], i: usize)
     requires { ⌜ (i < page-lines) × (page-size ≤ length (now page)) × (serial < 1000000) × (n ≤ max-variables) × (steps < 1000) ⌝ }
-    ensures { λ _. ⌜ now (page .exit) ≡ placed (line-size * i) (page-line serial n a steps) (now (page .entry)) ⌝ }
+    ensures { λ _. ⌜ now (page .exit) ≡ placed (line-size * i) (page-line serial n mask a steps) (now (page .entry)) ⌝ }
 {
     let from = LINE_SIZE * i;
     let to = from + LINE_SIZE;
-    put_line(serial, n, a, steps, &mut page[from..to]);
+    put_line(serial, n, mask, a, steps, &mut page[from..to]);
 }
 
 // Line i of a page: blank.

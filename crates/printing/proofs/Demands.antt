@@ -1,18 +1,22 @@
 -- What the print owes to the limit of its input (S12.2): of a longer input the program takes the first 16,384 bytes as the whole. That
 -- assumptions, of which it takes none, change nothing in it (S17.6). And what it is where a formula is refused by 10 (S18.3), and where
--- one is matched whole (S18.4). And that the steps on its lines are the exact waits (S21.4).
+-- one is matched whole (S18.4). And that the steps on its lines are the exact waits (S21.4), and what stands in its columns (S23.3).
 use Prim.Native.Nat.{ℕ, _≤_, _<_}
+use mathlib.Core.Bool.{true, false}
 use mathlib.Core.List.{List, [], _++_}
-use mathlib.Core.Path.{_≡_, refl, sym, ap, _∙_, subst}
-use native.Mathlib.Nat.{sub-zero}
+use mathlib.Core.Logic.{inl, _↔_}
+use mathlib.Core.Path.{_≡_, refl, sym, ap, _∙_}
 use native.Mathlib.Omega.{arith}
-use lib.ListN.{length, take, drop, replicate, length-drop, take-append-drop}
+use lib.ListN.{length, getD, take, drop, replicate, length-drop, take-append-drop}
 use lib.Seq.{length-take-le, take-append-seam}
 use Rattle.limits.specs.Limits.{max-clauses}
+use Rattle.writing.specs.Text.{dash, digit, columns}
+use Rattle.writing.proofs.ColumnLaws.{column-dash, column-digit}
 use Rattle.formula.specs.declared.Refusal.the-variants.{Unmatched}
-use Rattle.formula.specs.Format.{Literal, Encodes}
+use Rattle.formula.specs.Format.{Literal, names, Encodes}
 use Rattle.formula.proofs.Demands.{cut, accepted-all}
 use Rattle.assumptions.proofs.Demands.{no-assumptions, none-bad}
+use Rattle.splitting.specs.Nodes.{named}
 use Rattle.matched.specs.Acceptance.{acceptance}
 use Rattle.matched.specs.Judge.{Judged, refused-values, judge}
 use Rattle.matched.specs.Pairing.{Pairs, left-of, Pairable, marked}
@@ -22,12 +26,12 @@ use Rattle.matched.proofs.AcceptanceLaws.{unpaired-declined}
 use Rattle.matched.proofs.Demands.{acceptance-unassumed, acceptance-kept}
 use Rattle.matched.proofs.JudgeLaws.{judge-declined}
 use Rattle.matched.proofs.UnassumedLaws.{plain-same}
-use Rattle.walk.specs.Task.{Task, under, to-assign}
+use Rattle.walk.specs.Task.{Task, under, to-assign, visible}
 use Rattle.walk.specs.Checkpoints.{start}
 use Rattle.walk.specs.WalkCall.{walk-calls}
 use Rattle.walk.specs.Gaps.{gaps, step-bound, ample-budget, Paced}
 use Rattle.walk.proofs.HasLaws.{start-has}
-use Rattle.walk.proofs.Demands.{under-size, demand-3, accepted-row, posed, walks, task-unassumed}
+use Rattle.walk.proofs.Demands.{visible-exactly, hidden-exactly, demand-3, accepted-row, posed, walks, task-unassumed}
 use Rattle.printing.specs.Printed.{header, refused-line, max-models, walk-lines, acceptance-lines, printed}
 use Rattle.printing.specs.PrintedGaps.{gap-lines}
 use Rattle.printing.specs.Printing.{max-input}
@@ -65,24 +69,34 @@ unfolding printed
 printed-kept s w = ap acceptance-lines (acceptance-kept s [] w)
 
 -- S21.4: What is printed of an accepted input are the lines of the gaps of 1,000 walk calls of budget 96 from the start, and these are paced:
--- on the first line stand n steps, on each further one twice the variables that are assigned after the longest beginning that the trails
--- of its model and of the one before share, behind `end` n again.
+-- on the first line stand as many steps as variables are to be assigned, on each further one twice the variables that are assigned after the
+-- longest beginning that the trails of its model and of the one before share, behind `end` as many as on the first.
 pub printed-waits : (s : List ℕ) (n : ℕ) (cs : List (List Literal)) → Encodes s n cs → (vs : List ℕ) → Pairs (left-of n [] cs) vs
     → (let gs = gaps (walk-calls s [] start (replicate max-models ample-budget)) in
-    (printed s ≡ header n (length cs) ++ gap-lines n gs) × Paced n (step-bound (under n [] cs)) gs)
+    (printed s ≡ header n (length cs) ++ gap-lines n (visible (under n [] cs)) gs) × Paced (to-assign (under n [] cs)) (step-bound (under n [] cs)) gs)
 unfolding printed
 printed-waits s n cs encodes vs pairs =
     let good = none-bad n in
     let a = accepted-row s [] n cs encodes good vs pairs in
     let P = posed s [] n cs encodes good vs pairs in
-    let w = walks s [] n cs encodes good vs pairs in
-    let size : to-assign (under n [] cs) ≡ n = under-size n [] cs (P .most) good ∙ sub-zero n in (
+    let w = walks s [] n cs encodes good vs pairs in (
       ap acceptance-lines (a .1)
           ∙ ap (λ (l : List ℕ). header n (length cs) ++ l)
-          (lines-calls s n [] cs (a .0) (a .1) max-models ∙ lines-gaps s n cs P w max-models start (start-has s [] (under n [] cs) P w)),
-      subst (λ (k : ℕ). Paced k (step-bound (under n [] cs)) (gaps (walk-calls s [] start (replicate max-models ample-budget)))) size
-          (demand-3 s [] n cs encodes good vs pairs (replicate max-models ample-budget) .paced),
+          (lines-calls s n [] cs (a .0) (a .1) max-models ∙ lines-gaps s n cs P w (visible (under n [] cs)) max-models start (start-has s [] (under n [] cs) P w)),
+      demand-3 s [] n cs encodes good vs pairs (replicate max-models ample-budget) .paced,
     )
+
+-- S23.3: the column of a variable is a dash exactly if no clause names it, since nothing is assumed,
+pub dash-exactly : (n : ℕ) (cs : List (List Literal)) (a v : ℕ) → v < n → (getD (columns n (visible (under n [] cs)) a) v 0 ≡ dash) ↔ (named cs v ≡ false)
+unfolding names
+dash-exactly n cs a v h =
+    let d = column-dash n (visible (under n [] cs)) a v h in
+    let w = hidden-exactly n [] cs v in
+    (λ e. w .0 (d .0 e) .0, λ e. d .1 (w .1 (e, refl)))
+
+-- else the digit of its value.
+pub digit-exactly : (n : ℕ) (cs : List (List Literal)) (a v : ℕ) → v < n → named cs v ≡ true → getD (columns n (visible (under n [] cs)) a) v 0 ≡ digit a v
+digit-exactly n cs a v h e = column-digit n (visible (under n [] cs)) a v h (visible-exactly n [] cs v .1 (inl e))
 
 -- S18.3: of a readable input of which what stripping leaves is not matched 10 is printed, with the number of marks that judge gives
 pub unmatched-printed : (s buffer : List ℕ) (n : ℕ) (cs : List (List Literal)) → max-clauses ≤ length buffer → Encodes s n cs → ((vs : List ℕ) → Pairs (left-of n [] cs) vs → ⊥)

@@ -21,13 +21,13 @@ use Rattle.printing.specs.PrintedGaps.{gap-lines}
 
 module _ (s : List ℕ) (n : ℕ) (cs : List (List Literal)) (P : Posed (under n [] cs)) (walks : (c : Checkpoint) (b : ℕ) → walk-call s [] c b ≡ task-call (under n [] cs) c b) where
   -- j calls from a checkpoint that the walk has
-  pub lines-gaps : (j : ℕ) (c : Checkpoint) → Has (under n [] cs) c
-      → (let rs = walk-calls s [] c (replicate j ample-budget) in result-lines n rs ≡ gap-lines n (gaps rs))
+  pub lines-gaps : (mask j : ℕ) (c : Checkpoint) → Has (under n [] cs) c
+      → (let rs = walk-calls s [] c (replicate j ample-budget) in result-lines n mask rs ≡ gap-lines n mask (gaps rs))
   unfolding walk-calls result-lines gaps-from gap-lines
-  lines-gaps zero c w = refl
-  lines-gaps (suc j) c w =
+  lines-gaps mask zero c w = refl
+  lines-gaps mask (suc j) c w =
       at (has-ample s [] (under n [] cs) P walks c w ample-budget (omega arith))
-      (lines-gaps j (walk-call s [] c ample-budget .checkpoint) (call-has s [] (under n [] cs) P walks c w ample-budget))
+      (lines-gaps mask j (walk-call s [] c ample-budget .checkpoint) (call-has s [] (under n [] cs) P walks c w ample-budget))
     where
       r : Result
       r = walk-call s [] c ample-budget
@@ -41,9 +41,9 @@ module _ (s : List ℕ) (n : ℕ) (cs : List (List Literal)) (P : Posed (under n
       expansions : 0 + r .expansions ≡ r .expansions
       expansions = omega arith
 
-      at : (r .kind ≡ says-model) ⊎ (r .kind ≡ says-ended) → result-lines n rest ≡ gap-lines n (gaps rest)
-          → kind-lines n (r .kind) r (result-lines n rest)
-          ≡ gap-lines n (gap-after (r .kind) (0 + r .steps) (0 + r .expansions) (trail-in (r .checkpoint)) (λ c′ e′. gaps-from c′ e′ rest))
+      at : (r .kind ≡ says-model) ⊎ (r .kind ≡ says-ended) → result-lines n mask rest ≡ gap-lines n mask (gaps rest)
+          → kind-lines n mask (r .kind) r (result-lines n mask rest)
+          ≡ gap-lines n mask (gap-after (r .kind) (0 + r .steps) (0 + r .expansions) (trail-in (r .checkpoint)) (λ c′ e′. gaps-from c′ e′ rest))
       at (inl e) ih =
           let t = call-trail s [] (under n [] cs) P walks c w ample-budget e .1 in
           let m : assignment (trail-in (r .checkpoint)) ≡ r .model = ap assignment (t .read) ∙ sym (t .model) in

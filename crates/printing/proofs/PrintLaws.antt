@@ -13,6 +13,7 @@ use Rattle.formula.specs.declared.Formula.{Formula}
 use Rattle.formula.specs.declared.Refusal.{Refusal}
 use Rattle.matched.specs.Acceptance.{declined, acceptance}
 use Rattle.matched.specs.InnerAccept.{Takes}
+use Rattle.walk.specs.Task.{under, visible}
 use Rattle.walk.specs.InnerStack.{empty}
 use Rattle.walk.specs.InnerMachine.{down}
 use Rattle.enumeration.proofs.EnterLaws.{tree-of}
@@ -30,14 +31,14 @@ declined-prints s r row e = ap acceptance-lines e
 
 -- an accepted one: the lines of its walk
 pub accepted-prints : (s : List ℕ) (f : Formula) (w : Takes s [] f)
-    → printed s ≡ header (f .variables) (f .count) ++ lines-from (tree-of s [] f w) (f .variables) max-models (down empty)
+    → printed s ≡ header (f .variables) (f .count) ++ lines-from (tree-of s [] f w) (f .variables) (visible (under (w .variables) (w .trail) (w .clauses))) max-models (down empty)
 unfolding printed
 accepted-prints s f w =
     let n = w .variables in
     let cs = w .clauses in
     ap acceptance-lines (w .accepts)
     ∙ ap (λ (l : List ℕ). header n (length cs) ++ l) (lines-resumed s n (w .trail) cs (w .row) (w .accepts) max-models)
-    ∙ ap (λ (g : Formula). header (g .variables) (g .count) ++ lines-from (tree-of s [] f w) (g .variables) max-models (down empty)) (sym (w .formula))
+    ∙ ap (λ (g : Formula). header (g .variables) (g .count) ++ lines-from (tree-of s [] f w) (g .variables) (visible (under n (w .trail) cs)) max-models (down empty)) (sym (w .formula))
 
 -- ---- the act
 

@@ -22,14 +22,14 @@ use Rattle.splitting.specs.Nodes.{remaining}
 use Rattle.matched.specs.Acceptance.{Acceptance, accepted, declined, acceptance}
 use Rattle.matched.specs.Pairing.{Pairs, left-of, marked}
 use Rattle.matched.proofs.AcceptanceLaws.{paired, strips, unpaired, AcceptedInput, Comes, of-formula, bad-assumed, unreadable, comes, accepted-is, left-accepted}
-use Rattle.walk.specs.Task.{Task, under, to-assign, Posed}
+use Rattle.walk.specs.Task.{Task, under, to-assign, visible, Posed}
 use Rattle.walk.specs.Checkpoints.{Checkpoint}
 use Rattle.walk.specs.PlainMachine.{Answer, found, spent, ended, plain-call, plain-calls, state-after}
 use Rattle.walk.specs.WalkCall.{walk-call}
 use Rattle.walk.specs.InnerLocate.{task-call}
 use Rattle.walk.specs.Results.{says-model, says-ended, answer-kind, plain-result}
 use Rattle.walk.specs.Gaps.{ample-budget, gap-after, gaps-from, gaps, PacedLater, Paced}
-use Rattle.walk.proofs.Demands.{under-size, demand-3, paced-sharper}
+use Rattle.walk.proofs.Demands.{demand-3, under-most, paced-sharper}
 use Rattle.walk.proofs.TaskLaws.{call-plain, last-plain}
 use Rattle.walk.proofs.RefusalLaws.{accepted-posed, call-accepted}
 use Rattle.printing.specs.Printing.{max-input, max-model-line, max-print}
@@ -55,11 +55,11 @@ module _ (T : Task) (m B : ℕ) (few : T .variables ≤ max-variables) (fewer : 
       go : (a : Answer) (s e b : ℕ) (y : List Literal)
           → PacedLater m B x (gap-after (answer-kind a) (0 + s) (0 + e) y (λ c′ e′. gaps-from c′ e′ (map (plain-result T) (plain-calls T b (replicate j ample-budget)))))
           → ((z : List Literal) → from j b z → length (walk-lines T j b) ≤ max-model-line * j + length more-line)
-          → length (call-lines (T .variables) a s e (walk-lines T j b)) ≤ max-model-line * suc j + length more-line
+          → length (call-lines (T .variables) (visible T) a s e (walk-lines T j b)) ≤ max-model-line * suc j + length more-line
       go (found a) s e b y p ih =
           let i = ih y (p .3) in
-          let l = model-line-length (T .variables) a s e few (omega (arith, p .1)) (omega (arith, p .2)) in
-          rw (length-append (model-line (T .variables) a s e) (walk-lines T j b)) (omega arith)
+          let l = model-line-length (T .variables) (visible T) a s e few (omega (arith, p .1)) (omega (arith, p .2)) in
+          rw (length-append (model-line (T .variables) (visible T) a s e) (walk-lines T j b)) (omega arith)
       go spent s e b y p ih = omega arith
       go ended s e b y p ih = let l = end-line-length s e (omega (arith, p .0)) (omega (arith, p .1)) in omega arith
 
@@ -73,11 +73,11 @@ module _ (T : Task) (m B : ℕ) (few : T .variables ≤ max-variables) (fewer : 
     where
       go : (a : Answer) (s e b : ℕ) (y : List Literal)
           → Paced m B (gap-after (answer-kind a) (0 + s) (0 + e) y (λ c′ e′. gaps-from c′ e′ (map (plain-result T) (plain-calls T b (replicate j ample-budget)))))
-          → length (call-lines (T .variables) a s e (walk-lines T j b)) ≤ max-model-line * suc j + length more-line
+          → length (call-lines (T .variables) (visible T) a s e (walk-lines T j b)) ≤ max-model-line * suc j + length more-line
       go (found a) s e b y p =
           let i = later-short j b y (p .2) in
-          let l = model-line-length (T .variables) a s e few (omega (arith, p .0)) (omega (arith, p .1)) in
-          rw (length-append (model-line (T .variables) a s e) (walk-lines T j b)) (omega arith)
+          let l = model-line-length (T .variables) (visible T) a s e few (omega (arith, p .0)) (omega (arith, p .1)) in
+          rw (length-append (model-line (T .variables) (visible T) a s e) (walk-lines T j b)) (omega arith)
       go spent s e b y p = omega arith
       go ended s e b y p = absurd p
 
@@ -92,9 +92,9 @@ walk-short : (s : List ℕ) (n : ℕ) (cs : List (List Literal)) (row : List ℕ
 walk-short s n cs row w j =
     let z = w .sized in
     let T = under n [] cs in
-    let t = under-size n [] cs (z .most) (none-bad n) in
-    let c = cost (to-assign T) n (omega (arith, z .most)) (z .most) in
     let e = accepted-only s n cs (w .reads) in
+    let t = under-most s [] n cs e (none-bad n) (w .vs) (w .pairs) in
+    let c = cost (to-assign T) n (omega (arith, z .most)) (z .most) in
     let bs = replicate j ample-budget in
     let d = demand-3 s [] n cs e (none-bad n) (w .vs) (w .pairs) bs .plain in
     let p = paced-sharper s [] n cs e (none-bad n) (w .vs) (w .pairs) bs in

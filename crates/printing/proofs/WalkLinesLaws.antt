@@ -5,7 +5,7 @@ use mathlib.Core.Path.{_≡_, refl, sym, ap, _∙_}
 use lib.ListN.{replicate}
 use Rattle.formula.specs.Format.{Literal}
 use Rattle.matched.specs.Acceptance.{accepted, acceptance}
-use Rattle.walk.specs.Task.{Task, under, Posed}
+use Rattle.walk.specs.Task.{Task, under, visible, Posed}
 use Rattle.walk.specs.Gaps.{ample-budget}
 use Rattle.walk.specs.Checkpoints.{Checkpoint, start, checkpoint-after}
 use Rattle.walk.specs.PlainMachine.{Answer, found, spent, ended, plain-call, plain-calls}
@@ -24,28 +24,28 @@ use Rattle.printing.specs.Printed.{call-lines, walk-lines}
 use Rattle.printing.specs.InnerLines.{lines-from, kind-lines, result-lines}
 
 -- one call
-answer-lines : (n : ℕ) (a : Answer) (s e : ℕ) (c : Checkpoint) (rest : List ℕ) → call-lines n a s e rest ≡ kind-lines n (answered a s e c .kind) (answered a s e c) rest
-answer-lines n (found a) s e c rest = refl
-answer-lines n spent s e c rest = refl
-answer-lines n ended s e c rest = refl
+answer-lines : (n mask : ℕ) (a : Answer) (s e : ℕ) (c : Checkpoint) (rest : List ℕ) → call-lines n mask a s e rest ≡ kind-lines n mask (answered a s e c .kind) (answered a s e c) rest
+answer-lines n mask (found a) s e c rest = refl
+answer-lines n mask spent s e c rest = refl
+answer-lines n mask ended s e c rest = refl
 
 -- the plain machine's lines are those of its results
-plain-lines : (T : Task) (j k : ℕ) → walk-lines T j k ≡ result-lines (T .variables) (map (plain-result T) (plain-calls T k (replicate j ample-budget)))
+plain-lines : (T : Task) (j k : ℕ) → walk-lines T j k ≡ result-lines (T .variables) (visible T) (map (plain-result T) (plain-calls T k (replicate j ample-budget)))
 unfolding walk-lines result-lines plain-calls
 plain-lines T zero k = refl
 plain-lines T (suc j) k =
     let c = plain-call T ample-budget k in
-    ap (call-lines (T .variables) (c .answer) (c .steps) (c .expansions)) (plain-lines T j (c .behind))
-    ∙ answer-lines (T .variables) (c .answer) (c .steps) (c .expansions) (checkpoint-after T (c .behind)) _
+    ap (call-lines (T .variables) (visible T) (c .answer) (c .steps) (c .expansions)) (plain-lines T j (c .behind))
+    ∙ answer-lines (T .variables) (visible T) (c .answer) (c .steps) (c .expansions) (checkpoint-after T (c .behind)) _
 
 -- and so for the machine that resumes
-resumed-lines : (K : Tree) (L : Live K) (n j : ℕ) (p : Position) → lines-from K n j p ≡ result-lines n (results K L p (replicate j ample-budget))
+resumed-lines : (K : Tree) (L : Live K) (n mask j : ℕ) (p : Position) → lines-from K n mask j p ≡ result-lines n mask (results K L p (replicate j ample-budget))
 unfolding lines-from result-lines resumes
-resumed-lines K L n zero p = refl
-resumed-lines K L n (suc j) p =
+resumed-lines K L n mask zero p = refl
+resumed-lines K L n mask (suc j) p =
     let r = resume K ample-budget p in
-    ap (call-lines n (r .answer) (r .steps) (r .expansions)) (resumed-lines K L n j (r .position))
-    ∙ answer-lines n (r .answer) (r .steps) (r .expansions) (shown (r .position)) _
+    ap (call-lines n mask (r .answer) (r .steps) (r .expansions)) (resumed-lines K L n mask j (r .position))
+    ∙ answer-lines n mask (r .answer) (r .steps) (r .expansions) (shown (r .position)) _
 
 module _ (s : List ℕ) (n : ℕ) (t : List Literal) (cs : List (List Literal)) (row : List ℕ) (accepts : acceptance s [] ≡ accepted n t cs row) where
   abbrev T : Task
@@ -58,12 +58,12 @@ module _ (s : List ℕ) (n : ℕ) (t : List Literal) (cs : List (List Literal)) 
   walks = call-accepted s [] n t cs row accepts
 
   -- the lines are those of walk calls on an ample budget, from the start on
-  pub lines-calls : (j : ℕ) → walk-lines (under n t cs) j 0 ≡ result-lines n (walk-calls s [] start (replicate j ample-budget))
-  lines-calls j = plain-lines T j 0 ∙ ap (result-lines n) (sym (calls-plain s [] T P walks (replicate j ample-budget)))
+  pub lines-calls : (j : ℕ) → walk-lines (under n t cs) j 0 ≡ result-lines n (visible (under n t cs)) (walk-calls s [] start (replicate j ample-budget))
+  lines-calls j = plain-lines T j 0 ∙ ap (result-lines n (visible T)) (sym (calls-plain s [] T P walks (replicate j ample-budget)))
 
   -- and of the machine that resumes
-  pub lines-resumed : (j : ℕ) → walk-lines (under n t cs) j 0 ≡ lines-from (tree (under n t cs)) n j (down empty)
+  pub lines-resumed : (j : ℕ) → walk-lines (under n t cs) j 0 ≡ lines-from (tree (under n t cs)) n (visible (under n t cs)) j (down empty)
   lines-resumed j =
       lines-calls j
-      ∙ ap (result-lines n) (calls-results s [] T P walks (replicate j ample-budget))
-      ∙ sym (resumed-lines (tree T) (live T P) n j (down empty))
+      ∙ ap (result-lines n (visible T)) (calls-results s [] T P walks (replicate j ample-budget))
+      ∙ sym (resumed-lines (tree T) (live T P) n (visible T) j (down empty))

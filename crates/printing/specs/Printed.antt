@@ -4,10 +4,10 @@ use mathlib.Core.List.{List, [], _∷_, _++_}
 use lib.ListN.{length}
 use Rattle.formula.specs.declared.Refusal.{Refusal}
 use Rattle.formula.specs.Refusals.{table-row}
-use Rattle.writing.specs.Text.{decimal, digits, line-of}
+use Rattle.writing.specs.Text.{decimal, columns, line-of}
 use Rattle.walk.specs.Gaps.{ample-budget}
 use Rattle.matched.specs.Acceptance.{Acceptance, accepted, declined, acceptance}
-use Rattle.walk.specs.Task.{Task, under}
+use Rattle.walk.specs.Task.{Task, under, visible}
 use Rattle.walk.specs.PlainMachine.{Answer, found, spent, ended, plain-call}
 
 -- the words `switches`, `rules`, `end`, `more`, `refused`
@@ -30,9 +30,10 @@ refused-word = 114 ∷ 101 ∷ 102 ∷ 117 ∷ 115 ∷ 101 ∷ 100 ∷ []
 abbrev pub header : ℕ → ℕ → List ℕ
 header n m = line-of (switches-word ∷ decimal n ∷ rules-word ∷ decimal m ∷ [])
 
--- S12.1: the line of a model: the digits of its n variables in ascending order, and the steps and expansions that led to it
-abbrev pub model-line : ℕ → ℕ → ℕ → ℕ → List ℕ
-model-line n a steps expansions = line-of (digits n a ∷ decimal steps ∷ decimal expansions ∷ [])
+-- S12.1, S23.3: the line of a model: the columns of the formula's n variables in ascending order, of which the mask has those whose values
+-- are shown, and the steps and expansions that led to it
+abbrev pub model-line : ℕ → ℕ → ℕ → ℕ → ℕ → List ℕ
+model-line n mask a steps expansions = line-of (columns n mask a ∷ decimal steps ∷ decimal expansions ∷ [])
 
 -- S12.1: the line of the end: `end`, and the steps and expansions that led to it
 abbrev pub end-line : ℕ → ℕ → List ℕ
@@ -50,10 +51,10 @@ abbrev pub refusal-line : Refusal → List ℕ
 refusal-line r = refused-line (table-row r .number) (table-row r .place)
 
 -- What a call prints, and then the rest. A call that says spent would print nothing: on an ample budget none does.
-abbrev pub call-lines : ℕ → Answer → ℕ → ℕ → List ℕ → List ℕ
-call-lines n (found a) steps expansions rest = model-line n a steps expansions ++ rest
-call-lines n spent steps expansions rest = []
-call-lines n ended steps expansions rest = end-line steps expansions
+abbrev pub call-lines : ℕ → ℕ → Answer → ℕ → ℕ → List ℕ → List ℕ
+call-lines n mask (found a) steps expansions rest = model-line n mask a steps expansions ++ rest
+call-lines n mask spent steps expansions rest = []
+call-lines n mask ended steps expansions rest = end-line steps expansions
 
 -- S12.2: the most models that are printed
 abbrev pub max-models : ℕ
@@ -66,7 +67,7 @@ unfoldable pub walk-lines : Task → ℕ → ℕ → List ℕ
 walk-lines T zero k = more-line
 walk-lines T (suc j) k =
     let c = plain-call T ample-budget k in
-    call-lines (T .variables) (c .answer) (c .steps) (c .expansions) (walk-lines T j (c .behind))
+    call-lines (T .variables) (visible T) (c .answer) (c .steps) (c .expansions) (walk-lines T j (c .behind))
 
 -- the first line and the walk of an accepted input, or its refusal
 abbrev pub acceptance-lines : Acceptance → List ℕ

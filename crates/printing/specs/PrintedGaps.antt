@@ -7,8 +7,8 @@ use Rattle.printing.specs.Printed.{model-line, end-line, more-line}
 
 -- a model's line, that of its trail's assignment, with the steps and the expansions of the gap before it; `end` likewise; `more` where the
 -- calls stop
-unfoldable pub gap-lines : ℕ → List Gap → List ℕ
-gap-lines n [] = []
-gap-lines n (to-model c e x ∷ gs) = model-line n (assignment x) c e ++ gap-lines n gs
-gap-lines n (to-end c e ∷ gs) = end-line c e
-gap-lines n (so-far c e ∷ gs) = more-line
+unfoldable pub gap-lines : ℕ → ℕ → List Gap → List ℕ
+gap-lines n mask [] = []
+gap-lines n mask (to-model c e x ∷ gs) = model-line n mask (assignment x) c e ++ gap-lines n mask gs
+gap-lines n mask (to-end c e ∷ gs) = end-line c e
+gap-lines n mask (so-far c e ∷ gs) = more-line

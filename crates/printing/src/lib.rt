@@ -37,19 +37,20 @@ fn put_header(n: usize, m: usize, buffer: &mut [u8], at: usize) -> usize
     writing::put_byte(b'\n', buffer, feed)
 }
 
-// The line of a model of n variables.
+// The line of a model of n variables, of which the mask has those whose values are shown.
 fn put_model_line(
     n: usize,
+    mask: u64,
     a: u64,
     steps: u64,
     expansions: u64,
     buffer: &mut [u8],
     at: usize,
 ) -> usize
-    requires { ⌜ (n ≤ 64) × Room at (model-line n a steps expansions) (now buffer) ⌝ }
-    ensures { λ r. ⌜ Wrote (model-line n a steps expansions) at (now (buffer .entry)) (now (buffer .exit)) r ⌝ }
+    requires { ⌜ (n ≤ 64) × Room at (model-line n mask a steps expansions) (now buffer) ⌝ }
+    ensures { λ r. ⌜ Wrote (model-line n mask a steps expansions) at (now (buffer .entry)) (now (buffer .exit)) r ⌝ }
 {
-    let blank = writing::put_digits(n, a, buffer, at);
+    let blank = writing::put_columns(n, mask, a, buffer, at);
     let numbers = writing::put_byte(b' ', buffer, blank);
     writing::put_numbers(steps, expansions, buffer, numbers)
 }
@@ -91,9 +92,9 @@ fn put_refusal_line(refusal: Refusal, buffer: &mut [u8], at: usize) -> usize
 }
 
 // The lines of a walk from its start: its first models, each by a run that goes on to the next one or to the end.
-fn put_walk(f: Formula, z: Scope, buffer: &mut [u8], at: usize) -> usize
-    requires { ⌜ Fitting f z at (now buffer) ⌝ }
-    ensures { λ r. ⌜ ((K : Tree) → Follows f z K → Wrote (lines-from K (f .variables) max-models (down empty)) at (now (buffer .entry)) (now (buffer .exit)) r) ⌝ }
+fn put_walk(f: Formula, z: Scope, mask: u64, buffer: &mut [u8], at: usize) -> usize
+    requires { ⌜ Fitting f z mask at (now buffer) ⌝ }
+    ensures { λ r. ⌜ ((K : Tree) → Follows f z K → Wrote (lines-from K (f .variables) mask max-models (down empty)) at (now (buffer .entry)) (now (buffer .exit)) r) ⌝ }
 {
     let mut s = enumeration::root(z);
     let mut next = at;
@@ -105,7 +106,15 @@ fn put_walk(f: Formula, z: Scope, buffer: &mut [u8], at: usize) -> usize
             Ending::Ended => return put_end_line(r.steps, r.expansions, buffer, next),
             Ending::Spent => return next,
             Ending::Model(model) => {
-                next = put_model_line(f.variables, model, r.steps, r.expansions, buffer, next);
+                next = put_model_line(
+                    f.variables,
+                    mask,
+                    model,
+                    r.steps,
+                    r.expansions,
+                    buffer,
+                    next,
+                );
             }
         }
         s = r.state;
@@ -120,8 +129,9 @@ fn put_formula(f: Formula, buffer: &mut [u8]) -> usize
     ensures { λ r. ⌜ ((s : List ℕ) → Takes s [] f → Wrote (printed s) 0 (now (buffer .entry)) (now (buffer .exit)) r) ⌝ }
 {
     let next = put_header(f.variables, f.count, buffer, 0);
-    let z = enumeration::scope_of(f.variables, splitting::no_assignment());
-    put_walk(f, z, buffer, next)
+    let z = enumeration::scope_of(f, splitting::no_assignment());
+    let mask = enumeration::visible_in(z);
+    put_walk(f, z, mask, buffer, next)
 }
 
 // S12: prints the walk of an input, or its refusal, into the first bytes of the buffer, and answers how many these are.

@@ -22,7 +22,8 @@ use Rattle.formula.specs.declared.Clause.{Clause}
 use Rattle.formula.specs.Format.{Literal, names, names-as, distinct}
 use Rattle.formula.specs.InnerMasked.{no-clause, clause-of, formula-of}
 use Rattle.formula.specs.InnerFits.{side}
-use Rattle.formula.proofs.ClauseLaws.{clause-side}
+use Rattle.formula.specs.Masked.{variables}
+use Rattle.formula.proofs.ClauseLaws.{clause-side, variables-bit}
 use Rattle.formula.proofs.FormatLaws.{distinct-rest}
 use Rattle.splitting.specs.declared.Assignment.{Assignment}
 use Rattle.splitting.specs.declared.Survey.{Survey}
@@ -158,6 +159,10 @@ assigned-all a (l ∷ t) i =
 
 pub assigned-trail : (t : List Literal) (i : ℕ) → bit (assigned (assignment-of t)) i ≡ names t i
 assigned-trail t i = assigned-all (record { trues = 0; falses = 0 }) t i ∙ rw (bit-none i)
+
+-- so the variables of the literals, as a mask
+pub assigned-variables : (t : List Literal) → assigned (assignment-of t) ≡ variables t
+assigned-variables t = mask-same (assigned (assignment-of t)) (variables t) (λ i. assigned-trail t i ∙ sym (variables-bit t i))
 
 -- one variable more
 pub assign-all-more : (a : Assignment) (t : List Literal) (l : Literal) → assign-all a (t ++ (l ∷ [])) ≡ set-to (assign-all a t) (l .variable) (l .positive)

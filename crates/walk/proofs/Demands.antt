@@ -10,7 +10,7 @@ use lib.ListN.{length, length-map, replicate}
 use Rattle.limits.specs.Limits.{max-variables, max-clauses}
 use Rattle.lists.specs.Distinct.{Distinct}
 use Rattle.lists.specs.Every.{Every}
-use Rattle.lists.proofs.TestLaws.{or-cases, or-left, or-right, bool-clash}
+use Rattle.lists.proofs.TestLaws.{or-cases, or-left, or-none, or-right, bool-clash}
 use Rattle.masks.specs.Mask.{bit, minus, full}
 use Rattle.formula.specs.declared.Refusal.{Refusal}
 use Rattle.formula.specs.declared.Refusal.the-variants.{Unmatched, ForeignCheckpoint, BadAssumption}
@@ -89,6 +89,13 @@ pub visible-exactly : (n : ℕ) (us : List Assumption) (cs : List (List Literal)
 visible-exactly n us cs v =
     let e = unders.visible-bit n (map literal-of us) cs v in
     (λ h. or-cases (named cs v) _ (sym e ∙ h), λ w. e ∙ ⊎-elim (or-left (named cs v) _) (or-right (named cs v) _) w)
+
+-- and the others are those that no clause names and that are not assumed.
+pub hidden-exactly : (n : ℕ) (us : List Assumption) (cs : List (List Literal)) (v : ℕ)
+    → (bit (visible (under n (map literal-of us) cs)) v ≡ false) ↔ ((named cs v ≡ false) × (names (map literal-of us) v ≡ false))
+hidden-exactly n us cs v =
+    let e = unders.visible-bit n (map literal-of us) cs v in
+    (λ h. or-none (named cs v) _ (sym e ∙ h), λ w. e ∙ rw (w .0, w .1))
 
 -- S23.5: where the clauses name every variable, all that are not assumed are to be assigned, as before there was S23.
 pub all-named : (n : ℕ) (us : List Assumption) (cs : List (List Literal)) → Sized n cs → ((v : ℕ) → v < n → named cs v ≡ true)
@@ -283,8 +290,8 @@ module _ (s : List ℕ) (us : List Assumption) (n : ℕ) (cs : List (List Litera
       → walk-call s us c b ≡ refusing (ForeignCheckpoint 0) c
   unnamed-foreign c v b h o =
       foreign-returned c b (λ w.
-          let x = scope-exactly n us cs v .0 (laws.has-inside s us task posed walks c w v h) in
-          ⊎-elim (λ y. bool-clash (x .0) y) (λ y. bool-clash y (x .1)) o)
+      let x = scope-exactly n us cs v .0 (laws.has-inside s us task posed walks c w v h) in
+      ⊎-elim (λ y. bool-clash (x .0) y) (λ y. bool-clash y (x .1)) o)
 
   -- S8.2: a call that says spent has made all the steps of its budget
   pub spent-exactly : (bs : List ℕ) (b : ℕ) → walk-call s us (last-checkpoint s us start bs) b .kind ≡ says-spent → walk-call s us (last-checkpoint s us start bs) b .steps ≡ b

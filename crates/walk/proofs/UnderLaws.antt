@@ -129,7 +129,7 @@ module _ (n : ℕ) (t : List Literal) (cs : List (List Literal)) where
       inside : minus a (visible (under n t cs)) ≡ 0 → (v : ℕ) → bit a v ≡ true → (named cs v ≡ true) ⊎ (names t v ≡ true)
       inside z v k =
           ⊎-elim (λ x. or-cases (named cs v) (names t v) (sym (visible-bit v) ∙ x))
-          (λ x. bool-clash (bit-minus a (visible (under n t cs)) v ∙ rw (k, x)) (ap (λ (m : ℕ). bit m v) z ∙ bit-none v))
+          (λ x. bool-clash (bit-minus a (visible (under n t cs)) v ∙ ap₂ (λ (p q : Bool). p && not q) k x) (ap (λ (m : ℕ). bit m v) z ∙ bit-none v))
           (bool-cases (bit (visible (under n t cs)) v))
 
       by : (v : ℕ) × (bit (minus a (visible (under n t cs))) v ≡ true) → (v : ℕ) × (bit a v ≡ true) × (named cs v ≡ false) × (names t v ≡ false)

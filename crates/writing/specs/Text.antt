@@ -1,4 +1,4 @@
--- Text as lists of ASCII bytes: numbers in decimal, the digits of a mask, lines of words, blanks and words that are right-aligned.
+-- Text as lists of ASCII bytes: numbers in decimal, the columns of an assignment, lines of words, blanks and words that are right-aligned.
 use Prim.Native.Nat.{ℕ, zero, suc, _+_, _-_, _/_, _%_}
 use mathlib.Core.Bool.{cond}
 use mathlib.Core.List.{List, [], _∷_, _++_}
@@ -7,12 +7,15 @@ use lib.ListN.{length, replicate}
 use Rattle.lists.specs.Tabulated.{tabulated}
 use Rattle.masks.specs.Mask.{bit}
 
--- the characters 0, 1, line feed and blank
+-- the characters 0, 1, dash, line feed and blank
 abbrev pub digit-zero : ℕ
 digit-zero = 48
 
 abbrev pub digit-one : ℕ
 digit-one = 49
+
+abbrev pub dash : ℕ
+dash = 45
 
 abbrev pub line-feed : ℕ
 line-feed = 10
@@ -33,9 +36,13 @@ decimal x = decimal-within (suc x) x
 abbrev pub digit : ℕ → ℕ → ℕ
 digit a i = cond (bit a i) digit-one digit-zero
 
--- S12.1: the first n bits of a mask, from bit 0 on
-abbrev pub digits : ℕ → ℕ → List ℕ
-digits n a = tabulated (digit a) n
+-- S23.3: the column of variable i in the assignment a: its digit where the mask `visible` has i, else a dash
+abbrev pub column : ℕ → ℕ → ℕ → ℕ
+column visible a i = cond (bit visible i) (digit a i) dash
+
+-- S12.1, S23.3: the columns of the first n variables, from variable 0 on
+abbrev pub columns : ℕ → ℕ → ℕ → List ℕ
+columns n visible a = tabulated (column visible a) n
 
 -- S12.1: a line of words: a blank between two, and a line feed at the end
 abbrev pub line-of : List (List ℕ) → List ℕ

@@ -1,4 +1,4 @@
-// Text written into a lent buffer: words, numbers in decimal, the digits of a mask.
+// Text written into a lent buffer: words, numbers in decimal, the columns of an assignment.
 //
 // A writer is given the offset at which it starts, and answers with the one behind what it wrote. Its callers show that the buffer has
 // room.
@@ -7,7 +7,7 @@ ghost use mathlib.Core.List.{[], _∷_};
 ghost use Prim.Native.Nat.{_+_, _<_, _≤_};
 ghost use lib.ListN.{length};
 ghost use Rattle.writing.specs.Placed.{Room, Wrote};
-ghost use Rattle.writing.specs.Text.{decimal, digit, digits, line-of, blanks, right};
+ghost use Rattle.writing.specs.Text.{decimal, digit, column, columns, line-of, blanks, right};
 
 // One byte.
 pub fn put_byte(x: u8, buffer: &mut [u8], at: usize) -> usize
@@ -44,7 +44,7 @@ pub fn put_decimal(x: u64, buffer: &mut [u8], at: usize) -> usize
 }
 
 // The digit of bit i of a mask.
-pub fn digit_of(a: u64, i: usize) -> u8
+fn digit_of(a: u64, i: usize) -> u8
     requires { ⌜ i < 64 ⌝ }
     ensures { λ r. ⌜ r ≡ digit a i ⌝ }
 {
@@ -54,14 +54,25 @@ pub fn digit_of(a: u64, i: usize) -> u8
     b'0'
 }
 
-// The digits of the first n bits of a mask.
-pub fn put_digits(n: usize, a: u64, buffer: &mut [u8], at: usize) -> usize
+// S23.3: the column of variable i in the assignment a: its digit where `visible` has i, else a dash.
+fn column_of(visible: u64, a: u64, i: usize) -> u8
+    requires { ⌜ i < 64 ⌝ }
+    ensures { λ r. ⌜ r ≡ column visible a i ⌝ }
+{
+    if masks::member(visible, i) {
+        return digit_of(a, i);
+    }
+    b'-'
+}
+
+// The columns of the first n variables.
+pub fn put_columns(n: usize, visible: u64, a: u64, buffer: &mut [u8], at: usize) -> usize
     requires { ⌜ (n ≤ 64) × (at + n ≤ length (now buffer)) ⌝ }
-    ensures { λ r. ⌜ Wrote (digits n a) at (now (buffer .entry)) (now (buffer .exit)) r ⌝ }
+    ensures { λ r. ⌜ Wrote (columns n visible a) at (now (buffer .entry)) (now (buffer .exit)) r ⌝ }
 {
     let mut i: usize = 0;
     while i < n {
-        buffer[at + i] = digit_of(a, i);
+        buffer[at + i] = column_of(visible, a, i);
         i += 1;
     }
     at + i

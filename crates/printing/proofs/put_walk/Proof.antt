@@ -19,11 +19,11 @@ use Rattle.printing.proofs.put_walk.Statement.{statement}
 use Rattle.printing.proofs.put_walk.Tie as tie
 
 abbrev Inv-loop : tie.InvT-loop
-Inv-loop f z buffer₀ at s₀ next₀ left₀ buffer s next left =
-    (length buffer ≡ length buffer₀) × ((K : Tree) → Follows f z K → Going K (f .variables) at buffer₀ buffer s next left)
+Inv-loop f z mask buffer₀ at s₀ next₀ left₀ buffer s next left =
+    (length buffer ≡ length buffer₀) × ((K : Tree) → Follows f z K → Going K (f .variables) mask at buffer₀ buffer s next left)
 
 abbrev μ-loop : tie.MeasureT-loop
-μ-loop f z buffer₀ at s₀ next₀ left₀ buffer s next left = left
+μ-loop f z mask buffer₀ at s₀ next₀ left₀ buffer s next left = left
 
 root-requires : tie.Need-root-requires Inv-loop μ-loop
 root-requires c κs = search needs
@@ -31,7 +31,7 @@ root-requires c κs = search needs
 loop-holds : tie.Need-loop-holds Inv-loop μ-loop
 loop-holds c =
     let b = c .before .before in
-    (refl, λ K F. going-first K (b .args .f .variables) (b .args .at) (b .args .buffer .now) (c .root .result) (c .root .ensures K (omega (arith, F .size, F .most)) (F .before)))
+    (refl, λ K F. going-first K (b .args .f .variables) (b .args .mask) (b .args .at) (b .args .buffer .now) (c .root .result) (c .root .ensures K (omega (arith, F .size, F .most)) (F .before)))
 
 go-on-requires : tie.Need-go-on-requires Inv-loop μ-loop
 go-on-requires c κs =
@@ -51,20 +51,20 @@ end-room g e =
     let b = l .before .before .before in
     let v = b .pre in
     let x = end-line (g .go-on .result .steps) (g .go-on .result .expansions) in
-    going-room _ _ _ _ _ _ _ _ (l .loop .inv .1 (v .tree) (v .follows)) x []
-    (lines-end _ (b .args .f .variables) _ (l .loop .s) _ (ran g (v .tree) (v .follows)) (omega arith) e ∙ sym (append-nil x)) (l .loop .inv .0) (v .room)
+    going-room _ _ _ _ _ _ _ _ _ (l .loop .inv .1 (v .tree) (v .follows)) x []
+    (lines-end _ (b .args .f .variables) (b .args .mask) _ (l .loop .s) _ (ran g (v .tree) (v .follows)) (omega arith) e ∙ sym (append-nil x)) (l .loop .inv .0) (v .room)
 
 -- and for a model's
 model-room : (g : tie.After-go-on Inv-loop μ-loop) (m : ℕ) → g .go-on .result .ending ≡ Model m
     → (let l = g .before .before in
-    Room (l .loop .next) (model-line (l .before .before .before .args .f .variables) m (g .go-on .result .steps) (g .go-on .result .expansions)) (l .loop .buffer))
+    Room (l .loop .next) (model-line (l .before .before .before .args .f .variables) (l .before .before .before .args .mask) m (g .go-on .result .steps) (g .go-on .result .expansions)) (l .loop .buffer))
 model-room g m e =
     let l = g .before .before in
     let b = l .before .before .before in
     let v = b .pre in
-    going-room _ _ _ _ _ _ _ _ (l .loop .inv .1 (v .tree) (v .follows))
-    (model-line (b .args .f .variables) m (g .go-on .result .steps) (g .go-on .result .expansions)) (lines-from (v .tree) (b .args .f .variables) (l .loop .left - 1) (position-in (g .go-on .result .state)))
-    (lines-model _ (b .args .f .variables) _ (l .loop .s) _ (ran g (v .tree) (v .follows)) (omega arith) m e) (l .loop .inv .0) (v .room)
+    going-room _ _ _ _ _ _ _ _ _ (l .loop .inv .1 (v .tree) (v .follows))
+    (model-line (b .args .f .variables) (b .args .mask) m (g .go-on .result .steps) (g .go-on .result .expansions)) (lines-from (v .tree) (b .args .f .variables) (b .args .mask) (l .loop .left - 1) (position-in (g .go-on .result .state)))
+    (lines-model _ (b .args .f .variables) (b .args .mask) _ (l .loop .s) _ (ran g (v .tree) (v .follows)) (omega arith) m e) (l .loop .inv .0) (v .room)
 
 -- a run that ended, and one that brings a model
 abbrev ended : tie.After-enum-told Inv-loop μ-loop → tie.After-go-on Inv-loop μ-loop
@@ -99,8 +99,8 @@ returns c =
     let l = g .before .before in
     let b = l .before .before .before in
     let v = b .pre .room in
-    going-last _ _ _ _ _ _ _ _ (l .loop .inv .1 K F) _ _ _ (omega arith)
-    (lines-end _ (b .args .f .variables) _ (l .loop .s) _ (ran g K F) (omega arith) (t .enum-told .given .1)) (c .before .before .put-end-line .ensures)
+    going-last _ _ _ _ _ _ _ _ _ (l .loop .inv .1 K F) _ _ _ (omega arith)
+    (lines-end _ (b .args .f .variables) (b .args .mask) _ (l .loop .s) _ (ran g K F) (omega arith) (t .enum-told .given .1)) (c .before .before .put-end-line .ensures)
 
 same-length-2 : tie.Need-same-length-2 Inv-loop μ-loop
 same-length-2 c = c .before .before .before .before .loop .inv .0
@@ -111,8 +111,8 @@ returns-2 c =
     let g = c .before .before in
     let l = g .before .before in
     let b = l .before .before .before in
-    going-stop _ _ _ _ _ _ _ _ (l .loop .inv .1 K F)
-    (lines-spent _ (b .args .f .variables) _ (l .loop .s) _ (ran g K F) (omega arith) (c .enum-told2 .given .1))
+    going-stop _ _ _ _ _ _ _ _ _ (l .loop .inv .1 K F)
+    (lines-spent _ (b .args .f .variables) (b .args .mask) _ (l .loop .s) _ (ran g K F) (omega arith) (c .enum-told2 .given .1))
 
 put-model-line-requires : tie.Need-put-model-line-requires Inv-loop μ-loop
 put-model-line-requires c κs =
@@ -138,9 +138,9 @@ loop-again c =
     let w = c .before .before .before .put-model-line .ensures in (
       wrote-length (model-room g m e) w ∙ l .loop .inv .0,
       λ K F.
-          going-more _ _ _ _ _ _ _ _ (l .loop .inv .1 K F)
-          (model-line (b .args .f .variables) m (g .go-on .result .steps) (g .go-on .result .expansions)) _ (g .go-on .result .state) _ (l .loop .left - 1) (omega arith) (ran g K F .holds)
-          (lines-model _ (b .args .f .variables) _ (l .loop .s) _ (ran g K F) (omega arith) m e) w,
+          going-more _ _ _ _ _ _ _ _ _ (l .loop .inv .1 K F)
+          (model-line (b .args .f .variables) (b .args .mask) m (g .go-on .result .steps) (g .go-on .result .expansions)) _ (g .go-on .result .state) _ (l .loop .left - 1) (omega arith) (ran g K F .holds)
+          (lines-model _ (b .args .f .variables) (b .args .mask) _ (l .loop .s) _ (ran g K F) (omega arith) m e) w,
     )
 
 -- room for the line after the last model
@@ -149,7 +149,7 @@ more-room c e =
     let l = c .before in
     let b = l .before .before .before in
     let v = b .pre in
-    going-room _ _ _ _ _ _ _ _ (l .loop .inv .1 (v .tree) (v .follows)) more-line [] (lines-more _ (b .args .f .variables) _ _ e) (l .loop .inv .0) (v .room)
+    going-room _ _ _ _ _ _ _ _ _ (l .loop .inv .1 (v .tree) (v .follows)) more-line [] (lines-more _ (b .args .f .variables) (b .args .mask) _ _ e) (l .loop .inv .0) (v .room)
 
 put-more-line-requires : tie.Need-put-more-line-requires Inv-loop μ-loop
 put-more-line-requires c κs = more-room (c .before) (omega arith)
@@ -165,7 +165,7 @@ returns-3 c =
     let l = c .before .before .before .before .before in
     let b = l .before .before .before in
     let v = b .pre .room in
-    going-last _ _ _ _ _ _ _ _ (l .loop .inv .1 K F) _ _ _ (omega arith) (lines-more _ (b .args .f .variables) _ _ (omega arith)) (c .before .before .put-more-line .ensures)
+    going-last _ _ _ _ _ _ _ _ _ (l .loop .inv .1 K F) _ _ _ (omega arith) (lines-more _ (b .args .f .variables) (b .args .mask) _ _ (omega arith)) (c .before .before .put-more-line .ensures)
 
 pub put-walk-spec : {M : Type 1} → statement M
 put-walk-spec =

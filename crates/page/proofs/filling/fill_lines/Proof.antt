@@ -17,11 +17,11 @@ use Rattle.page.proofs.filling.fill_lines.Statement.{statement}
 use Rattle.page.proofs.filling.fill_lines.Tie as tie
 
 abbrev Inv-loop : tie.InvT-loop
-Inv-loop f z serial page₀ s₀ i₀ page s i =
-    (i ≤ page-lines) × (length page ≡ length page₀) × ((K : Tree) → Follows f z K → Holds K s₀ → Going K (f .variables) serial (position-in s₀) page₀ page s i)
+Inv-loop f z mask serial page₀ s₀ i₀ page s i =
+    (i ≤ page-lines) × (length page ≡ length page₀) × ((K : Tree) → Follows f z K → Holds K s₀ → Going K (f .variables) mask serial (position-in s₀) page₀ page s i)
 
 abbrev μ-loop : tie.MeasureT-loop
-μ-loop f z serial page₀ s₀ i₀ page s i = page-lines - i
+μ-loop f z mask serial page₀ s₀ i₀ page s i = page-lines - i
 
 -- the run, by what the entry holds
 ran : (g : tie.After-go-on Inv-loop μ-loop) (K : Tree)
@@ -45,7 +45,7 @@ brings-none c m e = ⊎-elim (λ x. omega arith) (λ x. omega arith) (rw e at (c
 loop-holds : tie.Need-loop-holds Inv-loop μ-loop
 loop-holds c =
     let b = c .before in
-    (omega arith, refl, λ K F h. going-first K (b .args .f .variables) (b .args .serial) (b .args .page .now) (b .args .start) h)
+    (omega arith, refl, λ K F h. going-first K (b .args .f .variables) (b .args .mask) (b .args .serial) (b .args .page .now) (b .args .start) h)
 
 go-on-requires : tie.Need-go-on-requires Inv-loop μ-loop
 go-on-requires c κs =
@@ -65,7 +65,7 @@ returns c =
     let g = c .before .before in
     let l = g .before .before in
     let b = l .before .before in
-    going-none K (b .args .f .variables) (b .args .serial) (position-in (b .args .start)) (b .args .page .now) (l .loop .page) (l .loop .s) (l .loop .i) (l .loop .inv .2 K F h)
+    going-none K (b .args .f .variables) (b .args .mask) (b .args .serial) (position-in (b .args .start)) (b .args .page .now) (l .loop .page) (l .loop .s) (l .loop .i) (l .loop .inv .2 K F h)
     (g .go-on .result) (ran g K F h) (omega arith) (brings-none c)
 
 add-put-line-at : tie.Need-add-put-line-at Inv-loop μ-loop
@@ -94,7 +94,7 @@ loop-again c =
       omega arith,
       w .kept .1 .1 .1 .1 .0 ∙ l .loop .inv .1,
       λ K F h.
-          going-more K (b .args .f .variables) (b .args .serial) (position-in (b .args .start)) (b .args .page .now) (l .loop .page) (l .loop .s) (l .loop .i) (l .loop .inv .2 K F h)
+          going-more K (b .args .f .variables) (b .args .mask) (b .args .serial) (position-in (b .args .start)) (b .args .page .now) (l .loop .page) (l .loop .s) (l .loop .i) (l .loop .inv .2 K F h)
           (g .go-on .result) (ran g K F h) (omega arith) _ (t .before .ending .given .1) _ (b .pre .fits .most) (b .pre .serials) (w .ensures),
     )
 
@@ -106,7 +106,7 @@ returns-2 c =
     λ K F h.
     let l = c .before in
     let b = l .before .before in
-    going-full K (b .args .f .variables) (b .args .serial) (position-in (b .args .start)) (b .args .page .now) (l .loop .page) (l .loop .s) (l .loop .i) (l .loop .inv .2 K F h)
+    going-full K (b .args .f .variables) (b .args .mask) (b .args .serial) (position-in (b .args .start)) (b .args .page .now) (l .loop .page) (l .loop .s) (l .loop .i) (l .loop .inv .2 K F h)
     (omega (arith, l .loop .inv .0))
 
 pub fill-lines-spec : {M : Type 1} → statement M

@@ -6,7 +6,7 @@ use mathlib.Core.Path.{_≡_, sym, ap, _∙_}
 use lib.ListN.{length}
 use Rattle.limits.specs.Limits.{max-variables}
 use Rattle.lists.proofs.TabulatedLaws.{length-tabulated}
-use Rattle.writing.specs.Text.{decimal, digit, digits, blanks, right}
+use Rattle.writing.specs.Text.{decimal, column, columns, blanks, right}
 use Rattle.writing.proofs.BlankLaws.{blanks-length}
 use Rattle.writing.proofs.DecimalLaws.{decimal-length}
 use Rattle.writing.proofs.PlacedLaws.{wrote-more, wrote-whole}
@@ -22,11 +22,11 @@ from-serial c = c .before .before .before
 abbrev from-first : tie.After-put-byte → tie.Start
 from-first c = from-serial (c .before .before .before .before)
 
-abbrev from-digits : tie.After-put-digits → tie.Start
-from-digits c = from-first (c .before .before .before .before)
+abbrev from-columns : tie.After-put-columns → tie.Start
+from-columns c = from-first (c .before .before .before .before)
 
 abbrev from-blanks : tie.After-put-blanks → tie.Start
-from-blanks c = from-digits (c .before .before .before .before)
+from-blanks c = from-columns (c .before .before .before .before)
 
 abbrev from-second : tie.After-put-byte2 → tie.Start
 from-second c = from-blanks (c .before .before .before .before)
@@ -41,15 +41,15 @@ behind-serial c = let s = from-serial c in omega (arith, c .put-right .ensures .
 behind-first : (c : tie.After-put-byte) → c .put-byte .result ≡ 7
 behind-first c = omega (arith, c .put-byte .ensures .next, behind-serial (c .before .before .before .before))
 
-behind-digits : (c : tie.After-put-digits) → c .put-digits .result ≡ 7 + from-digits c .args .n
-behind-digits c =
-    let s = from-digits c in
-    omega (arith, c .put-digits .ensures .next, behind-first (c .before .before .before .before), length-tabulated (digit (s .args .a)) (s .args .n))
+behind-columns : (c : tie.After-put-columns) → c .put-columns .result ≡ 7 + from-columns c .args .n
+behind-columns c =
+    let s = from-columns c in
+    omega (arith, c .put-columns .ensures .next, behind-first (c .before .before .before .before), length-tabulated (column (s .args .mask) (s .args .a)) (s .args .n))
 
 behind-blanks : (c : tie.After-put-blanks) → c .put-blanks .result ≡ 55
 behind-blanks c =
     let s = from-blanks c in
-    omega (arith, s .pre .2, c .put-blanks .ensures .next, behind-digits (c .before .before .before .before), blanks-length (max-variables - s .args .n))
+    omega (arith, s .pre .2, c .put-blanks .ensures .next, behind-columns (c .before .before .before .before), blanks-length (max-variables - s .args .n))
 
 behind-second : (c : tie.After-put-byte2) → c .put-byte2 .result ≡ 56
 behind-second c = omega (arith, c .put-byte2 .ensures .next, behind-blanks (c .before .before .before .before))
@@ -65,14 +65,14 @@ put-right-requires c κs = let s = c .before .before in (decimal-length 5 (s .ar
 put-byte-requires : tie.Need-put-byte-requires
 put-byte-requires c κs = omega (arith, behind-serial (c .before .before .before))
 
-put-digits-requires : tie.Need-put-digits-requires
-put-digits-requires c κs = omega (arith, behind-first (c .before .before .before))
+put-columns-requires : tie.Need-put-columns-requires
+put-columns-requires c κs = omega (arith, behind-first (c .before .before .before))
 
 sub-put-blanks : tie.Need-sub-put-blanks
 sub-put-blanks c = search needs
 
 put-blanks-requires : tie.Need-put-blanks-requires
-put-blanks-requires c κs = let s = from-digits (c .before .before .before) in omega (arith, s .pre .2, behind-digits (c .before .before .before))
+put-blanks-requires c κs = let s = from-columns (c .before .before .before) in omega (arith, s .pre .2, behind-columns (c .before .before .before))
 
 put-byte-requires-2 : tie.Need-put-byte-requires-2
 put-byte-requires-2 c κs = omega (arith, behind-blanks (c .before .before .before))
@@ -95,13 +95,13 @@ returns c =
     let steps = feed .before .before .before .before in
     let second = steps .before .before .before .before in
     let rest = second .before .before .before .before in
-    let columns = rest .before .before .before .before in
-    let first = columns .before .before .before .before in
+    let digits = rest .before .before .before .before in
+    let first = digits .before .before .before .before in
     let serial = first .before .before .before .before in
     let s = from-serial serial in
     let h : 0 ≤ length (s .args .line .now) = omega arith in
-    let p = words-parts (right serial-width (decimal (s .args .serial))) (digits (s .args .n) (s .args .a)) (blanks (max-variables - s .args .n)) (right steps-width (decimal (s .args .steps))) in
-    let l = page-line-length (s .args .serial) (s .args .n) (s .args .a) (s .args .steps) (s .pre .1) (s .pre .2) (s .pre .3) in
+    let p = words-parts (right serial-width (decimal (s .args .serial))) (columns (s .args .n) (s .args .mask) (s .args .a)) (blanks (max-variables - s .args .n)) (right steps-width (decimal (s .args .steps))) in
+    let l = page-line-length (s .args .serial) (s .args .n) (s .args .mask) (s .args .a) (s .args .steps) (s .pre .1) (s .pre .2) (s .pre .3) in
     wrote-whole (s .pre .0 ∙ sym (ap length p ∙ l))
     (wrote-more h
     (wrote-more h
@@ -109,7 +109,7 @@ returns c =
     (wrote-more h
     (wrote-more h
     (wrote-more h (serial .put-right .ensures) (first .put-byte .ensures))
-    (columns .put-digits .ensures))
+    (digits .put-columns .ensures))
     (rest .put-blanks .ensures))
     (second .put-byte2 .ensures))
     (steps .put-right2 .ensures))
@@ -122,7 +122,7 @@ put-line-spec =
     (tie.spec
     put-right-requires
     put-byte-requires
-    put-digits-requires
+    put-columns-requires
     sub-put-blanks
     put-blanks-requires
     put-byte-requires-2

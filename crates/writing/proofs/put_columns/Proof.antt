@@ -1,4 +1,4 @@
--- `writing::put_digits` meets its contract. The loop's invariant: the first i digits are written.
+-- `writing::put_columns` meets its contract. The loop's invariant: the first i columns are written.
 use borrow.Author.Needs.{needs}
 use Prim.Native.Nat.{ℕ, _-_, _≤_}
 use native.Mathlib.Omega.{arith}
@@ -7,23 +7,23 @@ use lib.ListN.{length, length-set}
 use Rattle.lists.specs.Tabulated.{tabulated}
 use Rattle.lists.proofs.TabulatedLaws.{length-tabulated}
 use Rattle.writing.specs.Placed.{placed}
-use Rattle.writing.specs.Text.{digit}
+use Rattle.writing.specs.Text.{column}
 use Rattle.writing.proofs.PlacedLaws.{placed-none, value-next}
-use Rattle.writing.proofs.put_digits.Statement.{statement}
-use Rattle.writing.proofs.put_digits.Tie as tie
+use Rattle.writing.proofs.put_columns.Statement.{statement}
+use Rattle.writing.proofs.put_columns.Tie as tie
 
 abbrev Inv-loop : tie.InvT-loop
-Inv-loop n a buffer₀ at i₀ buffer i = (i ≤ n) × (length buffer ≡ length buffer₀) × (buffer ≡ placed at (tabulated (digit a) i) buffer₀)
+Inv-loop n visible a buffer₀ at i₀ buffer i = (i ≤ n) × (length buffer ≡ length buffer₀) × (buffer ≡ placed at (tabulated (column visible a) i) buffer₀)
 
 abbrev μ-loop : tie.MeasureT-loop
-μ-loop n a buffer₀ at i₀ buffer i = n - i
+μ-loop n visible a buffer₀ at i₀ buffer i = n - i
 
 loop-holds : tie.Need-loop-holds Inv-loop μ-loop
 unfolding tabulated
 loop-holds c = (search needs, refl, placed-none (c .before .args .at) (c .before .args .buffer .now))
 
-digit-of-requires : tie.Need-digit-of-requires Inv-loop μ-loop
-digit-of-requires c κs = search needs
+column-of-requires : tie.Need-column-of-requires Inv-loop μ-loop
+column-of-requires c κs = search needs
 
 add-buffer : tie.Need-add-buffer Inv-loop μ-loop
 add-buffer c = search needs
@@ -41,7 +41,7 @@ loop-again : tie.Need-loop-again Inv-loop μ-loop
 loop-again c =
     let s = c .before .before .before .before in
     let v = c .before .before .loop in
-    (search needs, simp length-set (v .inv .1), value-next (digit (s .args .a)) (s .args .buffer .now) (v .buffer) (s .args .at) (v .i) (c .digit-of .result) (c .digit-of .ensures) (omega arith) (v .inv .2))
+    (search needs, simp length-set (v .inv .1), value-next (column (s .args .visible) (s .args .a)) (s .args .buffer .now) (v .buffer) (s .args .at) (v .i) (c .column-of .result) (c .column-of .ensures) (omega arith) (v .inv .2))
 
 add-result : tie.Need-add-result Inv-loop μ-loop
 add-result c = search needs
@@ -55,18 +55,18 @@ returns c =
     let v = c .before .loop in
     let e : v .i ≡ s .args .n = omega arith in
     record {
-      buffer = v .inv .2 ∙ ap (λ (i : ℕ). placed (s .args .at) (tabulated (digit (s .args .a)) i) (s .args .buffer .now)) e;
-      next = (let l = length-tabulated (digit (s .args .a)) (s .args .n) in omega arith);
+      buffer = v .inv .2 ∙ ap (λ (i : ℕ). placed (s .args .at) (tabulated (column (s .args .visible) (s .args .a)) i) (s .args .buffer .now)) e;
+      next = (let l = length-tabulated (column (s .args .visible) (s .args .a)) (s .args .n) in omega arith);
     }
 
-pub put-digits-spec : {M : Type 1} → statement M
-put-digits-spec =
+pub put-columns-spec : {M : Type 1} → statement M
+put-columns-spec =
     tie.close
     (tie.spec
     Inv-loop
     μ-loop
     loop-holds
-    digit-of-requires
+    column-of-requires
     add-buffer
     slice-write-buffer
     add-i
