@@ -63,7 +63,7 @@ A checkpoint, 50 bytes: its mode, its length and 48 bytes of its trail.
 
 Formulas have no own fields: each input of VECTORS under each list of assumptions once, with the number of the first vector that has
 both. The answer says 7, not compared, if the input is refused under the list (also as unmatched) or has more than 12 variables, else 8,
-with the number of models that agree with the list as place.
+with the number of models that agree with the list, and have no variable true that is neither named nor assumed, as place.
 
 Printed has no own fields. It expects the text. Its input is at most 16,384 bytes, since the program list_models reads no more.
 
@@ -418,7 +418,10 @@ def remaining(clauses, values):
 
 
 def models(n, clauses, values):
-    """How many assignments have the values and satisfy each clause, by trial of all."""
+    """How many assignments have the values, satisfy each clause, and have no variable true that is neither named nor assumed, by trial of
+    all."""
+    named = {v for c in clauses for v, _ in c}
+    values = {v: False for v in range(1, n + 1) if v not in named} | values
     pairs = [(sum(1 << (v - 1) for v, x in c if x), sum(1 << (v - 1) for v, x in c if not x)) for c in clauses]
     pairs += [(1 << (v - 1), 0) if x else (0, 1 << (v - 1)) for v, x in values.items()]
     return sum(all(a & yes or ~a & no for yes, no in pairs) for a in range(1 << n))
@@ -447,6 +450,17 @@ WIDE = ALL + ' 04'  # the clause that names all of 48 variables
 FULLEST = '01 30' + 96 * WIDE + ' 05'  # 9,315 bytes, the most without repeats
 MOST_TRUE = '01 01' + 96 * TRUE + ' 05'  # 96 clauses over one variable
 AGAIN = '01 02 02 01 02 02 02 01 04 03 01 03 01 03 02 03 02 03 01 04 05'  # the example with literals that come again
+# formulas whose clauses name all of their variables
+EITHER = '01 02 02 01 02 02 04 05'  # the clause (1, 2)
+ANY_OF_THREE = '01 03 02 01 02 02 02 03 04 05'  # the clause (1, 2, 3)
+ANY_OF_ALL = '01 30' + WIDE + ' 05'
+# formulas whose clauses do not
+TWO_UNNAMED = '01 02 05'
+ALL_UNNAMED = '01 30 05'
+ONE_OF_TWO = '01 02 02 01 04 05'  # the clause (1), and variable 2
+TWO_OF_THREE = '01 03 02 01 02 02 04 05'  # the clause (1, 2), and variable 3
+TWO_OF_FOUR = '01 04 02 01 03 03 04 05'  # the clause (1, not 3), and variables 2 and 4
+LAST_NAMED = '01 30 02 30 04 05'  # the clause (48), and 47 variables
 
 # check: input, assignment, what the answer says, and the refusal's number and place
 CHECK_EDGES = [
@@ -500,8 +514,8 @@ CHECK_EDGES = [
     ('01 01 03 02', 0, REFUSED, 6, 2),
     ('01 30 02 31', 0, REFUSED, 6, 2),
     ('01 30 02 ff', 0, REFUSED, 6, 2),
-    ('01 30 02 30 04 05', 1 << 47, YES, 0, 0),
-    ('01 30 02 30 04 05', (1 << 47) - 1, NO, 0, 0),
+    (LAST_NAMED, 1 << 47, YES, 0, 0),
+    (LAST_NAMED, (1 << 47) - 1, NO, 0, 0),
     # literals that come again in their clause count once, however often they come
     ('01 02 02 01 02 01 04 05', 0b00, NO, 0, 0),
     ('01 02 02 01 02 01 04 05', 0b01, YES, 0, 0),
@@ -564,6 +578,13 @@ CHECK_EDGES = [
     (FULLEST + ' 05', 1, REFUSED, 9, 9315),
     ('01 01 05 00', 0, REFUSED, 9, 3),
     ('01 01 05 05', 0, REFUSED, 9, 3),
+    # variables that no clause names, which are true in no model of the walk
+    (TWO_UNNAMED, 0b00, YES, 0, 0),
+    (TWO_UNNAMED, 0b11, YES, 0, 0),
+    (TWO_OF_FOUR, 0b1000, YES, 0, 0),
+    (TWO_OF_FOUR, 0b1111, YES, 0, 0),
+    (TWO_OF_FOUR, 0b1110, NO, 0, 0),
+    (LAST_NAMED, (1 << 48) - 1, YES, 0, 0),
     # stray variables, after all of reading
     ('01 01 05', 1, YES, 0, 0),
     ('01 01 05', 1 << 1, REFUSED, 12, 0),
@@ -592,14 +613,15 @@ NARROW = ''.join(' 03 %02x' % v for v in range(1, 49)) + ' 04'  # the clause tha
 TWICE = '01 01 02 01 04 02 01 04 05'  # the clause (1) twice
 PARTLY = '01 03 02 01 04 02 01 04 02 02 02 03 04 03 02 03 03 04 05'  # clauses (1), (1), (2, 3), (not 2, not 3): 1 drops two
 MARKED = '01 03 02 02 04 02 02 04 02 01 04 03 01 04 05'  # clauses (2), (2), (1), (not 1): 2 drops two, and the others are marked
-ONE_OF_TWO = '01 02 02 01 04 05'  # S20: the clause (1), and variable 2
 THREE_OF_FIVE = '01 03 02 01 02 02 04 03 02 02 03 04 02 02 03 03 04 03 02 03 03 04 02 03 04 05'  # with 1 false the first three are marked
 LOWER = '01 02 02 01 04 02 01 04 02 01 02 02 04 03 02 04 05'  # clauses (1), (1), (1, 2), (not 2): 1 is noted first
 HIGHER = '01 02 02 02 04 02 02 04 02 01 02 02 04 03 01 04 05'  # clauses (2), (2), (1, 2), (not 1): 2 is
 
 
 def in_order(first, last):
-    return ' '.join('%02x' % v for v in range(first, last + 1))
+    """The bytes from one to the other, upward or downward."""
+    step = 1 if first <= last else -1
+    return ' '.join('%02x' % v for v in range(first, last + step, step))
 
 
 # each refusal of reading, and where it stands
@@ -618,7 +640,6 @@ UNREAD = [
 ]
 
 # lists of assumptions with a bad one, and its index
-ALL_FREE = '01 30 05'
 ALL_TRUE = ' '.join('%02x 01' % v for v in range(1, 49))
 ALL_FALSE = ' '.join('%02x 00' % v for v in range(1, 49))
 TWO_WIDE = '01 30' + 2 * WIDE + ' 05'
@@ -627,7 +648,7 @@ BAD = [
     ((EXAMPLE, '00 00'), 0),
     ((EXAMPLE, '03 01'), 0),
     ((EXAMPLE, 'ff 00'), 0),
-    ((ALL_FREE, '31 01'), 0),
+    ((ALL_UNNAMED, '31 01'), 0),
     ((EXAMPLE, '01 01 00 00'), 1),
     ((EXAMPLE, '01 01 03 01'), 1),
     ((EXAMPLE, '01 01 01 01'), 1),
@@ -638,10 +659,10 @@ BAD = [
     ((EXAMPLE, '02 00 03 01 00 01'), 1),
     ((EXAMPLE, '01 01 02 00 02 00'), 2),
     # of 49 one is always bad, at last the 49th
-    ((ALL_FREE, ALL_TRUE + ' 01 01'), 48),
-    ((ALL_FREE, ALL_FALSE + ' 30 01'), 48),
-    ((ALL_FREE, ALL_TRUE + ' 31 01'), 48),
-    ((ALL_FREE, '01 00 ' + ALL_TRUE), 1),
+    ((ALL_UNNAMED, ALL_TRUE + ' 01 01'), 48),
+    ((ALL_UNNAMED, ALL_FALSE + ' 30 01'), 48),
+    ((ALL_UNNAMED, ALL_TRUE + ' 31 01'), 48),
+    ((ALL_UNNAMED, '01 00 ' + ALL_TRUE), 1),
 ]
 
 JUDGE_EDGES = [
@@ -760,7 +781,7 @@ JUDGE_ASSUMED = [
     # the violator leaves out a clause that is satisfied, between those that it has
     (('01 03 02 01 04 02 02 04 03 01 04 05', '02 01'), 96, 0xff, REFUSED, 10, 2, 0, 0, '01 00 01'),
     # all of 48 variables assumed
-    ((ALL_FREE, ALL_TRUE), 96, 0xff, ACCEPTED, 0, 0, 48, 0, ''),
+    ((ALL_UNNAMED, ALL_TRUE), 96, 0xff, ACCEPTED, 0, 0, 48, 0, ''),
     ((TWO_WIDE, ALL_TRUE), 96, 0xff, ACCEPTED, 0, 0, 48, 2, '00 00'),
     ((TWO_WIDE, ALL_FALSE), 96, 0xff, REFUSED, 10, 1, 0, 0, '01 00'),
     ((TWO_WIDE, ALL_FALSE[:-2] + '01'), 96, 0xff, ACCEPTED, 0, 0, 48, 2, '00 00'),
@@ -869,7 +890,7 @@ WEIGH_ASSUMED = [
     ((TWO_WIDE, ALL_FALSE[:-6]), 96, 0xff, COUNTED, 0, 0, 1, 2, '01 01'),
     ((SINGLES, ALL_TRUE[6:]), 96, 0, COUNTED, 0, 0, 1, 48, 48 * 'ff '),
     ((SINGLES, '30 01'), 96, 0, COUNTED, 0, 0, 47, 48, 48 * '01 '),
-    ((ALL_FREE, ALL_TRUE), 96, 0xff, COUNTED, 0, 0, 0, 0, ''),
+    ((ALL_UNNAMED, ALL_TRUE), 96, 0xff, COUNTED, 0, 0, 0, 0, ''),
     ((FULLEST, ALL_TRUE), 255, 0xff, COUNTED, 0, 0, 0, 96, ''),
     ((FULLEST, '01 00 30 00'), 96, 0, COUNTED, 0, 0, 46, 96, 96 * '01 '),
 ]
@@ -945,9 +966,9 @@ def foreign(given, *formulas):
 
 
 CLOSED_TRUE = '01 01 03 01 04 05'  # the clause (not 1): variable 1 has no model as true
-TWO_FREE = '01 02 05'
-THREE_FREE = '01 03 05'
 PURE_LAST = '01 02 02 01 02 02 04 02 01 03 02 04 05'  # S6.4: clauses (1, 2) and (1, not 2); 2 is assigned before 1
+WIDE_FIRST = in_order(48, 2) + ' 81'  # the trail of the first model where all clauses are that of 48 variables
+WIDE_48 = 'b0 ' + in_order(1, 47)  # and, with one clause, of the first in which 48 is true
 MOST = (1 << 32) - 1
 FIRST = checkpoint(0, 0)
 OVER = checkpoint(4, 0)
@@ -955,11 +976,11 @@ STRANGE = checkpoint(200, 77, 'ff 00 80 07', '2a')
 
 WALK_EDGES = [
     # no such mode, no such length
-    *foreign(STRANGE, EXAMPLE, CLOSED_TRUE, ALL_FREE),
+    *foreign(STRANGE, EXAMPLE, CLOSED_TRUE, ANY_OF_ALL, ALL_UNNAMED),
     *foreign(checkpoint(5, 0), EXAMPLE),
     *foreign(checkpoint(255, 0), EXAMPLE),
-    *foreign(checkpoint(1, 49, in_order(1, 48)), ALL_FREE),
-    *foreign(checkpoint(1, 255, in_order(1, 48)), ALL_FREE),
+    *foreign(checkpoint(1, 49, WIDE_FIRST), ANY_OF_ALL),
+    *foreign(checkpoint(1, 255, WIDE_FIRST), ANY_OF_ALL),
     # start and end with a length or with a byte past it
     *foreign(checkpoint(0, 1, '01'), EXAMPLE),
     *foreign(checkpoint(0, 1), EXAMPLE),
@@ -969,9 +990,9 @@ WALK_EDGES = [
     *foreign(checkpoint(4, 2, '81 02'), EXAMPLE),
     *foreign(checkpoint(4, 0, '01'), EXAMPLE),
     *foreign(checkpoint(4, 0, '', '80'), EXAMPLE),
-    # nothing assigned: never just assigned, and never with true just undone
-    *foreign(checkpoint(1, 0), EXAMPLE, CLOSED_TRUE, TWO_FREE),
-    *foreign(checkpoint(3, 0), EXAMPLE, CLOSED_TRUE, TWO_FREE),
+    # nothing assigned, where something is to be: never just assigned, and never with true just undone
+    *foreign(checkpoint(1, 0), EXAMPLE, CLOSED_TRUE, EITHER, ONE_OF_TWO, TWO_OF_FOUR, LAST_NAMED),
+    *foreign(checkpoint(3, 0), EXAMPLE, CLOSED_TRUE, EITHER, ONE_OF_TWO),
     # false undone at the root: had only where true is open too
     *foreign(checkpoint(2, 0), CLOSED_TRUE),
     (EXAMPLE, checkpoint(2, 0), 0, SPENT, 0, 0, 0, checkpoint(2, 0), 0, 0),
@@ -987,16 +1008,19 @@ WALK_EDGES = [
     *foreign(checkpoint(1, 1, 'ff'), EXAMPLE),
     *foreign(checkpoint(1, 2, '01 80'), EXAMPLE),
     # a trail of other choices
-    *foreign(checkpoint(1, 1, '02'), EXAMPLE, TWO_FREE),
-    *foreign(checkpoint(1, 1, '82'), EXAMPLE, TWO_FREE),
-    *foreign(checkpoint(1, 1, '01'), PURE_LAST),
+    *foreign(checkpoint(1, 1, '02'), EXAMPLE),
+    *foreign(checkpoint(1, 1, '82'), EXAMPLE),
+    *foreign(checkpoint(1, 1, '01'), PURE_LAST, EITHER),
+    *foreign(checkpoint(1, 1, '81'), EITHER),
     *foreign(checkpoint(1, 2, '82 01'), EXAMPLE),
-    *foreign(checkpoint(1, 2, '01 01'), EXAMPLE, TWO_FREE),
-    *foreign(checkpoint(1, 2, '01 81'), EXAMPLE, TWO_FREE),
+    *foreign(checkpoint(1, 2, '01 01'), EXAMPLE),
+    *foreign(checkpoint(1, 2, '01 81'), EXAMPLE),
+    *foreign(checkpoint(1, 2, '82 82'), EITHER),
+    *foreign(checkpoint(1, 2, '82 02'), EITHER),
     # closed values
     *foreign(checkpoint(1, 2, '01 02'), EXAMPLE),
     *foreign(checkpoint(1, 2, '81 82'), EXAMPLE),
-    *foreign(checkpoint(1, 2, '02 01'), PURE_LAST),
+    *foreign(checkpoint(1, 2, '02 01'), PURE_LAST, EITHER),
     *foreign(checkpoint(1, 1, '81'), CLOSED_TRUE),
     *foreign(checkpoint(2, 1, '01'), EXAMPLE),
     *foreign(checkpoint(3, 1, '81'), EXAMPLE),
@@ -1011,8 +1035,8 @@ WALK_EDGES = [
     *foreign(checkpoint(3, 2, '01 82'), EXAMPLE),
     *foreign(checkpoint(2, 1, '01'), CLOSED_TRUE),
     *foreign(checkpoint(1, 3, '01 82 01'), EXAMPLE),
-    *foreign(checkpoint(2, 48, in_order(1, 48)), ALL_FREE),
-    *foreign(checkpoint(3, 48, in_order(1, 48)), ALL_FREE),
+    *foreign(checkpoint(2, 48, WIDE_48), ANY_OF_ALL),
+    *foreign(checkpoint(3, 48, WIDE_48), ANY_OF_ALL),
     # a full trail: the model was handed out
     (EXAMPLE, checkpoint(1, 2, '01 82'), 0, SPENT, 0, 0, 0, checkpoint(1, 2, '01 82'), 0, 0),
     (EXAMPLE, checkpoint(1, 2, '01 82'), 1, SPENT, 0, 0, 0, checkpoint(3, 1, '01'), 1, 0),
@@ -1043,25 +1067,81 @@ WALK_EDGES = [
     (EXAMPLE, OVER, MOST, ENDED, 0, 0, 0, OVER, 0, 0),
     (CLOSED_TRUE, FIRST, MOST, MODEL, 0, 0, 0, checkpoint(1, 1, '01'), 1, 0),
     # 48 variables
-    (ALL_FREE, FIRST, 47, SPENT, 0, 0, 0, checkpoint(1, 47, in_order(1, 47)), 47, 0),
-    (ALL_FREE, FIRST, 48, MODEL, 0, 0, 0, checkpoint(1, 48, in_order(1, 48)), 48, 0),
-    (ALL_FREE, LAST, 1, SPENT, 0, 0, 0, checkpoint(2, 47, in_order(1, 47)), 1, 0),
-    (ALL_FREE, LAST, MOST, MODEL, 0, 0, 1 << 47, checkpoint(1, 48, in_order(1, 47) + ' b0'), 1, 0),
-    (ALL_FREE, LAST, 2, SPENT, 0, 0, 0, checkpoint(2, 46, in_order(1, 46)), 2, 0),
-    (ALL_FREE, checkpoint(1, 48, in_order(0x81, 0xb0)), MOST, ENDED, 0, 0, 0, OVER, 48, 0),
+    (ANY_OF_ALL, FIRST, 47, SPENT, 0, 0, 0, checkpoint(1, 47, in_order(48, 2)), 47, 0),
+    (ANY_OF_ALL, FIRST, 48, MODEL, 0, 0, 0b01, checkpoint(1, 48, WIDE_FIRST), 48, 0),
+    (ANY_OF_ALL, LAST, 1, SPENT, 0, 0, 0, checkpoint(3, 47, in_order(48, 2)), 1, 0),
+    (ANY_OF_ALL, LAST, MOST, MODEL, 0, 0, 0b10, checkpoint(1, 48, in_order(48, 3) + ' 82 01'), 3, 0),
+    (ANY_OF_ALL, LAST, 1, SPENT, 0, 0, 0, checkpoint(2, 47, in_order(48, 3) + ' 82'), 1, 0),
+    (ANY_OF_ALL, LAST, MOST, MODEL, 0, 0, 0b11, checkpoint(1, 48, in_order(48, 3) + ' 82 81'), 1, 0),
+    (ANY_OF_ALL, LAST, 3, SPENT, 0, 0, 0, checkpoint(2, 45, in_order(48, 4)), 3, 0),
+    (ANY_OF_ALL, checkpoint(1, 48, WIDE_48), 2, MODEL, 0, 0, 0b11 << 46, checkpoint(1, 48, WIDE_48[:-2] + 'af'), 2, 0),
+    (ANY_OF_ALL, checkpoint(1, 48, 'b0 ' + in_order(0x81, 0xaf)), MOST, ENDED, 0, 0, 0, OVER, 48, 0),
     # whole walks; the last checkpoint goes with the formula that it is for
     (PURE_LAST, START, MOST, MODEL, 0, 0, 0b01, checkpoint(1, 2, '02 81'), 2, 0),
     (PURE_LAST, LAST, MOST, MODEL, 0, 0, 0b11, checkpoint(1, 2, '82 81'), 4, 0),
     (PURE_LAST, LAST, MOST, ENDED, 0, 0, 0, OVER, 2, 0),
     (PURE_LAST, LAST, MOST, ENDED, 0, 0, 0, OVER, 0, 0),
-    (TWO_FREE, START, MOST, MODEL, 0, 0, 0b00, checkpoint(1, 2, '01 02'), 2, 0),
-    (TWO_FREE, LAST, MOST, MODEL, 0, 0, 0b10, checkpoint(1, 2, '01 82'), 2, 0),
-    (TWO_FREE, LAST, 0, SPENT, 0, 0, 0, checkpoint(1, 2, '01 82'), 0, 0),
-    (TWO_FREE, LAST, 1, SPENT, 0, 0, 0, checkpoint(3, 1, '01'), 1, 0),
-    (TWO_FREE, LAST, 3, MODEL, 0, 0, 0b01, checkpoint(1, 2, '81 02'), 3, 0),
-    (TWO_FREE, LAST, MOST, MODEL, 0, 0, 0b11, checkpoint(1, 2, '81 82'), 2, 0),
-    (TWO_FREE, LAST, 1, SPENT, 0, 0, 0, checkpoint(3, 1, '81'), 1, 0),
-    (TWO_FREE, LAST, 1, ENDED, 0, 0, 0, OVER, 1, 0),
+    (EITHER, START, MOST, MODEL, 0, 0, 0b01, checkpoint(1, 2, '02 81'), 2, 0),
+    (EITHER, LAST, 0, SPENT, 0, 0, 0, checkpoint(1, 2, '02 81'), 0, 0),
+    (EITHER, LAST, 1, SPENT, 0, 0, 0, checkpoint(3, 1, '02'), 1, 0),
+    (EITHER, LAST, 3, MODEL, 0, 0, 0b10, checkpoint(1, 2, '82 01'), 3, 0),
+    (EITHER, LAST, MOST, MODEL, 0, 0, 0b11, checkpoint(1, 2, '82 81'), 2, 0),
+    (EITHER, LAST, 1, SPENT, 0, 0, 0, checkpoint(3, 1, '82'), 1, 0),
+    (EITHER, LAST, 1, ENDED, 0, 0, 0, OVER, 1, 0),
+    # variables that no clause names are not assigned
+    (TWO_OF_FOUR, START, 1, SPENT, 0, 0, 0, checkpoint(1, 1, '03'), 1, 0),
+    (TWO_OF_FOUR, LAST, 1, MODEL, 0, 0, 0b0000, checkpoint(1, 2, '03 01'), 1, 0),
+    (TWO_OF_FOUR, LAST, 1, SPENT, 0, 0, 0, checkpoint(2, 1, '03'), 1, 0),
+    (TWO_OF_FOUR, LAST, 96, MODEL, 0, 0, 0b0001, checkpoint(1, 2, '03 81'), 1, 0),
+    (TWO_OF_FOUR, LAST, 3, SPENT, 0, 0, 0, checkpoint(1, 1, '83'), 3, 0),
+    (TWO_OF_FOUR, LAST, MOST, MODEL, 0, 0, 0b0101, checkpoint(1, 2, '83 81'), 1, 0),
+    (TWO_OF_FOUR, LAST, 2, ENDED, 0, 0, 0, OVER, 2, 0),
+    (TWO_OF_THREE, START, 2, MODEL, 0, 0, 0b001, checkpoint(1, 2, '02 81'), 2, 0),
+    (TWO_OF_THREE, LAST, 4, MODEL, 0, 0, 0b010, checkpoint(1, 2, '82 01'), 4, 0),
+    (TWO_OF_THREE, LAST, 2, MODEL, 0, 0, 0b011, checkpoint(1, 2, '82 81'), 2, 0),
+    (TWO_OF_THREE, LAST, 2, ENDED, 0, 0, 0, OVER, 2, 0),
+    (LAST_NAMED, START, 0, SPENT, 0, 0, 0, FIRST, 0, 0),
+    (LAST_NAMED, LAST, 1, MODEL, 0, 0, 1 << 47, checkpoint(1, 1, 'b0'), 1, 0),
+    (LAST_NAMED, LAST, MOST, ENDED, 0, 0, 0, OVER, 1, 0),
+    # none is named: the model on any budget, then the end
+    *(e for given, budgets in ((TWO_UNNAMED, (0, 1, 96)), (ALL_UNNAMED, (0, MOST))) for budget in budgets for e in [
+        (given, START, budget, MODEL, 0, 0, 0, checkpoint(1, 0), 0, 0),
+        (given, LAST, budget, ENDED, 0, 0, 0, OVER, 0, 0),
+        (given, LAST, budget, ENDED, 0, 0, 0, OVER, 0, 0),
+    ]),
+    (TWO_UNNAMED, FIRST, 5, MODEL, 0, 0, 0, checkpoint(1, 0), 0, 0),
+    (TWO_UNNAMED, checkpoint(1, 0), 5, ENDED, 0, 0, 0, OVER, 0, 0),
+    # such a walk has three checkpoints
+    *foreign(checkpoint(2, 0), TWO_UNNAMED, ALL_UNNAMED),
+    *foreign(checkpoint(3, 0), TWO_UNNAMED, ALL_UNNAMED),
+    *foreign(checkpoint(1, 0, '01'), TWO_UNNAMED),
+    *foreign(checkpoint(1, 0, '', '01'), TWO_UNNAMED),
+    *foreign(checkpoint(0, 1, '01'), TWO_UNNAMED),
+    *foreign(checkpoint(4, 1, '81'), TWO_UNNAMED),
+    # trails in which a variable stands that no clause names: alone, before the named ones and behind them
+    *(e for trail in ('01', '81', '02') for e in foreign(checkpoint(1, 1, trail), TWO_UNNAMED)),
+    *foreign(checkpoint(1, 2, '01 02'), TWO_UNNAMED),
+    *foreign(checkpoint(1, 2, '81 82'), TWO_UNNAMED),
+    *foreign(checkpoint(2, 1, '01'), TWO_UNNAMED),
+    *foreign(checkpoint(3, 1, '81'), TWO_UNNAMED),
+    *foreign(checkpoint(1, 1, '01'), ALL_UNNAMED, LAST_NAMED),
+    *foreign(checkpoint(1, 48, in_order(1, 48)), ALL_UNNAMED),
+    *foreign(checkpoint(1, 2, 'b0 01'), LAST_NAMED),
+    *foreign(checkpoint(1, 1, '02'), ONE_OF_TWO, TWO_OF_FOUR),
+    *foreign(checkpoint(1, 2, '02 81'), ONE_OF_TWO),
+    *foreign(checkpoint(1, 2, '81 02'), ONE_OF_TWO),
+    *foreign(checkpoint(1, 2, '81 82'), ONE_OF_TWO),
+    *foreign(checkpoint(1, 2, '03 02'), TWO_OF_FOUR),
+    *foreign(checkpoint(1, 3, '03 01 02'), TWO_OF_FOUR),
+    *foreign(checkpoint(1, 3, '83 81 84'), TWO_OF_FOUR),
+    *foreign(checkpoint(1, 4, '03 81 82 04'), TWO_OF_FOUR),
+    # nothing is undone at a trail of all that are named, whose model was handed out
+    *foreign(checkpoint(2, 1, '81'), ONE_OF_TWO),
+    *foreign(checkpoint(3, 1, '81'), ONE_OF_TWO),
+    *foreign(checkpoint(2, 2, '03 01'), TWO_OF_FOUR),
+    *foreign(checkpoint(3, 2, '83 81'), TWO_OF_FOUR),
+    (ONE_OF_TWO, checkpoint(1, 1, '81'), 0, SPENT, 0, 0, 0, checkpoint(1, 1, '81'), 0, 0),
+    (ONE_OF_TWO, checkpoint(1, 1, '81'), 1, ENDED, 0, 0, 0, OVER, 1, 0),
     # the example with literals that come again walks as without them, and so does a clause in very many records
     (AGAIN, START, 0, SPENT, 0, 0, 0, FIRST, 0, 0),
     (AGAIN, LAST, 1, SPENT, 0, 0, 0, checkpoint(1, 1, '01'), 1, 2),
@@ -1071,8 +1151,7 @@ WALK_EDGES = [
     (AGAIN, LAST, 1, SPENT, 0, 0, 0, checkpoint(2, 1, '81'), 1, 0),
     (AGAIN, LAST, MOST, ENDED, 0, 0, 0, OVER, 1, 0),
     *foreign(checkpoint(1, 1, '02'), AGAIN),
-    (MANY, START, MOST, MODEL, 0, 0, 0b01, checkpoint(1, 2, '81 02'), 2, 0),
-    (MANY, LAST, MOST, MODEL, 0, 0, 0b11, checkpoint(1, 2, '81 82'), 2, 0),
+    (MANY, START, MOST, MODEL, 0, 0, 0b01, checkpoint(1, 1, '81'), 1, 0),
     # formulas that strip down: to nothing, to something, and to what is not matched
     *(e for given in (TWICE, MOST_TRUE) for e in [
         (given, START, 0, SPENT, 0, 0, 0, FIRST, 0, 0),
@@ -1087,7 +1166,7 @@ WALK_EDGES = [
     *foreign(checkpoint(1, 1, '81'), PARTLY),
     *refused(STRANGE, 10, 2, [(MARKED, MOST)]),
     # the fullest input: all but 1 are false in the first model, and 1 is assigned last
-    (FULLEST, START, MOST, MODEL, 0, 0, 1, checkpoint(1, 48, bytes([*range(48, 1, -1), 0x81]).hex()), 48, 0),
+    (FULLEST, START, MOST, MODEL, 0, 0, 1, checkpoint(1, 48, WIDE_FIRST), 48, 0),
 ]
 
 # under assumptions
@@ -1111,63 +1190,105 @@ WALK_ASSUMED = [
     ((EXAMPLE, '02 01'), START, MOST, MODEL, 0, 0, 0b10, checkpoint(1, 1, '01'), 1, 0),
     ((EXAMPLE, '02 01'), LAST, MOST, ENDED, 0, 0, 0, OVER, 1, 0),
     # a checkpoint with an assumed variable, whichever value it has
-    *foreign(checkpoint(1, 1, '81'), (EXAMPLE, '01 01'), (EXAMPLE, '01 00'), (TWO_FREE, '01 01')),
-    *foreign(checkpoint(1, 1, '01'), (EXAMPLE, '01 01'), (EXAMPLE, '01 00'), (TWO_FREE, '01 00')),
-    *foreign(checkpoint(1, 2, '81 02'), (EXAMPLE, '01 01'), (TWO_FREE, '01 01'), (TWO_FREE, '02 00')),
-    *foreign(checkpoint(1, 2, '02 81'), (EXAMPLE, '01 01'), (TWO_FREE, '01 01')),
+    *foreign(checkpoint(1, 1, '81'), (EXAMPLE, '01 01'), (EXAMPLE, '01 00'), (EITHER, '01 01')),
+    *foreign(checkpoint(1, 1, '01'), (EXAMPLE, '01 01'), (EXAMPLE, '01 00'), (EITHER, '01 00')),
+    *foreign(checkpoint(1, 2, '81 02'), (EXAMPLE, '01 01'), (EITHER, '01 01'), (EITHER, '02 00')),
+    *foreign(checkpoint(1, 2, '02 81'), (EXAMPLE, '01 01'), (EITHER, '01 01')),
     *foreign(checkpoint(2, 1, '81'), (EXAMPLE, '01 01')),
-    # nothing is undone at a trail of all variables that are not assumed
-    *foreign(checkpoint(2, 1, '02'), (EXAMPLE, '01 01'), (TWO_FREE, '01 01')),
-    *foreign(checkpoint(3, 1, '82'), (TWO_FREE, '01 01')),
+    # nothing is undone at a trail of all named variables that are not assumed
+    *foreign(checkpoint(2, 1, '02'), (EXAMPLE, '01 01'), (EITHER, '01 01'), (TWO_OF_THREE, '01 01')),
+    *foreign(checkpoint(3, 1, '82'), (EITHER, '01 01'), (TWO_OF_THREE, '01 01')),
     # a checkpoint made under another list: foreign, or one that this walk has too
     *foreign(checkpoint(1, 1, '81'), (EXAMPLE, '02 01')),
     *foreign(checkpoint(1, 1, '01'), (EXAMPLE, '02 00')),
     *foreign(checkpoint(1, 2, '01 82'), (EXAMPLE, '02 01')),
-    *foreign(checkpoint(1, 1, '02'), TWO_FREE, (TWO_FREE, '02 01')),
-    ((TWO_FREE, '02 00'), START, MOST, MODEL, 0, 0, 0b00, checkpoint(1, 1, '01'), 1, 0),
-    ((TWO_FREE, '02 01'), LAST, MOST, MODEL, 0, 0, 0b11, checkpoint(1, 1, '81'), 2, 0),
-    (TWO_FREE, LAST, MOST, MODEL, 0, 0, 0b01, checkpoint(1, 2, '81 02'), 1, 0),
+    *foreign(checkpoint(1, 1, '02'), ANY_OF_THREE, (ANY_OF_THREE, '02 01'), (EITHER, '01 00')),
+    ((ANY_OF_THREE, '03 01 02 00'), START, MOST, MODEL, 0, 0, 0b100, checkpoint(1, 1, '01'), 1, 0),
+    ((ANY_OF_THREE, '03 01 02 01'), LAST, MOST, MODEL, 0, 0, 0b111, checkpoint(1, 1, '81'), 2, 0),
+    ((ANY_OF_THREE, '03 01'), LAST, MOST, MODEL, 0, 0, 0b101, checkpoint(1, 2, '81 02'), 1, 0),
+    ((EITHER, '01 01'), START, MOST, MODEL, 0, 0, 0b01, checkpoint(1, 1, '02'), 1, 0),
+    (EITHER, LAST, MOST, MODEL, 0, 0, 0b01, checkpoint(1, 2, '02 81'), 1, 0),
     # whole walks, the same ones under a list in another order
-    ((THREE_FREE, '01 01 03 00'), START, MOST, MODEL, 0, 0, 0b001, checkpoint(1, 1, '02'), 1, 0),
-    ((THREE_FREE, '01 01 03 00'), LAST, 1, SPENT, 0, 0, 0, checkpoint(2, 0), 1, 0),
-    ((THREE_FREE, '01 01 03 00'), LAST, 1, MODEL, 0, 0, 0b011, checkpoint(1, 1, '82'), 1, 0),
-    ((THREE_FREE, '01 01 03 00'), LAST, 96, ENDED, 0, 0, 0, OVER, 1, 0),
-    ((THREE_FREE, '03 00 01 01'), START, MOST, MODEL, 0, 0, 0b001, checkpoint(1, 1, '02'), 1, 0),
-    ((THREE_FREE, '01 01 03 00'), LAST, 1, SPENT, 0, 0, 0, checkpoint(2, 0), 1, 0),
-    ((THREE_FREE, '03 00 01 01'), LAST, 1, MODEL, 0, 0, 0b011, checkpoint(1, 1, '82'), 1, 0),
-    ((THREE_FREE, '01 01 03 00'), LAST, 96, ENDED, 0, 0, 0, OVER, 1, 0),
-    ((THREE_FREE, '02 01'), START, MOST, MODEL, 0, 0, 0b010, checkpoint(1, 2, '01 03'), 2, 0),
-    ((THREE_FREE, '02 01'), LAST, MOST, MODEL, 0, 0, 0b110, checkpoint(1, 2, '01 83'), 2, 0),
-    ((THREE_FREE, '02 01'), LAST, MOST, MODEL, 0, 0, 0b011, checkpoint(1, 2, '81 03'), 4, 0),
-    ((THREE_FREE, '02 01'), LAST, MOST, MODEL, 0, 0, 0b111, checkpoint(1, 2, '81 83'), 2, 0),
-    ((THREE_FREE, '02 01'), LAST, MOST, ENDED, 0, 0, 0, OVER, 2, 0),
+    ((ANY_OF_THREE, '01 01 03 00'), START, MOST, MODEL, 0, 0, 0b001, checkpoint(1, 1, '02'), 1, 0),
+    ((ANY_OF_THREE, '01 01 03 00'), LAST, 1, SPENT, 0, 0, 0, checkpoint(2, 0), 1, 0),
+    ((ANY_OF_THREE, '01 01 03 00'), LAST, 1, MODEL, 0, 0, 0b011, checkpoint(1, 1, '82'), 1, 0),
+    ((ANY_OF_THREE, '01 01 03 00'), LAST, 96, ENDED, 0, 0, 0, OVER, 1, 0),
+    ((ANY_OF_THREE, '03 00 01 01'), START, MOST, MODEL, 0, 0, 0b001, checkpoint(1, 1, '02'), 1, 0),
+    ((ANY_OF_THREE, '01 01 03 00'), LAST, 1, SPENT, 0, 0, 0, checkpoint(2, 0), 1, 0),
+    ((ANY_OF_THREE, '03 00 01 01'), LAST, 1, MODEL, 0, 0, 0b011, checkpoint(1, 1, '82'), 1, 0),
+    ((ANY_OF_THREE, '01 01 03 00'), LAST, 96, ENDED, 0, 0, 0, OVER, 1, 0),
+    ((ANY_OF_THREE, '02 01'), START, MOST, MODEL, 0, 0, 0b010, checkpoint(1, 2, '01 03'), 2, 0),
+    ((ANY_OF_THREE, '02 01'), LAST, MOST, MODEL, 0, 0, 0b110, checkpoint(1, 2, '01 83'), 2, 0),
+    ((ANY_OF_THREE, '02 01'), LAST, MOST, MODEL, 0, 0, 0b011, checkpoint(1, 2, '81 03'), 4, 0),
+    ((ANY_OF_THREE, '02 01'), LAST, MOST, MODEL, 0, 0, 0b111, checkpoint(1, 2, '81 83'), 2, 0),
+    ((ANY_OF_THREE, '02 01'), LAST, MOST, ENDED, 0, 0, 0, OVER, 2, 0),
     # a formula that strips down to nothing under the assumption
     ((PARTLY, '02 01'), START, MOST, MODEL, 0, 0, 0b011, checkpoint(1, 2, '03 81'), 2, 0),
     ((PARTLY, '02 01'), LAST, MOST, ENDED, 0, 0, 0, OVER, 2, 0),
     # nothing is left to assign: the model on any budget, then the end
     *(e for budget in (0, 96) for e in [
-        ((TWO_FREE, '01 01 02 00'), START, budget, MODEL, 0, 0, 0b01, checkpoint(1, 0), 0, 0),
-        ((TWO_FREE, '02 00 01 01'), LAST, budget, ENDED, 0, 0, 0, OVER, 0, 0),
-        ((TWO_FREE, '01 01 02 00'), LAST, budget, ENDED, 0, 0, 0, OVER, 0, 0),
+        ((TWO_UNNAMED, '01 01 02 00'), START, budget, MODEL, 0, 0, 0b01, checkpoint(1, 0), 0, 0),
+        ((TWO_UNNAMED, '02 00 01 01'), LAST, budget, ENDED, 0, 0, 0, OVER, 0, 0),
+        ((TWO_UNNAMED, '01 01 02 00'), LAST, budget, ENDED, 0, 0, 0, OVER, 0, 0),
         ((EXAMPLE, '02 01 01 00'), START, budget, MODEL, 0, 0, 0b10, checkpoint(1, 0), 0, 0),
         ((EXAMPLE, '01 00 02 01'), LAST, budget, ENDED, 0, 0, 0, OVER, 0, 0),
         ((EXAMPLE, '02 01 01 00'), LAST, budget, ENDED, 0, 0, 0, OVER, 0, 0),
-        ((ALL_FREE, ALL_TRUE), START, budget, MODEL, 0, 0, (1 << 48) - 1, checkpoint(1, 0), 0, 0),
-        ((ALL_FREE, ALL_TRUE), LAST, budget, ENDED, 0, 0, 0, OVER, 0, 0),
-        ((ALL_FREE, ALL_FALSE), LAST, budget, ENDED, 0, 0, 0, OVER, 0, 0),
-        ((ALL_FREE, ALL_FALSE), FIRST, budget, MODEL, 0, 0, 0, checkpoint(1, 0), 0, 0),
-        ((TWO_FREE, '01 01 02 00'), checkpoint(1, 0), budget, ENDED, 0, 0, 0, OVER, 0, 0),
+        ((ALL_UNNAMED, ALL_TRUE), START, budget, MODEL, 0, 0, (1 << 48) - 1, checkpoint(1, 0), 0, 0),
+        ((ALL_UNNAMED, ALL_TRUE), LAST, budget, ENDED, 0, 0, 0, OVER, 0, 0),
+        ((ALL_UNNAMED, ALL_FALSE), LAST, budget, ENDED, 0, 0, 0, OVER, 0, 0),
+        ((ALL_UNNAMED, ALL_FALSE), FIRST, budget, MODEL, 0, 0, 0, checkpoint(1, 0), 0, 0),
+        ((TWO_UNNAMED, '01 01 02 00'), checkpoint(1, 0), budget, ENDED, 0, 0, 0, OVER, 0, 0),
     ]),
     ((TWO_WIDE, ALL_TRUE), START, MOST, MODEL, 0, 0, (1 << 48) - 1, checkpoint(1, 0), 0, 0),
     # such a walk has three checkpoints
-    *foreign(checkpoint(2, 0), (TWO_FREE, '01 01 02 00')),
-    *foreign(checkpoint(3, 0), (TWO_FREE, '01 01 02 00')),
-    *foreign(checkpoint(1, 1, '01'), (TWO_FREE, '01 00 02 00')),
-    *foreign(checkpoint(1, 0, '01'), (TWO_FREE, '01 00 02 00')),
-    *foreign(checkpoint(1, 0, '', '01'), (TWO_FREE, '01 00 02 00')),
-    *foreign(checkpoint(4, 1, '01'), (TWO_FREE, '01 00 02 00')),
+    *foreign(checkpoint(2, 0), (TWO_UNNAMED, '01 01 02 00')),
+    *foreign(checkpoint(3, 0), (TWO_UNNAMED, '01 01 02 00')),
+    *foreign(checkpoint(1, 1, '01'), (TWO_UNNAMED, '01 00 02 00')),
+    *foreign(checkpoint(1, 0, '01'), (TWO_UNNAMED, '01 00 02 00')),
+    *foreign(checkpoint(1, 0, '', '01'), (TWO_UNNAMED, '01 00 02 00')),
+    *foreign(checkpoint(4, 1, '01'), (TWO_UNNAMED, '01 00 02 00')),
     # where something is left, mode 1 has a length
-    *foreign(checkpoint(1, 0), (EXAMPLE, '01 01'), (TWO_FREE, '02 00'), (ALL_FREE, ALL_TRUE[:-6])),
+    *foreign(checkpoint(1, 0), (EXAMPLE, '01 01'), (EITHER, '02 00'), (ANY_OF_ALL, ALL_TRUE[:-6])),
+    *foreign(checkpoint(1, 0), (TWO_OF_THREE, '01 01'), (TWO_OF_THREE, '03 01'), (TWO_OF_THREE, '01 01 03 00')),
+    # a clause that an assumption satisfies: the other variable that it names is assigned, with both values
+    ((TWO_OF_THREE, '01 01'), START, 0, SPENT, 0, 0, 0, FIRST, 0, 0),
+    ((TWO_OF_THREE, '01 01'), LAST, 1, MODEL, 0, 0, 0b001, checkpoint(1, 1, '02'), 1, 0),
+    ((TWO_OF_THREE, '01 01'), LAST, 1, SPENT, 0, 0, 0, checkpoint(2, 0), 1, 0),
+    ((TWO_OF_THREE, '01 01'), LAST, 1, MODEL, 0, 0, 0b011, checkpoint(1, 1, '82'), 1, 0),
+    ((TWO_OF_THREE, '01 01'), LAST, 1, ENDED, 0, 0, 0, OVER, 1, 0),
+    ((TWO_OF_THREE, '01 00'), START, MOST, MODEL, 0, 0, 0b010, checkpoint(1, 1, '82'), 1, 0),
+    ((TWO_OF_THREE, '01 00'), LAST, MOST, ENDED, 0, 0, 0, OVER, 1, 0),
+    ((TWO_OF_FOUR, '03 00'), START, 1, MODEL, 0, 0, 0b0000, checkpoint(1, 1, '01'), 1, 0),
+    ((TWO_OF_FOUR, '03 00'), LAST, 2, MODEL, 0, 0, 0b0001, checkpoint(1, 1, '81'), 2, 0),
+    # an assumed variable that no clause names has its value, and changes nothing else: each call is under another list
+    ((TWO_OF_THREE, '03 00'), START, MOST, MODEL, 0, 0, 0b001, checkpoint(1, 2, '02 81'), 2, 0),
+    ((TWO_OF_THREE, '03 01'), LAST, MOST, MODEL, 0, 0, 0b110, checkpoint(1, 2, '82 01'), 4, 0),
+    (TWO_OF_THREE, LAST, MOST, MODEL, 0, 0, 0b011, checkpoint(1, 2, '82 81'), 2, 0),
+    ((TWO_OF_THREE, '03 01'), LAST, 2, ENDED, 0, 0, 0, OVER, 2, 0),
+    ((TWO_OF_FOUR, '04 01 02 01'), START, MOST, MODEL, 0, 0, 0b1010, checkpoint(1, 2, '03 01'), 2, 0),
+    ((TWO_OF_FOUR, '04 01 02 00'), LAST, MOST, MODEL, 0, 0, 0b1001, checkpoint(1, 2, '03 81'), 2, 0),
+    ((TWO_OF_FOUR, '02 01'), LAST, MOST, MODEL, 0, 0, 0b0111, checkpoint(1, 2, '83 81'), 4, 0),
+    ((TWO_UNNAMED, '01 01'), START, 0, MODEL, 0, 0, 0b01, checkpoint(1, 0), 0, 0),
+    ((TWO_UNNAMED, '01 00'), START, 1, MODEL, 0, 0, 0b00, checkpoint(1, 0), 0, 0),
+    ((TWO_UNNAMED, '02 01'), START, 96, MODEL, 0, 0, 0b10, checkpoint(1, 0), 0, 0),
+    ((TWO_UNNAMED, '02 01'), LAST, 0, ENDED, 0, 0, 0, OVER, 0, 0),
+    ((ALL_UNNAMED, '30 01'), START, 0, MODEL, 0, 0, 1 << 47, checkpoint(1, 0), 0, 0),
+    # all that are named assumed: the same as where all are
+    ((TWO_OF_THREE, '01 01 02 00'), START, 0, MODEL, 0, 0, 0b001, checkpoint(1, 0), 0, 0),
+    ((TWO_OF_THREE, '02 00 01 01'), LAST, 0, ENDED, 0, 0, 0, OVER, 0, 0),
+    ((TWO_OF_THREE, '03 01 02 01 01 00'), START, 96, MODEL, 0, 0, 0b110, checkpoint(1, 0), 0, 0),
+    ((TWO_OF_THREE, '02 01 01 00'), LAST, 96, ENDED, 0, 0, 0, OVER, 0, 0),
+    ((ONE_OF_TWO, '01 01'), START, 0, MODEL, 0, 0, 0b01, checkpoint(1, 0), 0, 0),
+    ((LAST_NAMED, '30 01'), START, MOST, MODEL, 0, 0, 1 << 47, checkpoint(1, 0), 0, 0),
+    *foreign(checkpoint(2, 0), (TWO_OF_THREE, '01 01 02 00'), (TWO_UNNAMED, '01 01')),
+    *foreign(checkpoint(3, 0), (TWO_OF_THREE, '01 01 02 00'), (TWO_UNNAMED, '01 01')),
+    *refused(OVER, 10, 1, [((TWO_OF_THREE, '02 00 01 00'), 0), ((ONE_OF_TWO, '01 00'), 5), ((LAST_NAMED, '01 01 30 00'), 5)]),
+    # a variable in the trail that is neither named nor assumed, and one that is assumed and not named
+    *foreign(checkpoint(1, 1, '03'), (TWO_OF_THREE, '01 01'), (TWO_OF_THREE, '01 01 02 00'), (TWO_OF_THREE, '03 00')),
+    *foreign(checkpoint(1, 2, '02 03'), (TWO_OF_THREE, '01 01')),
+    *foreign(checkpoint(1, 2, '82 83'), (TWO_OF_THREE, '01 01')),
+    *foreign(checkpoint(1, 3, '02 81 83'), (TWO_OF_THREE, '03 01')),
+    *foreign(checkpoint(1, 1, '82'), (TWO_UNNAMED, '01 01'), (TWO_UNNAMED, '02 01')),
 ]
 
 # wait: input, the budgets of the calls, and how many waits are over
@@ -1183,11 +1304,20 @@ WAITS = [
     # nothing is left to assign: a model and the end, of no step
     ((EXAMPLE, '01 00 02 01'), [0, 0]),
     ((EXAMPLE, '02 00 01 01'), [0, 0]),
-    ((ALL_FREE, ALL_TRUE), [0, 0]),
+    ((ALL_UNNAMED, ALL_TRUE), [0, 0]),
+    (TWO_UNNAMED, [0, 0]),
+    (ALL_UNNAMED, [0, 0]),
+    ((TWO_UNNAMED, '01 01'), [0, 0]),
+    ((TWO_OF_THREE, '01 01 02 00'), [0, 0]),
     (CLOSED_TRUE, [1, 1]),
-    (TWO_FREE, [2, 2, 4, 2, 2]),
-    ((THREE_FREE, '02 01'), [2, 2, 4, 2, 2]),
-    ((THREE_FREE, '03 00 01 01'), [1, 2, 1]),
+    (EITHER, [2, 4, 2, 2]),
+    ((ANY_OF_THREE, '02 01'), [2, 2, 4, 2, 2]),
+    ((ANY_OF_THREE, '03 00 01 01'), [1, 2, 1]),
+    # variables that no clause names, or that are assumed, take no step
+    (ONE_OF_TWO, [1, 1]),
+    (TWO_OF_FOUR, [2, 2, 4, 2]),
+    ((TWO_OF_THREE, '01 01'), [1, 2, 1]),
+    ((TWO_OF_THREE, '03 01'), [2, 4, 2, 2]),
     # formulas that strip down
     (TWICE, [1, 1]),
     (MOST_TRUE, [1, 1]),
@@ -1198,8 +1328,9 @@ BUDGETS = [
     [], [0], 3 * [0], 24 * [1], 12 * [2], 3 * [95], 3 * [96], 3 * [97], 8 * [96], [MOST, 0, MOST, 0, 0, MOST], [2, 0, 7, 1], [96, 1, 0, 95],
     [1, 0, 1, 1, 2, 0, 4, 3, 2, 1, 0, 6, 5, 0, 97, 0],
 ]
-# 48 variables and no clause: in the k-th model after the first the last variables change up to the lowest bit of k, as in counting
-COUNTING = [48, *(2 * (k & -k).bit_length() for k in range(1, 1000))]
+# The clause of 48 variables: once the highest true one is k, those below it count, so that before the i-th model the last literals
+# change up to the lowest bit of i.
+COUNTING = [48, *(2 * (i & -i).bit_length() for i in range(2, 1001))]
 
 
 def closed(waits, budgets):
@@ -1215,7 +1346,7 @@ def closed(waits, budgets):
 
 WAIT_EDGES = [
     *((given, budgets, closed(waits, budgets)) for given, waits in WAITS for budgets in BUDGETS),
-    *((ALL_FREE, budgets, closed(COUNTING, budgets)) for budgets in [
+    *((ANY_OF_ALL, budgets, closed(COUNTING, budgets)) for budgets in [
         *BUDGETS, [47, 0, 1, 1, 1], [48, 1, 1, 95, 3], 40 * [96], 48 * [95], 64 * [2], 100 * [1], 60 * [0, 3, 1, 12], 300 * [96],
     ]),
 ]
@@ -1245,51 +1376,75 @@ LIST_EDGES = [
         ((EXAMPLE, '01 01 02 01'), OVER, 10, 1),
         ((EXAMPLE, '01 01'), checkpoint(1, 1, '81'), 11, 0),
         ((EXAMPLE, '01 01'), checkpoint(1, 0), 11, 0),
+        (EITHER, checkpoint(1, 0), 11, 0),
+        (TWO_UNNAMED, checkpoint(2, 0), 11, 0),
+        (TWO_UNNAMED, checkpoint(1, 1, '01'), 11, 0),
+        (TWO_OF_FOUR, checkpoint(1, 3, '03 01 02'), 11, 0),
     ]),
+    (EITHER, START, 4, ENDED, 0, 0, OVER, [0b01, 0b10, 0b11]),
+    (MANY, START, 2, ENDED, 0, 0, OVER, [0b01]),
     # under assumptions, in either order
     ((EXAMPLE, '01 01'), START, 2, ENDED, 0, 0, OVER, [0b01]),
     ((EXAMPLE, '01 00'), START, 1, MODEL, 0, 0, checkpoint(1, 1, '82'), [0b10]),
-    ((TWO_FREE, '01 01'), START, 3, ENDED, 0, 0, OVER, [0b01, 0b11]),
-    ((THREE_FREE, '01 01 03 00'), START, 2, MODEL, 0, 0, checkpoint(1, 1, '82'), [0b001, 0b011]),
-    ((THREE_FREE, '03 00 01 01'), START, 2, MODEL, 0, 0, checkpoint(1, 1, '82'), [0b001, 0b011]),
-    ((THREE_FREE, '02 01'), START, 255, ENDED, 0, 0, OVER, [0b010, 0b110, 0b011, 0b111]),
+    ((EITHER, '01 01'), START, 3, ENDED, 0, 0, OVER, [0b01, 0b11]),
+    ((ANY_OF_THREE, '01 01 03 00'), START, 2, MODEL, 0, 0, checkpoint(1, 1, '82'), [0b001, 0b011]),
+    ((ANY_OF_THREE, '03 00 01 01'), START, 2, MODEL, 0, 0, checkpoint(1, 1, '82'), [0b001, 0b011]),
+    ((ANY_OF_THREE, '02 01'), START, 255, ENDED, 0, 0, OVER, [0b010, 0b110, 0b011, 0b111]),
+    # variables that no clause names are false, unless they are assumed
+    (TWO_OF_FOUR, START, 255, ENDED, 0, 0, OVER, [0b0000, 0b0001, 0b0101]),
+    (TWO_OF_FOUR, START, 2, MODEL, 0, 0, checkpoint(1, 2, '03 81'), [0b0000, 0b0001]),
+    ((TWO_OF_THREE, '01 01'), START, 3, ENDED, 0, 0, OVER, [0b001, 0b011]),
+    ((TWO_OF_THREE, '03 01'), START, 4, ENDED, 0, 0, OVER, [0b101, 0b110, 0b111]),
+    ((TWO_OF_THREE, '03 00'), START, 4, ENDED, 0, 0, OVER, [0b001, 0b010, 0b011]),
     # formulas that strip down
     (TWICE, START, 1, MODEL, 0, 0, checkpoint(1, 1, '81'), [0b1]),
     (MOST_TRUE, START, 255, ENDED, 0, 0, OVER, [0b1]),
     (PARTLY, START, 3, ENDED, 0, 0, OVER, [0b101, 0b011]),
     ((PARTLY, '02 01'), START, 2, ENDED, 0, 0, OVER, [0b011]),
-    # nothing is left: without room the model is not lost
-    ((TWO_FREE, '01 01 02 00'), START, 0, SPENT, 0, 0, FIRST, []),
-    ((TWO_FREE, '01 01 02 00'), LAST, 1, MODEL, 0, 0, checkpoint(1, 0), [0b01]),
-    ((TWO_FREE, '01 01 02 00'), LAST, 0, ENDED, 0, 0, OVER, []),
-    ((TWO_FREE, '02 00 01 01'), START, 2, ENDED, 0, 0, OVER, [0b01]),
-    ((TWO_FREE, '02 00 01 01'), checkpoint(1, 0), 2, ENDED, 0, 0, OVER, []),
-    ((TWO_FREE, '02 00 01 01'), OVER, 0, ENDED, 0, 0, OVER, []),
-    ((ALL_FREE, ALL_TRUE), START, 0, SPENT, 0, 0, FIRST, []),
-    ((ALL_FREE, ALL_TRUE), START, 255, ENDED, 0, 0, OVER, [(1 << 48) - 1]),
+    # nothing is to be assigned: without room the model is not lost
+    (TWO_UNNAMED, START, 0, SPENT, 0, 0, FIRST, []),
+    (TWO_UNNAMED, LAST, 1, MODEL, 0, 0, checkpoint(1, 0), [0b00]),
+    (TWO_UNNAMED, LAST, 0, ENDED, 0, 0, OVER, []),
+    (TWO_UNNAMED, LAST, 1, ENDED, 0, 0, OVER, []),
+    (TWO_UNNAMED, START, 2, ENDED, 0, 0, OVER, [0b00]),
+    (TWO_UNNAMED, checkpoint(1, 0), 2, ENDED, 0, 0, OVER, []),
+    (ALL_UNNAMED, START, 0, SPENT, 0, 0, FIRST, []),
+    (ALL_UNNAMED, START, 255, ENDED, 0, 0, OVER, [0]),
+    ((TWO_UNNAMED, '02 01'), START, 0, SPENT, 0, 0, FIRST, []),
+    ((TWO_UNNAMED, '02 01'), LAST, 1, MODEL, 0, 0, checkpoint(1, 0), [0b10]),
+    ((TWO_OF_THREE, '02 00 01 01'), START, 0, SPENT, 0, 0, FIRST, []),
+    ((TWO_OF_THREE, '02 00 01 01'), LAST, 2, ENDED, 0, 0, OVER, [0b001]),
+    ((TWO_UNNAMED, '01 01 02 00'), START, 0, SPENT, 0, 0, FIRST, []),
+    ((TWO_UNNAMED, '01 01 02 00'), LAST, 1, MODEL, 0, 0, checkpoint(1, 0), [0b01]),
+    ((TWO_UNNAMED, '01 01 02 00'), LAST, 0, ENDED, 0, 0, OVER, []),
+    ((TWO_UNNAMED, '02 00 01 01'), START, 2, ENDED, 0, 0, OVER, [0b01]),
+    ((TWO_UNNAMED, '02 00 01 01'), checkpoint(1, 0), 2, ENDED, 0, 0, OVER, []),
+    ((TWO_UNNAMED, '02 00 01 01'), OVER, 0, ENDED, 0, 0, OVER, []),
+    ((ALL_UNNAMED, ALL_TRUE), START, 0, SPENT, 0, 0, FIRST, []),
+    ((ALL_UNNAMED, ALL_TRUE), START, 255, ENDED, 0, 0, OVER, [(1 << 48) - 1]),
 ]
 
 
-def page_line(serial, n, model, steps):
-    return '%6d %-48s %3d\n' % (serial, ''.join('01'[model >> v & 1] for v in range(n)), steps)
+def page_line(serial, columns, steps):
+    return '%6d %-48s %3d\n' % (serial, columns, steps)
 
 
-def page_lines(serial, n, *models_steps):
+def page_lines(serial, *columns_steps):
     """The lines of a page, from its first serial."""
-    return [page_line(serial + i, n, model, steps) for i, (model, steps) in enumerate(models_steps)]
+    return [page_line(serial + i, *line) for i, line in enumerate(columns_steps)]
 
 
 def pages_from_start(given, *serials):
     """Pages one after the other, each from what the last one returned, with these first serials: the lines, and the checkpoint. The walk is
     that of walk_picture.py, which follows the specification."""
     n, clauses = read(bytes.fromhex(given))
-    calls = walk_picture.calls(n, [[v if x else -v for v, x in c] for c in clauses], itertools.repeat(walk_picture.AMPLE))
+    calls = walk_picture.calls([[v if x else -v for v, x in c] for c in clauses], itertools.repeat(walk_picture.AMPLE))
     for serial in serials:
         behind, found = None, []
         for _, (answer, steps, _, behind) in zip(range(PAGE_LINES), calls):
             if answer[0] == 'model':
-                found.append((sum(1 << v - 1 for v in answer[1] if 0 < v), steps))
-        yield serial, page_lines(serial, n, *found), walk_picture.checkpoint_bytes(behind)
+                found.append((walk_picture.columns(n, answer[1]), steps))
+        yield serial, page_lines(serial, *found), walk_picture.checkpoint_bytes(behind)
 
 
 def pages_listed(given, *serials):
@@ -1302,45 +1457,68 @@ def page_refused(given, origin, serial, length, *refusal):
     return given, origin, serial, length, refusal, origin
 
 
-SIX_FREE = '01 06 05'  # 64 models
-FIFTY = '01 06 03 01 02 02 02 06 04 03 01 03 04 03 05 04 05'  # clauses (not 1, 2, 6) and (not 1, not 4, not 5): 50 models
+ANY_OF_SIX = '01 06 02 01 02 02 02 03 02 04 02 05 02 06 04 05'  # the clause (1, 2, 3, 4, 5, 6): 63 models
+# clauses (1, 2, 3), (not 1, 2, 3, 4) and (not 1, not 2, 4, 5, 6), which 8, 4 and 2 of 64 assignments make false, none two: 50 models
+FIFTY = '01 06 02 01 02 02 02 03 04 03 01 02 02 02 03 02 04 04 03 01 03 02 02 04 02 05 02 06 04 05'
 # page: input, the checkpoint that the call gets, the first serial, the length of the page, the refusal's number and place or the filled
 # lines, and the checkpoint that comes back
 PAGE_EDGES = [
     # page after page, the last one behind the end: more models than a page has lines, just as many, and fewer
-    *pages_listed(SIX_FREE, 1, 51, 101),
+    *pages_listed(ANY_OF_SIX, 1, 51, 101),
+    *pages_listed(FIFTY, 1, 51),
     *pages_listed(FIFTY, 999950, 1),
     *pages_listed(EXAMPLE, 1, 999950),
     # one variable, and 48
-    *pages_listed('01 01 05', 7, 57),
-    *pages_listed(ALL_FREE, 999, 1049),
+    *pages_listed(CLOSED_TRUE, 7, 57),
+    *pages_listed(ANY_OF_ALL, 999, 1049),
     # from the checkpoints of spent calls: their steps do not count
-    (EXAMPLE, checkpoint(1, 1, '01'), 1, 3005, page_lines(1, 2, (0b10, 1), (0b01, 4)), OVER),
-    (EXAMPLE, checkpoint(3, 1, '01'), 1, 3005, page_lines(1, 2, (0b01, 3)), OVER),
-    (EXAMPLE, checkpoint(2, 0), 1, 3005, page_lines(1, 2, (0b01, 2)), OVER),
+    (EXAMPLE, checkpoint(1, 1, '01'), 1, 3005, page_lines(1, ('01', 1), ('10', 4)), OVER),
+    (EXAMPLE, checkpoint(3, 1, '01'), 1, 3005, page_lines(1, ('10', 3)), OVER),
+    (EXAMPLE, checkpoint(2, 0), 1, 3005, page_lines(1, ('10', 2)), OVER),
     (EXAMPLE, checkpoint(2, 1, '81'), 1, 3005, [], OVER),
     # from a model's, and from the end
-    (EXAMPLE, checkpoint(1, 2, '01 82'), 1, 3005, page_lines(1, 2, (0b01, 4)), OVER),
+    (EXAMPLE, checkpoint(1, 2, '01 82'), 1, 3005, page_lines(1, ('10', 4)), OVER),
     (EXAMPLE, checkpoint(1, 2, '81 02'), 1, 3005, [], OVER),
     (EXAMPLE, OVER, 1, 3005, [], OVER),
     # under assumptions, in either order: an assumed variable shows its value
-    ((EXAMPLE, '01 01'), START, 1, 3005, page_lines(1, 2, (0b01, 1)), OVER),
-    ((THREE_FREE, '01 01 03 00'), START, 1, 3005, page_lines(1, 3, (0b001, 1), (0b011, 2)), OVER),
-    ((THREE_FREE, '03 00 01 01'), START, 1, 3005, page_lines(1, 3, (0b001, 1), (0b011, 2)), OVER),
-    ((THREE_FREE, '02 01'), START, 1, 3005, page_lines(1, 3, (0b010, 2), (0b110, 2), (0b011, 4), (0b111, 2)), OVER),
-    ((PARTLY, '02 01'), START, 1, 3005, page_lines(1, 3, (0b011, 2)), OVER),
-    # nothing is left to assign: one line, of no step
-    (('01 01 05', '01 01'), START, 7, 3005, page_lines(7, 1, (0b1, 0)), OVER),
-    ((EXAMPLE, '02 01 01 00'), START, 999950, 3005, page_lines(999950, 2, (0b10, 0)), OVER),
+    ((EXAMPLE, '01 01'), START, 1, 3005, page_lines(1, ('10', 1)), OVER),
+    ((ANY_OF_THREE, '01 01 03 00'), START, 1, 3005, page_lines(1, ('100', 1), ('110', 2)), OVER),
+    ((ANY_OF_THREE, '03 00 01 01'), START, 1, 3005, page_lines(1, ('100', 1), ('110', 2)), OVER),
+    ((ANY_OF_THREE, '02 01'), START, 1, 3005, page_lines(1, ('010', 2), ('011', 2), ('110', 4), ('111', 2)), OVER),
+    ((PARTLY, '02 01'), START, 1, 3005, page_lines(1, ('110', 2)), OVER),
+    # a variable that no clause names shows a dash, and its value if it is assumed
+    (TWO_OF_FOUR, START, 1, 3005, page_lines(1, ('0-0-', 2), ('1-0-', 2), ('1-1-', 4)), OVER),
+    (TWO_OF_FOUR, checkpoint(2, 1, '03'), 1, 3005, page_lines(1, ('1-0-', 1), ('1-1-', 4)), OVER),
+    ((TWO_OF_FOUR, '02 01'), START, 1, 3005, page_lines(1, ('010-', 2), ('110-', 2), ('111-', 4)), OVER),
+    ((TWO_OF_FOUR, '04 00'), START, 1, 3005, page_lines(1, ('0-00', 2), ('1-00', 2), ('1-10', 4)), OVER),
+    (TWO_OF_THREE, START, 1, 3005, page_lines(1, ('10-', 2), ('01-', 4), ('11-', 2)), OVER),
+    ((TWO_OF_THREE, '01 01'), START, 1, 3005, page_lines(1, ('10-', 1), ('11-', 2)), OVER),
+    ((TWO_OF_THREE, '01 00'), START, 1, 3005, page_lines(1, ('01-', 1)), OVER),
+    ((TWO_OF_THREE, '03 01'), START, 1, 3005, page_lines(1, ('101', 2), ('011', 4), ('111', 2)), OVER),
+    ((TWO_OF_THREE, '03 00'), START, 1, 3005, page_lines(1, ('100', 2), ('010', 4), ('110', 2)), OVER),
+    ((TWO_OF_THREE, '03 01 01 01'), START, 1, 3005, page_lines(1, ('101', 1), ('111', 2)), OVER),
+    (LAST_NAMED, START, 1, 3005, page_lines(1, (47 * '-' + '1', 1)), OVER),
+    ((LAST_NAMED, '2f 01'), START, 1, 3005, page_lines(1, (46 * '-' + '11', 1)), OVER),
+    # nothing is to be assigned: one line, of no step
+    (TWO_UNNAMED, START, 1, 3005, page_lines(1, ('--', 0)), OVER),
+    (TWO_UNNAMED, LAST, 51, 3005, [], OVER),
+    (TWO_UNNAMED, checkpoint(1, 0), 1, 3005, [], OVER),
+    (ALL_UNNAMED, START, 999950, 3000, page_lines(999950, (48 * '-', 0)), OVER),
+    ((TWO_UNNAMED, '01 01'), START, 1, 3005, page_lines(1, ('1-', 0)), OVER),
+    ((TWO_UNNAMED, '02 00'), START, 1, 3005, page_lines(1, ('-0', 0)), OVER),
+    ((TWO_OF_THREE, '01 01 02 00'), START, 1, 3005, page_lines(1, ('10-', 0)), OVER),
+    ((TWO_OF_THREE, '03 01 01 01 02 00'), START, 1, 3005, page_lines(1, ('101', 0)), OVER),
+    (('01 01 05', '01 01'), START, 7, 3005, page_lines(7, ('1', 0)), OVER),
+    ((EXAMPLE, '02 01 01 00'), START, 999950, 3005, page_lines(999950, ('01', 0)), OVER),
     ((EXAMPLE, '02 01 01 00'), checkpoint(1, 0), 1, 3005, [], OVER),
-    ((ALL_FREE, ALL_TRUE), START, 1, 3005, page_lines(1, 48, ((1 << 48) - 1, 0)), OVER),
+    ((ALL_UNNAMED, ALL_TRUE), START, 1, 3005, page_lines(1, (48 * '1', 0)), OVER),
     # the lengths of the page: a short one is refused before anything else
     *(page_refused(EXAMPLE, FIRST, 1, length, 17, 0) for length in (0, 1, 60, 2940, 2999)),
-    *((EXAMPLE, FIRST, 1, length, page_lines(1, 2, (0b10, 2), (0b01, 4)), OVER) for length in (3000, 3001, 65535)),
+    *((EXAMPLE, FIRST, 1, length, page_lines(1, ('01', 2), ('10', 4)), OVER) for length in (3000, 3001, 65535)),
     *(page_refused((given, '00 01'), STRANGE, 0, 2999, 17, 0) for given in (UNREADABLE, UNMATCHED, EXAMPLE)),
     # the first serial, refused before anything is read
     *(page_refused(EXAMPLE, FIRST, serial, 3005, 18, 0) for serial in (0, 999951, 999999, 1000000, MOST)),
-    *((EXAMPLE, FIRST, serial, 3005, page_lines(serial, 2, (0b10, 2), (0b01, 4)), OVER) for serial in (9, 99, 99999, 999949, 999950)),
+    *((EXAMPLE, FIRST, serial, 3005, page_lines(serial, ('01', 2), ('10', 4)), OVER) for serial in (9, 99, 99999, 999949, 999950)),
     *(page_refused((given, '00 01'), STRANGE, serial, 3005, 18, 0) for given in (UNREADABLE, UNMATCHED, EXAMPLE) for serial in (0, 999951)),
     # then what walk refuses, in its order
     *(page_refused((given, '00 01'), STRANGE, 1, 3005, number, place) for given, number, place in UNREAD),
@@ -1350,12 +1528,17 @@ PAGE_EDGES = [
     page_refused((EXAMPLE, '01 01 02 01'), OVER, 1, 3005, 10, 1),
     page_refused(EXAMPLE, STRANGE, 1, 3005, 11, 0),
     page_refused((EXAMPLE, '01 01'), checkpoint(1, 1, '81'), 1, 3005, 11, 0),
-    page_refused((TWO_FREE, '01 01 02 00'), checkpoint(2, 0), 1, 3005, 11, 0),
+    page_refused((TWO_UNNAMED, '01 01 02 00'), checkpoint(2, 0), 1, 3005, 11, 0),
+    page_refused(TWO_UNNAMED, checkpoint(2, 0), 1, 3005, 11, 0),
+    page_refused(TWO_UNNAMED, checkpoint(1, 1, '01'), 1, 3005, 11, 0),
+    page_refused((TWO_OF_THREE, '01 01'), checkpoint(1, 2, '02 03'), 1, 3005, 11, 0),
+    page_refused(EITHER, checkpoint(1, 0), 1, 3005, 11, 0),
 ]
 
 # formulas: some of few variables, each under every list of assumptions, in order, none bad
 FORMULA_EDGES = [(given, ' '.join('%02x %02x' % (v, x) for v, x in enumerate(values, 1) if x < 2))
-                 for given in [EXAMPLE, PURE_LAST, UNMATCHED, REMATCHED, THREE_FREE, TWICE, MOST_TRUE, PARTLY, MARKED, LOWER, HIGHER,
+                 for given in [EXAMPLE, PURE_LAST, UNMATCHED, REMATCHED, ANY_OF_THREE, TWICE, MOST_TRUE, PARTLY, MARKED, LOWER, HIGHER,
+                               TWO_UNNAMED, ONE_OF_TWO, TWO_OF_THREE, TWO_OF_FOUR,
                                '01 04 02 01 03 02 04 02 02 03 03 04 02 03 03 01 02 04 04 05',
                                '01 04 02 01 02 02 04 03 01 02 03 04 03 02 03 03 04 02 04 03 01 04 05',
                                '01 03 02 01 04 03 01 02 02 04 02 02 04 03 03 04 05']
@@ -1363,9 +1546,8 @@ FORMULA_EDGES = [(given, ' '.join('%02x %02x' % (v, x) for v, x in enumerate(val
 
 # printed: what is printed from, and the text
 WHOLE = '01 02' + 8190 * ' 02 01' + ' 04 05'  # the clause (1) in 16,384 bytes, as many as the printing program reads
-WHOLE_TEXT = 'switches 2 rules 1\n10 2 0\n11 2 0\nend 2 0\n'
 PRINTED_EDGES = [
-    (WHOLE, WHOLE_TEXT),
+    (WHOLE, 'switches 2 rules 1\n1- 1 0\nend 1 0\n'),
     # cut before the clause's end
     (MANY, 'refused 2 16384\n'),
     # formulas that strip down
@@ -1373,6 +1555,13 @@ PRINTED_EDGES = [
     (MOST_TRUE, 'switches 1 rules 96\n1 1 0\nend 1 0\n'),
     (PARTLY, 'switches 3 rules 4\n101 3 2\n110 6 0\nend 3 0\n'),
     (MARKED, 'refused 10 2\n'),
+    # dashes for variables that no clause names; the first line counts them
+    (EITHER, 'switches 2 rules 1\n10 2 0\n01 4 0\n11 2 0\nend 2 0\n'),
+    (TWO_OF_THREE, 'switches 3 rules 1\n10- 2 0\n01- 4 0\n11- 2 0\nend 2 0\n'),
+    (TWO_OF_FOUR, 'switches 4 rules 1\n0-0- 2 0\n1-0- 2 0\n1-1- 4 0\nend 2 0\n'),
+    (LAST_NAMED, 'switches 48 rules 1\n' + 47 * '-' + '1 1 0\nend 1 0\n'),
+    (TWO_UNNAMED, 'switches 2 rules 0\n-- 0 0\nend 0 0\n'),
+    (ALL_UNNAMED, 'switches 48 rules 0\n' + 48 * '-' + ' 0 0\nend 0 0\n'),
 ]
 
 
@@ -1617,10 +1806,10 @@ EDGES = {'check': [('check_edges', 60000, CHECK_EDGES, check_edge)],
          'judge': [('judge_edges', 61000, JUDGE_EDGES, buffer_edge), ('judge_assumed', 61500, JUDGE_ASSUMED, buffer_edge)],
          'weigh': [('weigh_edges', 61200, WEIGH_EDGES, buffer_edge), ('weigh_assumed', 61700, WEIGH_ASSUMED, buffer_edge)],
          'deficiency': [('deficiency_edges', 61800, DEFICIENCY_EDGES, deficiency_edge)],
-         'walk': [('walk_edges', 62000, WALK_EDGES, walk_edge), ('walk_assumed', 62500, WALK_ASSUMED, walk_edge)],
-         'wait': [('wait_edges', 62650, WAIT_EDGES, waiting)],
+         'walk': [('walk_edges', 62000, WALK_EDGES, walk_edge), ('walk_assumed', 62300, WALK_ASSUMED, walk_edge)],
+         'wait': [('wait_edges', 62600, WAIT_EDGES, waiting)],
          'list': [('list_edges', 63100, LIST_EDGES, list_edge)],
-         'page': [('page_edges', 63600, PAGE_EDGES, page_edge)],
+         'page': [('page_edges', 63800, PAGE_EDGES, page_edge)],
          'printed': [('printed_edges', 63000, PRINTED_EDGES, printed_text)],
          'formulas': [('formulas_edges', 63200, FORMULA_EDGES, formula_edge)],
          'read_text': [('read_text_edges', 64000, READ_TEXT_EDGES, read_edge)],
