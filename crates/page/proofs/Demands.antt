@@ -1,6 +1,7 @@
 -- S19: what the act page owes. s is the input, us are the assumptions, c is the checkpoint handed in, `serial` the first serial, `before`
 -- the page as it was lent.
 use Prim.Native.Nat.{ℕ, suc, _+_, _*_, _-_, _≤_, _<_}
+use mathlib.Core.Bool.{true, false}
 use mathlib.Core.List.{List, [], _∷_, _++_, map}
 use mathlib.Core.Logic.{_⊎_, inr, _↔_}
 use mathlib.Core.Path.{_≡_, sym, ap, ap₂, _∙_}

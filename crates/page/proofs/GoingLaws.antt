@@ -25,7 +25,7 @@ use Rattle.page.proofs.LineAtLaws.{line-behind, line-none, line-length}
 use Rattle.page.proofs.RunLaws.{found-steps, found-most, run-model, run-found, run-stops, run-last}
 
 -- the lines of the models that runs from p find
-abbrev lines-from : Tree → ℕ → ℕ → Position → ℕ → List ℕ
+abbrev lines-from : Tree → ℕ → ℕ → ℕ → Position → ℕ → List ℕ
 lines-from K n mask serial p = line-at n mask serial (found-from K page-lines p)
 
 -- each has 60 bytes
@@ -44,7 +44,7 @@ pub record Going (K : Tree) (n mask serial : ℕ) (p : Position) (before now : L
 -- nothing is written yet
 pub going-first : (K : Tree) (n mask serial : ℕ) (before : List ℕ) (s : State) → Holds K s → Going K n mask serial (position-in s) before before s 0
 unfolding joined
-going-first K n serial before s h = record { holds = h; found = []; many = refl; results = refl; stops = refl; written = refl }
+going-first K n mask serial before s h = record { holds = h; found = []; many = refl; results = refl; stops = refl; written = refl }
 
 module _ (K : Tree) (n mask serial : ℕ) (p : Position) (before now : List ℕ) (s : State) (i : ℕ) (g : Going K n mask serial p before now s i) where
   module _ (r : Run) (R : Ran K r (resume K ample-budget (position-in s))) (l : i < page-lines) where
@@ -66,7 +66,7 @@ module _ (K : Tree) (n mask serial : ℕ) (p : Position) (before now : List ℕ)
       line-more =
           ap (λ (x : List Result). line-at n mask serial x i) results-more
           ∙ ap (line-at n mask serial (g .found ++ (result ∷ _))) (sym (g .many))
-          ∙ line-behind n serial (g .found) _ result
+          ∙ line-behind n mask serial (g .found) _ result
           ∙ rw (g .many, run-model K (position-in s) r R m e, R .steps)
 
       pub going-more : (now′ : List ℕ) → n ≤ max-variables → serial ≤ max-serial → now′ ≡ placed (line-size * i) (page-line (serial + i) n mask m (r .steps)) now

@@ -13,7 +13,7 @@ use Rattle.walk.specs.Gaps.{ample-budget}
 use Rattle.enumeration.specs.InnerScope.{scope-under}
 use Rattle.enumeration.specs.Values.{checkpoint-values}
 use Rattle.enumeration.specs.InnerEnter.{Walkable, Begun, Enters}
-use Rattle.enumeration.proofs.ScopeLaws.{decoded-small}
+use Rattle.enumeration.proofs.ScopeLaws.{decoded-few}
 use Rattle.enumeration.proofs.EnterLaws.{decides-walkable}
 use Rattle.page.specs.PageLines.{page-size}
 use Rattle.page.specs.Pages.{max-serial}
@@ -40,8 +40,7 @@ fit d = (omega (arith, d .before .before .before .if1 .left), omega (arith, d .b
 abbrev walkable : (c : tie.After-scope-of) (us : List Assumption) → under (read c) us
     → Walkable (entry (read c) .args .input .now) us (c .before .before .accept .result .outcome) (read c .decode .result .formula) (c .scope-of .result)
 walkable c us g =
-    let n = read c .decode .result .formula .variables in
-    decides-walkable _ us _ g _ _ (c .scope-of .ensures ∙ ap (scope-under n) (c .before .assigned-by .ensures)) _
+    decides-walkable _ us _ g _ _ (c .scope-of .ensures ∙ ap (scope-under (read c .decode .result .formula)) (c .before .assigned-by .ensures)) _
     (decides _ us _ _ (c .before .before .accept .ensures _ us (read c .decode .ensures) g))
 
 -- where the page begins
@@ -88,7 +87,7 @@ assigned-by-requires : tie.Need-assigned-by-requires
 assigned-by-requires c κs = search needs
 
 scope-of-requires : tie.Need-scope-of-requires
-scope-of-requires c κs = decoded-small _ _ (c .before .before .before .decode .ensures)
+scope-of-requires c κs = decoded-few _ _ (c .before .before .before .decode .ensures)
 
 enter-requires : tie.Need-enter-requires
 enter-requires c κs = let p = entry (read c) .pre in (_, p .0, walkable c (p .0) (p .1))

@@ -92,7 +92,7 @@ loop-again c =
     let b = l .before .before in
     let w = c .before .before .put-line-at in (
       omega arith,
-      w .kept .1 .1 .1 .1 .0 ∙ l .loop .inv .1,
+      w .kept .1 .1 .1 .1 .1 .0 ∙ l .loop .inv .1,
       λ K F h.
           going-more K (b .args .f .variables) (b .args .mask) (b .args .serial) (position-in (b .args .start)) (b .args .page .now) (l .loop .page) (l .loop .s) (l .loop .i) (l .loop .inv .2 K F h)
           (g .go-on .result) (ran g K F h) (omega arith) _ (t .before .ending .given .1) _ (b .pre .fits .most) (b .pre .serials) (w .ensures),

@@ -29,7 +29,7 @@ returns : tie.Need-returns
 returns c =
     let line = c .before .before in
     let s = line .before .before .before in
-    line-lent (s .args .i) (s .args .page .now) (line .put-line .last .1 .1 .1 .1 .0) _ (line .put-line .ensures)
+    line-lent (s .args .i) (s .args .page .now) (line .put-line .last .1 .1 .1 .1 .1 .0) _ (line .put-line .ensures)
     (page-line-length (s .args .serial) (s .args .n) (s .args .mask) (s .args .a) (s .args .steps) (s .pre .2) (s .pre .3) (s .pre .4))
 
 pub put-line-at-spec : {M : Type 1} → statement M
