@@ -18,7 +18,7 @@ use Rattle.writing.specs.Text.{line-feed, blank, decimal-within, decimal, blank
 use Rattle.formula.specs.InnerDecode.{decode, records, read-record}
 use Rattle.formula.specs.Format.{Literal, names, names-as, add, literal-bytes, literals-bytes, clause-bytes, clauses-bytes, formula-bytes}
 use Rattle.formula.specs.Check.{checked}
-use Rattle.formula.specs.InnerModels.{satisfied, stray}
+use Rattle.formula.specs.InnerModels.{satisfied}
 use Rattle.formula.specs.Masked.{variables}
 use Rattle.assumptions.specs.declared.Assumption.{Assumption}
 use Rattle.assumptions.specs.Assumed.{is-bad, assumed-from, assumed}
@@ -339,20 +339,19 @@ none-left = refl
 
 -- its walk has no checkpoint with a variable in its trail
 none-assigned : Has none-task (checkpoint-of 1 (off 1 ∷ [])) → ⊥
-unfolding checkpoint-of
+unfolding checkpoint-of start
 none-assigned w = by (three-checkpoints none-task none-left (checkpoint-of 1 (off 1 ∷ [])) .0 w)
   where
     long : (m : ℕ) → checkpoint-of 1 (off 1 ∷ []) ≡ checkpoint-of m [] → ⊥
     long m e = omega (arith, ap (λ (c : Checkpoint). c .length) e)
 
     by : (checkpoint-of 1 (off 1 ∷ []) ≡ start) ⊎ ((checkpoint-of 1 (off 1 ∷ []) ≡ checkpoint-of 1 []) ⊎ (checkpoint-of 1 (off 1 ∷ []) ≡ checkpoint-of 4 [])) → ⊥
-    unfolding start
     by (inl e) = long 0 e
     by (inr (inl e)) = long 1 e
     by (inr (inr e)) = long 4 e
 
 pub unnamed-cases : UnnamedCases
-unfolding judging walking printing paging checked satisfied stray
+unfolding judging walking printing paging checked satisfied
 unnamed-cases = record {
   none-first = λ b. call-first none-task none-left no-clause [] none-posed none-walks b;
   none-second = λ b. call-second none-task none-left no-clause [] none-posed none-walks b;

@@ -1,7 +1,7 @@
 -- S19.6: what the program print_pages owes. s is the input; nothing is assumed.
 use Prim.Native.Nat.{ℕ, _*_, _≤_}
 use mathlib.Core.List.{List, [], map}
-use mathlib.Core.Path.{_≡_, sym, ap, _∙_}
+use mathlib.Core.Path.{_≡_, sym, ap₂, _∙_}
 use native.Mathlib.Omega.{arith}
 use lib.ListN.{length, take}
 use Rattle.writing.specs.Text.{blanks}
@@ -10,7 +10,7 @@ use Rattle.formula.specs.Format.{Literal, Encodes}
 use Rattle.assumptions.proofs.Demands.{none-bad}
 use Rattle.matched.specs.Acceptance.{declined, acceptance}
 use Rattle.matched.specs.Pairing.{Pairs, left-of}
-use Rattle.walk.specs.Task.{Task, under, Posed}
+use Rattle.walk.specs.Task.{Task, under, visible, Posed}
 use Rattle.walk.specs.Plain.{listing}
 use Rattle.walk.specs.Checkpoints.{Checkpoint, start}
 use Rattle.walk.specs.WalkCall.{walk-call}
@@ -19,7 +19,7 @@ use Rattle.walk.proofs.Demands as walk
 use Rattle.page.specs.PageLines.{page-lines, page-size}
 use Rattle.page.specs.Pages.{next-results, line-at, joined, page-call}
 use Rattle.page.proofs.NextModelLaws.{start-models}
-use Rattle.page.proofs.Demands.{page-variables}
+use Rattle.page.proofs.Demands.{page-variables, page-visible}
 use Rattle.printing.specs.Printed.{refused-line, printed}
 use Rattle.printing.specs.Printing.{max-input}
 use Rattle.printing.proofs.PrintLaws.{declined-prints}
@@ -55,11 +55,11 @@ module _ (s : List ℕ) (n : ℕ) (cs : List (List Literal)) (encodes : Encodes 
   -- The print is the lines of the first 1,000 models, one behind the other with the serials from 1 on, and blank lines up to the end of
   -- the last page. So many pages are printed: up to the first that has fewer than 50 models, and 20 at most.
   pub printed-lines : printed-pages s
-      ≡ joined (line-at n 1 (next-results s [] start (page-lines * max-pages))) (page-lines * page-count max-pages (length (listing task)))
+      ≡ joined (line-at n (visible task) 1 (next-results s [] start (page-lines * max-pages))) (page-lines * page-count max-pages (length (listing task)))
   printed-lines =
       prints.printed-joined s task posed walks
-      ∙ ap (λ (m : ℕ). joined (line-at m 1 (next-results s [] start (page-lines * max-pages))) (page-lines * page-count max-pages (length (listing task))))
-      (page-variables s [] n cs encodes (none-bad n) vs pairs)
+      ∙ ap₂ (λ (k m : ℕ). joined (line-at k m 1 (next-results s [] start (page-lines * max-pages))) (page-lines * page-count max-pages (length (listing task))))
+      (page-variables s [] n cs encodes (none-bad n) vs pairs) (page-visible s [] n cs encodes (none-bad n) vs pairs)
 
   -- These are the first of the listing.
   pub printed-models : map (λ r. r .model) (next-results s [] start (page-lines * max-pages)) ≡ take (page-lines * max-pages) (listing task)

@@ -24,7 +24,7 @@ use Rattle.walk.specs.InnerLocate.{task-call}
 use Rattle.walk.proofs.RefusalLaws.{call-declined, call-accepted, accepted-posed}
 use Rattle.walk.proofs.HasLaws.{start-has}
 use Rattle.page.specs.PageLines.{page-lines, page-size}
-use Rattle.page.specs.Pages.{next-results, next-checkpoint, line-at, joined, PageCall, accepted-variables, max-serial, page-call}
+use Rattle.page.specs.Pages.{next-results, next-checkpoint, line-at, joined, PageCall, accepted-variables, accepted-visible, max-serial, page-call}
 use Rattle.page.proofs.JoinedLaws.{joined-sixty}
 use Rattle.page.proofs.LineAtLaws.{line-length}
 use Rattle.page.proofs.NextLaws.{next-steps}
@@ -60,11 +60,15 @@ module _ (s : List ℕ) (T : Task) (P : Posed T) (walks : (c : Checkpoint) (b : 
   abbrev variables : ℕ
   variables = accepted-variables (acceptance s [])
 
+  -- and which of them have their values shown
+  abbrev mask : ℕ
+  mask = accepted-visible (acceptance s [])
+
   -- a page from a checkpoint that the walk has, and those behind it
   page-from : (c : Checkpoint) → Has T c → (serial k : ℕ) → 0 < serial → serial ≤ max-serial
       → (let rs = next-results s [] c page-lines in
       pages-from s c serial (suc k)
-      ≡ joined (line-at variables serial rs) page-lines ++ cond (ltb (length rs) page-lines) [] (pages-from s (next-checkpoint s [] c page-lines) (serial + page-lines) k))
+      ≡ joined (line-at variables mask serial rs) page-lines ++ cond (ltb (length rs) page-lines) [] (pages-from s (next-checkpoint s [] c page-lines) (serial + page-lines) k))
   unfolding pages-from
   page-from c w serial k some most =
       let l = blanks-length page-size in
@@ -74,7 +78,7 @@ module _ (s : List ℕ) (T : Task) (P : Posed T) (walks : (c : Checkpoint) (b : 
 
   -- pages from there: the lines of the results of so many calls
   pub pages-joined : (k : ℕ) (c : Checkpoint) → Has T c → (serial : ℕ) → 0 < serial → serial + page-lines * k ≤ max-serial + page-lines
-      → (let rs = next-results s [] c (page-lines * k) in pages-from s c serial k ≡ joined (line-at variables serial rs) (page-lines * page-count k (length rs)))
+      → (let rs = next-results s [] c (page-lines * k) in pages-from s c serial k ≡ joined (line-at variables mask serial rs) (page-lines * page-count k (length rs)))
   unfolding pages-from joined
   pages-joined zero c w serial some most = let z : page-count 0 (length (next-results s [] c (page-lines * 0))) ≡ 0 = omega arith in rw z
   pages-joined (suc k) c w serial some most =
@@ -84,18 +88,18 @@ module _ (s : List ℕ) (T : Task) (P : Posed T) (walks : (c : Checkpoint) (b : 
         ← next-take s [] T P walks c w page-lines (page-lines * k),
         ← next-drop s [] T P walks c w page-lines (page-lines * k),
         e,
-      ) (page-first variables k serial (next-results s [] c (page-lines + page-lines * k)))
+      ) (page-first variables mask k serial (next-results s [] c (page-lines + page-lines * k)))
     where
       e : page-lines * suc k ≡ page-lines + page-lines * k
       e = omega arith
 
   -- all pages from the start: the calls bring the first models of the listing
   pub printed-joined : printed-pages s
-      ≡ joined (line-at variables 1 (next-results s [] start (page-lines * max-pages))) (page-lines * page-count max-pages (length (listing T)))
+      ≡ joined (line-at variables mask 1 (next-results s [] start (page-lines * max-pages))) (page-lines * page-count max-pages (length (listing T)))
   unfolding printed-pages
   printed-joined =
       pages-joined max-pages start (start-has s [] T P walks) 1 (omega arith) (omega arith)
-      ∙ ap (λ (k : ℕ). joined (line-at variables 1 rs) (page-lines * k)) same
+      ∙ ap (λ (k : ℕ). joined (line-at variables mask 1 rs) (page-lines * k)) same
     where
       rs : List Result
       rs = next-results s [] start (page-lines * max-pages)
@@ -115,7 +119,7 @@ module _ (s : List ℕ) (T : Task) (P : Posed T) (walks : (c : Checkpoint) (b : 
       let rs = next-results s [] start (page-lines * max-pages) in
       let k = page-lines * page-count max-pages (length (listing T)) in
       ap length printed-joined
-      ∙ joined-sixty (line-at variables 1 rs) k (λ i l. line-length variables few 1 rs (next-steps s [] start (page-lines * max-pages)) i (omega arith))
+      ∙ joined-sixty (line-at variables mask 1 rs) k (λ i l. line-length variables mask few 1 rs (next-steps s [] start (page-lines * max-pages)) i (omega arith))
       ∙ omega arith
 
 -- ---- any input
