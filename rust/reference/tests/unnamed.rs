@@ -262,7 +262,7 @@ fn no_checkpoint_of_a_walk_has_one() {
             for byte in trail_in(&given) {
                 assert!(to_assign >> ((byte & 127) - 1) & 1 == 1, "{input:02x?}");
             }
-            let longer = with_unnamed(&mut random, &input, given).unwrap();
+            let longer = with_unnamed(&mut random, &input, &[given]).unwrap();
             let walked = walk(&input, &assumptions, &longer, 1);
             assert_eq!(walked, Err(FOREIGN), "{input:02x?} {pairs:?} {longer:?}");
             checkpoints += 1;

@@ -117,13 +117,9 @@ pub fn some_checkpoint(random: &mut Random, pool: &[Checkpoint]) -> Checkpoint {
     }
 }
 
-/// The checkpoint of a walk of a readable formula, with an unnamed variable more at the end of its trail: no walk has it. None if the
-/// clauses name every variable.
-pub fn with_unnamed(
-    random: &mut Random,
-    input: &[u8],
-    mut checkpoint: Checkpoint,
-) -> Option<Checkpoint> {
+/// A checkpoint from those that walks of a readable formula have returned, with a variable more at the end of its trail, which no clause
+/// names: no walk has it. None if the clauses name every variable.
+pub fn with_unnamed(random: &mut Random, input: &[u8], pool: &[Checkpoint]) -> Option<Checkpoint> {
     let named = named_variables(input);
     let unnamed: Vec<u8> = (1..=input[1])
         .filter(|v| named >> (v - 1) & 1 == 0)
@@ -131,6 +127,7 @@ pub fn with_unnamed(
     if unnamed.is_empty() {
         return None;
     }
+    let mut checkpoint = random.pick(pool);
     let length = usize::from(checkpoint[1]);
     checkpoint[0] = random.pick(&[1, 2, 3]);
     checkpoint[1] += 1;
@@ -149,11 +146,11 @@ mod tests {
         let mut given = [0; 50];
         given[..3].copy_from_slice(&[1, 1, 129]);
         for _ in 0..20 {
-            let found = with_unnamed(&mut random, &encode(2, &[vec![1]]), given).unwrap();
+            let found = with_unnamed(&mut random, &encode(2, &[vec![1]]), &[given]).unwrap();
             assert!((1..=3).contains(&found[0]) && found[1..3] == [2, 129]);
             assert!(found[3] & 127 == 2 && found[4..] == [0; 46]);
         }
         let all = encode(2, &[vec![1, -2]]);
-        assert_eq!(with_unnamed(&mut random, &all, given), None);
+        assert_eq!(with_unnamed(&mut random, &all, &[given]), None);
     }
 }

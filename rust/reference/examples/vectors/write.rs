@@ -267,8 +267,7 @@ fn assuming_lines(
             .collect();
         let (chain, checkpoints) = chain_line(from, input, assumptions, &budgets);
         lines.push(chain);
-        let given = random.pick(&checkpoints);
-        if let Some(given) = with_unnamed(random, input, given) {
+        if let Some(given) = with_unnamed(random, input, &checkpoints) {
             let budget = some_budget(random);
             lines.push(walk_line(from, input, assumptions, &given, budget));
         }
