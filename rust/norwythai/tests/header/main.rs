@@ -141,7 +141,7 @@ fn the_example_lists_models_in_batches() {
     std::fs::write(&file, input).unwrap();
     let output = batches(file, "2");
     assert!(output.status.success());
-    assert_eq!(output.stdout, b"batch 1\n10\n11\n");
+    assert_eq!(output.stdout, b"batch 1\n1-\n");
 }
 
 #[test]
