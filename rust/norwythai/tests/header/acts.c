@@ -372,7 +372,6 @@ static int is_line(const uint8_t *line, const char *serial, const char *columns,
 
 static int test_page(void) {
     static uint8_t page[NORWYTHAI_PAGE_SIZE + 5];
-    const uint8_t byte = 0;
     uint8_t checkpoint[NORWYTHAI_CHECKPOINT];
     uint64_t results[NORWYTHAI_RESULTS];
     const uint8_t *last = page + NORWYTHAI_LINE_SIZE * (NORWYTHAI_PAGE_LINES - 1);
@@ -408,9 +407,9 @@ static int test_page(void) {
                            results, NORWYTHAI_RESULTS) == 0);
     REQUIRE(results[4] == 2 && is_line(page, "     1", "10-", "  1") && is_line(page + NORWYTHAI_LINE_SIZE, "     2", "11-", "  2"));
     REQUIRE(norwythai_start(checkpoint, sizeof checkpoint) == 0);
-    REQUIRE(norwythai_page(NONE_NAMED, sizeof NONE_NAMED, &byte, 0, checkpoint, sizeof checkpoint, 1, page, NORWYTHAI_PAGE_SIZE,
+    REQUIRE(norwythai_page(NONE_NAMED, sizeof NONE_NAMED, FIRST_TRUE, 2, checkpoint, sizeof checkpoint, 1, page, NORWYTHAI_PAGE_SIZE,
                            results, NORWYTHAI_RESULTS) == 0);
-    REQUIRE(results[4] == 1 && is_line(page, "     1", "--", "  0"));
+    REQUIRE(results[4] == 1 && is_line(page, "     1", "1-", "  0"));
     return 0;
 }
 
