@@ -46,10 +46,10 @@
  * proved. weigh takes such a list, too, and leaves the assumed variables uncounted.
  *
  * LISTED MODELS are those that walk, list and page bring. The variables TO ASSIGN are those that some clause names and that are not
- * assumed. Clauses name here what they named as they were read: one that an assumption satisfies counts, too. In a listed model each
- * variable to assign has a value, an assumed one has its assumed value, and any other, which no clause names, is false. Each setting of the
- * named variables that some model has, beside the assumed values, is listed exactly once. Other models are never listed, though check says
- * yes to them. Where nothing is to be assigned, an accepted formula has one listed model.
+ * assumed. Clauses count here as they are read, also those that an assumption satisfies. In a listed model each variable to assign has a
+ * value, an assumed one has its assumed value, and any other, which no clause names, is false. Each setting of the named variables that
+ * some model has, beside the assumed values, is listed exactly once. Other models are never listed, though check says yes to them. Where
+ * nothing is to be assigned, an accepted formula has one listed model.
  *
  * A TEXT is DIMACS CNF: lines that start with c are comments, anywhere; the first other line is `p cnf` with the numbers of variables
  * and clauses; then come the literals as numbers, a minus before those that are negative, and 0 at the end of each clause. Line feeds (0A)

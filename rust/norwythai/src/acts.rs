@@ -382,8 +382,8 @@ pub struct Listed {
 }
 
 /// Fills the slice with the next listed models of an accepted formula, as [`walk`](walk#models) calls with a budget of 96 would, and tests
-/// the checkpoint only once. The checkpoint becomes the one to go on from, under the same assumptions; at a refusal it stays. An empty slice
-/// brings no model and makes no step.
+/// the checkpoint only once. The checkpoint becomes the one to go on from, under the same assumptions; at a refusal it stays. An empty
+/// slice brings no model and makes no step.
 ///
 /// ```
 /// use norwythai::{list, Answer, Assumption, Checkpoint};

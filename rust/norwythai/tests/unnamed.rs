@@ -6,8 +6,9 @@ use norwythai::{
 };
 use norwythai_samples::encode;
 
-/// (1, not 3), of four variables
-const PARTLY: &[u8] = &[1, 4, 2, 1, 3, 3, 4, 5];
+/// (1, not 3), of four variables: the example, as DIMACS text and encoded.
+const PARTLY_TEXT: &[u8] = include_bytes!("../../../examples/unnamed.cnf");
+const PARTLY: &[u8] = include_bytes!("../../../examples/unnamed.bin");
 
 /// (1, 2), of three variables
 const FIRST_TWO: &[u8] = &[1, 3, 2, 1, 2, 2, 4, 5];
@@ -66,6 +67,7 @@ type Case<'a> = (&'a [u8], &'a [Assumption], &'a [(&'a str, u32)]);
 
 #[test]
 fn listed_models_and_pages_have_dashes() {
+    assert_eq!(Formula::from_dimacs(PARTLY_TEXT), Ok(PARTLY.into()));
     let on = Assumption::positive;
     let off = Assumption::negative;
     let last = encode(48, &[vec![48]]);

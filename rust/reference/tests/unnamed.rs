@@ -6,8 +6,8 @@ use norwythai_reference::{
     Refusal, LINE_SIZE, LIST_BUDGET, PAGE_SIZE,
 };
 use norwythai_samples::{
-    encode, listed_models, named_variables, some_accepted_formula, some_assumptions, trail_in,
-    with_unnamed, Random,
+    encode, listed_models, named_variables, some_accepted_formula, some_assumptions, some_input,
+    trail_in, with_unnamed, Random,
 };
 use std::collections::BTreeSet;
 
@@ -189,6 +189,23 @@ fn mode_1_at_length_0_is_behind_a_model_without_steps() {
     }
 }
 
+#[test]
+fn about_one_input_in_three_has_unnamed_variables() {
+    // The inputs are generated as those of the vectors are, of which rust/README.md says this.
+    let mut random = Random::new(12);
+    let (mut readable, mut unnamed) = (0, 0);
+    while readable < 5_000 {
+        let input = some_input(&mut random, is_accepted);
+        if decode(&input).is_ok() {
+            readable += 1;
+            let named = named_variables(&input).count_ones();
+            unnamed += usize::from(named < u32::from(input[1]));
+        }
+    }
+    let percent = 100 * unnamed / readable;
+    assert!((30..=38).contains(&percent), "{percent} of a hundred");
+}
+
 /// An accepted formula of few variables, some of which no clause names, and assumptions under which it is accepted, often none.
 fn some_with_unnamed(random: &mut Random) -> (Vec<u8>, Vec<(u8, bool)>, Vec<Assumption>) {
     let input = loop {
@@ -245,7 +262,8 @@ fn each_setting_of_the_named_variables_is_listed_once() {
         nothing += usize::from(to_assign == 0);
         models += found.len();
     }
-    println!("{models} models, {assuming} formulas under assumptions, {unnamed_assumed} of unnamed variables; {nothing} with nothing to assign");
+    println!("{models} models, {assuming} formulas under assumptions, {unnamed_assumed} of unnamed variables");
+    println!("{nothing} with nothing to assign");
     assert!(models > 5_000 && assuming > 300 && unnamed_assumed > 200 && nothing > 100);
 }
 
