@@ -284,6 +284,18 @@ pub struct Walked {
 /// made. The checkpoint becomes the one to go on from, under the same assumptions; at a refusal it stays. A budget of 96 always brings a
 /// model or the end.
 ///
+/// ```
+/// use norwythai::{walk, Answer, Assignment, Checkpoint};
+///
+/// let input = [1, 2, 2, 1, 2, 2, 4, 3, 1, 3, 2, 4, 5];
+/// let mut checkpoint = Checkpoint::start();
+/// assert_eq!(walk(&input, &[], &mut checkpoint, 1)?.answer, Answer::Spent);
+/// let walked = walk(&input, &[], &mut checkpoint, 96)?;
+/// assert_eq!(walked.answer, Answer::Model(Assignment::from_bits(0b10)));
+/// assert_eq!((walked.steps, walked.expansions), (1, 0));
+/// # Ok::<(), norwythai::Refusal>(())
+/// ```
+///
 /// # Models
 ///
 /// The walk assigns the variables that some clause names and that are not assumed: these are the variables *to assign*. A clause counts
@@ -292,26 +304,20 @@ pub struct Walked {
 /// once. [`check`] says yes to the other models, too.
 ///
 /// Where nothing is to be assigned, an accepted formula has one listed model. It comes without a step, on any budget, and then the end
-/// does.
+/// does:
 ///
 /// ```
 /// use norwythai::{walk, Answer, Assignment, Assumption, Checkpoint};
 ///
+/// // Both variables of (1, 2) (not 1, not 2) are assumed.
 /// let input = [1, 2, 2, 1, 2, 2, 4, 3, 1, 3, 2, 4, 5];
-/// let mut checkpoint = Checkpoint::start();
-/// assert_eq!(walk(&input, &[], &mut checkpoint, 1)?.answer, Answer::Spent);
-/// let walked = walk(&input, &[], &mut checkpoint, 96)?;
-/// assert_eq!(walked.answer, Answer::Model(Assignment::from_bits(0b10)));
-/// assert_eq!((walked.steps, walked.expansions), (1, 0));
-///
-/// // Both variables are assumed: nothing is to be assigned.
 /// let all = [Assumption::positive(1), Assumption::negative(2)];
 /// let mut checkpoint = Checkpoint::start();
 /// let walked = walk(&input, &all, &mut checkpoint, 0)?;
 /// assert_eq!(walked.answer, Answer::Model(Assignment::from_bits(0b01)));
 /// assert_eq!(walk(&input, &all, &mut checkpoint, 0)?.answer, Answer::Ended);
 ///
-/// // Neither is to be, where there are no clauses.
+/// // No clause names a variable.
 /// let mut checkpoint = Checkpoint::start();
 /// let walked = walk(&[1, 2, 5], &[], &mut checkpoint, 0)?;
 /// assert_eq!(walked.answer, Answer::Model(Assignment::from_bits(0b00)));
@@ -322,10 +328,10 @@ pub struct Walked {
 /// # Waits
 ///
 /// How many steps lie between two models is known exactly, however the budgets divide them over calls. With n variables to assign, the
-/// first model comes after n steps, and the end n steps after the last model. From a model to the next it is two steps for
-/// each variable from the point on where their trails part. A model's trail stands in the checkpoint that comes with it, behind mode and
-/// length: n bytes, a variable each in the order of assignment, and 128 more if it is true. Nobody knows the next trail before the walk has
-/// come to it. So a display that counts down to the next model asks on a copy of the checkpoint how many steps are still to come:
+/// first model comes after n steps, and the end n steps after the last model. From a model to the next it is two steps for each variable
+/// from the point on where their trails part. A model's trail stands in the checkpoint that comes with it, behind mode and length: n bytes,
+/// a variable each in the order of assignment, and 128 more if it is true. Nobody knows the next trail before the walk has come to it. So a
+/// display that counts down to the next model asks on a copy of the checkpoint how many steps are still to come:
 ///
 /// ```
 /// use norwythai::{walk, Answer, Checkpoint};

@@ -65,7 +65,7 @@ impl Assignment {
         Columns {
             assignment: self,
             variables: formula.variables(),
-            shown: formula.named() | assumed,
+            visible: formula.named() | assumed,
         }
     }
 }
@@ -89,13 +89,13 @@ pub struct Columns {
     assignment: Assignment,
     variables: u8,
     /// The variables that have a digit.
-    shown: u64,
+    visible: u64,
 }
 
 impl fmt::Display for Columns {
     fn fmt(&self, f: &mut fmt::Formatter) -> fmt::Result {
         for variable in 1..=self.variables {
-            f.write_str(if self.shown & mask_of(variable) == 0 {
+            f.write_str(if self.visible & mask_of(variable) == 0 {
                 "-"
             } else if self.assignment.is_true(variable) {
                 "1"

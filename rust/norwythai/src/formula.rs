@@ -109,12 +109,12 @@ impl Formula<'_> {
         to_dimacs(&self.0)
     }
 
-    /// The number of its variables, if its bytes can be read.
+    /// The number of its variables. Of bytes that can't be read it means nothing.
     pub(crate) fn variables(&self) -> u8 {
         self.0.get(1).copied().unwrap_or(0)
     }
 
-    /// The variables that some clause names, as a mask, if its bytes can be read.
+    /// The variables that some clause names, as a mask. Of bytes that can't be read it means nothing.
     pub(crate) fn named(&self) -> u64 {
         let mut named = 0;
         let mut bytes = self.0.iter().skip(2);

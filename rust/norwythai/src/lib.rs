@@ -8,10 +8,10 @@
 //! The library reads an encoded formula, says whether an assignment is a model ([`check`]) and whether the formula is accepted ([`judge`]),
 //! and lists the models of an accepted formula ([`walk`], [`list`], [`Models`]), each exactly once and after a wait that is known to the
 //! step ([`walk`](walk#waits)); or it writes them as pages of text, to be pinned up ([`page`]). A variable that no clause names is no part
-//! of what is listed ([`walk`](walk#models)). The listing can be stopped after any number
-//! of steps and goes on from a [`Checkpoint`], which is a line of text if need be. Where the values of some variables are known, matching,
-//! stripping and listing are of what remains under these [`Assumption`]s. DIMACS CNF text is read into an encoded formula and written from
-//! one ([`from_dimacs`], [`to_dimacs`]). Whatever the bytes are, an act answers: with a [`Refusal`], if it has to.
+//! of what is listed ([`walk`](walk#models)). The listing can be stopped after any number of steps and goes on from a [`Checkpoint`], which
+//! is a line of text if need be. Where the values of some variables are known, matching, stripping and listing are of what remains under
+//! these [`Assumption`]s. DIMACS CNF text is read into an encoded formula and written from one ([`from_dimacs`], [`to_dimacs`]). Whatever
+//! the bytes are, an act answers: with a [`Refusal`], if it has to.
 //!
 //! Where a formula is not accepted, judge says which clauses stand in the way. Such a [`Violator`] names exactly one variable fewer than it
 //! has clauses, assumed ones not counted, and without any single one of these the others can be matched. [`weigh`] counts any marked

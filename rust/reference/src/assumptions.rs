@@ -30,13 +30,13 @@ pub struct Assumed {
 }
 
 impl Assumed {
-    /// The variables that a walk assigns: those that some clause of the formula names, as it was read, and that are not assumed.
+    /// The variables that a walk assigns (S23.1): those that some clause of the formula names, as it was read, and that are not assumed.
     pub fn to_assign(&self, formula: &Formula) -> u64 {
         formula.named() & !self.variables
     }
 
-    /// The variables that are shown, by a digit, where a model is printed: those that some clause names and those that are assumed.
-    pub fn shown(&self, formula: &Formula) -> u64 {
+    /// The variables whose columns have a digit (S23.3): those that some clause names and those that are assumed.
+    pub fn visible(&self, formula: &Formula) -> u64 {
         formula.named() | self.variables
     }
 

@@ -1,4 +1,4 @@
-//! The columns of a model, as it is printed and on pages.
+//! The columns of a model, as it is printed and on pages (S23.3).
 
 use crate::assumptions::Assumed;
 use crate::formula::Formula;
@@ -7,7 +7,7 @@ use crate::formula::Formula;
 #[derive(Clone, Copy)]
 pub struct Columns {
     variables: usize,
-    shown: u64,
+    visible: u64,
 }
 
 impl Columns {
@@ -15,13 +15,13 @@ impl Columns {
     pub fn new(formula: &Formula, assumed: &Assumed) -> Self {
         Columns {
             variables: formula.variables(),
-            shown: assumed.shown(formula),
+            visible: assumed.visible(formula),
         }
     }
 
-    /// Those of a model: 1 or 0 for a variable that is shown, and a dash for any other.
+    /// Those of a model: 1 or 0 for a visible variable, and a dash for any other.
     pub(crate) fn of(self, model: u64) -> impl Iterator<Item = char> {
-        (0..self.variables).map(move |v| match (self.shown >> v & 1, model >> v & 1) {
+        (0..self.variables).map(move |v| match (self.visible >> v & 1, model >> v & 1) {
             (0, _) => '-',
             (_, 0) => '0',
             _ => '1',

@@ -168,8 +168,8 @@ impl Pages {
         seen.see("of a formula that is accepted by stripping", stripped);
 
         let named = named_variables(call.input);
-        let shown = |v: u8| named >> (v - 1) & 1 == 1 || call.assumed.has(v);
-        let dash = (1..=call.input[1]).any(|v| !shown(v));
+        let visible = |v: u8| named >> (v - 1) & 1 == 1 || call.assumed.has(v);
+        let dash = (1..=call.input[1]).any(|v| !visible(v));
         seen.see("with a dash", dash && paged.lines > 0);
 
         let digits = |serial: u32| serial.to_string().len();

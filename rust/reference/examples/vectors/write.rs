@@ -564,7 +564,7 @@ pub mod tests {
     fn formulas_that_strip_down_are_written() {
         // Judged without assumptions, and under some.
         let (mut wholly, mut in_part) = ([0; 2], [0; 2]);
-        let lines = generated_vectors(2, 300);
+        let lines = generated_vectors(1, 600);
         for line in lines.iter().filter(|l| l.contains("\"act\": \"judge\"")) {
             let clauses: usize = number(field(line, "m").unwrap()).unwrap();
             let slate = from_hex(field(line, "slate").unwrap()).unwrap();
