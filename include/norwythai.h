@@ -45,6 +45,12 @@
  * variable stands in the list once at most (refusal 16). Nothing but that refusal's place depends on the order, which is tested and not
  * proved. weigh takes such a list, too, and leaves the assumed variables uncounted.
  *
+ * LISTED MODELS are those that walk, list and page bring. The variables TO ASSIGN are those that some clause names and that are not
+ * assumed. Clauses count here as they are read, also those that an assumption satisfies. In a listed model each variable to assign has a
+ * value, an assumed one has its assumed value, and any other, which no clause names, is false. Each setting of the named variables that
+ * some model has, beside the assumed values, is listed exactly once. Other models are never listed, though check says yes to them. Where
+ * nothing is to be assigned, an accepted formula has one listed model.
+ *
  * A TEXT is DIMACS CNF: lines that start with c are comments, anywhere; the first other line is `p cnf` with the numbers of variables
  * and clauses; then come the literals as numbers, a minus before those that are negative, and 0 at the end of each clause. Line feeds (0A)
  * end lines; they and blanks (20), tabs (09) and carriage returns (0D) stand between words. Lines without words may stand behind the p
@@ -107,16 +113,17 @@
  *
  * A CHECKPOINT is NORWYTHAI_CHECKPOINT bytes that say where a walk stands: mode, length, 48 bytes of trail. norwythai_start gives the
  * first, norwythai_walk, norwythai_list and norwythai_page each the next, which any of them takes. It can be kept, copied and sent
- * anywhere, and used again with the same input and the same assumptions. It holds no mark of them and has no assumed variable: keep
- * beside it what it is of. With another input or other assumptions it is refused by 11 where it does not fit, and taken where it happens
- * to.
+ * anywhere, and used again with the same input and the same assumptions. Its trail has variables to assign and no others. It holds no
+ * mark of the input and the assumptions: keep beside it what it is of. With another input or other assumptions it is refused by 11 where
+ * it does not fit, and taken where it happens to.
  *
  * A PAGE is NORWYTHAI_PAGE_LINES lines of NORWYTHAI_LINE_SIZE bytes, one behind the other: NORWYTHAI_PAGE_SIZE bytes of text, to be
  * printed as they are. No zero byte ends it. A line with a model has
  *
  *   bytes 0 to 5    its serial in decimal digits, right-aligned: with blanks (20) before it
  *   byte  6         a blank
- *   bytes 7 to 54   48 columns: the digit of variable v, 1 if it is true and 0 if not, is byte 6 + v; behind that of variable n are blanks
+ *   bytes 7 to 54   48 columns, of which byte 6 + v is that of variable v: if some clause names it or it is assumed, a digit, 1 if it is
+ *                   true and 0 if not, and else a dash (2D); behind that of variable n are blanks
  *   byte  55        a blank
  *   bytes 56 to 58  the steps from the line before to its model, right-aligned: as many as norwythai_walk makes between the two; on the
  *                   first line those from the checkpoint handed in
@@ -189,7 +196,7 @@ extern "C" {
 #endif
 
 /*
- * Whether the assignment is a model of the formula, which need not be accepted.
+ * Whether the assignment is a model of the formula, which need not be accepted. It need not be one that is listed.
  * Reads the input and the assignment; writes the results.
  * With `input_length` 0, `input` is the address of any byte and not null.
  */
@@ -253,18 +260,18 @@ NORWYTHAI_NODISCARD
 uint32_t norwythai_start(uint8_t *checkpoint, size_t checkpoint_length);
 
 /*
- * One walk call on an accepted formula: goes on from the checkpoint until a model or the end comes, or as many steps as the budget are
- * made.
+ * One walk call on an accepted formula: goes on from the checkpoint until a listed model or the end comes, or as many steps as the budget
+ * are made.
  * Reads the input, the assumptions, the checkpoint and the budget; writes the results, and over the checkpoint the one to go on from.
  * After NORWYTHAI_SPENT and NORWYTHAI_MODEL the walk goes on by another call, with the same assumptions. After NORWYTHAI_ENDED another
  * call says it again. On a refusal the checkpoint stays as it was (theorem walk-refused in crates/capi/proofs/Theorems.antt). A budget
- * of 96 always brings a model or the end. Where all variables are assumed there are no steps: on any budget, 0 too, the call from the
- * start brings the one model, and the next one the end.
- * The steps, added up over the calls, are exact (theorem demand-3-called in crates/capi/proofs/Theorems.antt). With n variables that are
- * not assumed it is n steps to the first model, and n from the last one to the end. From a model to the next it is two for each variable
- * from the point on where their trails part: 2 * (n - k), where of the n bytes behind mode and length in the checkpoints that came with
- * the two models the first k are the same and the next one is not. How many are still to come, a call of budget 96 on a copy of the
- * checkpoint says.
+ * of 96 always brings a model or the end. Where nothing is to be assigned there are no steps: on any budget, 0 too, the call from the
+ * start brings the one listed model, and the next one the end.
+ * The steps, added up over the calls, are exact (theorem demand-3-called in crates/capi/proofs/Theorems.antt). With n variables to assign
+ * it is n steps to the first model, and n from the last one to the end. From a model to the next it is two for each variable from the
+ * point on where their trails part: 2 * (n - k), where of the n bytes behind mode and length in the checkpoints that came with the two
+ * models the first k are the same and the next one is not. How many are still to come, a call of budget 96 on a copy of the checkpoint
+ * says.
  * With `input_length` or `assumptions_length` 0, `input` or `assumptions` is the address of any byte and not null.
  */
 NORWYTHAI_NODISCARD
@@ -272,7 +279,7 @@ uint32_t norwythai_walk(const uint8_t *input, size_t input_length, const uint8_t
                         uint8_t *checkpoint, size_t checkpoint_length, uint32_t budget, uint64_t *results, size_t results_length);
 
 /*
- * The next models of an accepted formula, as many as there is room for: what a list of walk calls of budget 96 gives, in one call.
+ * The next listed models of an accepted formula, as many as there is room for: what a list of walk calls of budget 96 gives, in one call.
  * Reads the input, the assumptions and the checkpoint; writes the models from the front of `models`, the results, and over the
  * checkpoint the one to go on from. It stops when `models` is full (NORWYTHAI_MODEL) or at the end (NORWYTHAI_ENDED). What stands behind
  * the last model written does not change. A refusal brings no model: results[4] is 0, and `models` and the checkpoint stay as they were
@@ -288,8 +295,8 @@ uint32_t norwythai_list(const uint8_t *input, size_t input_length, const uint8_t
                         uint64_t *results, size_t results_length);
 
 /*
- * The next models of an accepted formula as a page, each line's serial one above that of the line before: what NORWYTHAI_PAGE_LINES walk
- * calls of budget 96 give, as text.
+ * The next listed models of an accepted formula as a page, each line's serial one above that of the line before: what
+ * NORWYTHAI_PAGE_LINES walk calls of budget 96 give, as text.
  * Reads the input, the assumptions, the checkpoint and the serial of the first line; writes the page, the results, and over the
  * checkpoint the one to go on from. results[4] is how many lines, from the top, have a model: NORWYTHAI_PAGE_LINES of them
  * (NORWYTHAI_FULL), and the checkpoint is then that behind the last one; or fewer, all that are left (NORWYTHAI_ENDED), and the checkpoint

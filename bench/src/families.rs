@@ -46,19 +46,29 @@ impl Case {
         judged.is_ok()
     }
 
-    /// How many variables are left to assign.
-    pub fn left_to_assign(&self) -> usize {
-        self.variables - self.assumptions.rust.len()
+    /// The variables to assign: those that some clause names and that are not assumed.
+    fn to_assign(&self) -> u64 {
+        let formula = decode(&self.input).expect("a formula");
+        let assumed = formula.assumed(&self.assumptions.rust);
+        assumed.expect("good assumptions").to_assign(&formula)
     }
 
-    /// The same formula with half of its variables assumed, or as many as can be found: one after the other, in random order, with a
-    /// random value or else the other, so that it is accepted under them if it is without, and else is not.
+    /// How many variables are left to assign.
+    pub fn left_to_assign(&self) -> usize {
+        self.to_assign().count_ones() as usize
+    }
+
+    /// The same formula with half of its variables to assign assumed, or as many as can be found: one after the other, in random order,
+    /// with a random value or else the other, so that it is accepted under them if it is without, and else is not.
     pub fn half_assumed(&self) -> Self {
         let accepted = self.is_accepted();
+        let (to_assign, half) = (self.to_assign(), self.left_to_assign() / 2);
         let mut case = self.clone();
         case.name.push_str(HALF_ASSUMED);
         let mut random = Random::new(self.input.len() as u64);
-        for variable in random.some_of(self.variables, self.variables) {
+        let mut variables = random.some_of(self.variables, self.variables);
+        variables.retain(|variable| to_assign >> (variable - 1) & 1 == 1);
+        for variable in variables {
             let value = random.percent(50);
             for value in [value, !value] {
                 let mut more = case.clone();
@@ -68,7 +78,7 @@ impl Case {
                     break;
                 }
             }
-            if case.left_to_assign() <= self.variables / 2 {
+            if case.left_to_assign() <= half {
                 break;
             }
         }
@@ -254,7 +264,7 @@ fn random_threes(random: &mut Random, variables: usize) -> Clauses {
         .collect()
 }
 
-/// Clauses of one to eight literals, five for eight variables.
+/// Clauses of one to eight literals, five for eight variables. A few variables stand in none: up to three of 48.
 fn mixed_lengths(random: &mut Random, variables: usize) -> Clauses {
     random
         .some_of(variables * 5 / 8, variables)
@@ -288,14 +298,15 @@ fn cyclic_threes(random: &mut Random, variables: usize) -> Clauses {
         .collect()
 }
 
-/// Five clauses of three literals for 24 variables, over a quarter of the variables.
+/// Five clauses for 24 variables, each of which stands in one of them. Once some literal of each clause is true, no clause is left.
 fn few_clauses(random: &mut Random, variables: usize) -> Clauses {
-    let named = variables / 4;
-    random
-        .some_of((variables * 5 / 24).min(named), named)
-        .into_iter()
-        .map(|own| clause_with(random, own, 3, named))
-        .collect()
+    let mut clauses = vec![Vec::new(); variables * 5 / 24];
+    let count = clauses.len();
+    let dealt = random.some_of(variables, variables).into_iter();
+    for (i, variable) in dealt.enumerate() {
+        clauses[i % count].push(random.signed(variable));
+    }
+    clauses
 }
 
 /// Stairs with a random number of pairs.
@@ -304,7 +315,7 @@ fn some_stairs(random: &mut Random, variables: usize) -> Clauses {
     stairs(variables, pairs)
 }
 
-/// Twice as many clauses as variables, of which stripping drops all.
+/// Twice as many clauses as variables, of which stripping drops all. A few variables stand in none: up to four of 48.
 fn stripped_to_nothing(random: &mut Random, variables: usize) -> Clauses {
     let stripping = Stripping {
         dropped: 2 * variables,
@@ -314,7 +325,7 @@ fn stripped_to_nothing(random: &mut Random, variables: usize) -> Clauses {
     stripped(random, variables, stripping)
 }
 
-/// Twice as many clauses as variables, of which stripping leaves rings over half of the variables.
+/// Twice as many clauses as variables, of which stripping leaves rings over half of the variables. One of 48 may stand in none.
 fn stripped_to_rings(random: &mut Random, variables: usize) -> Clauses {
     let in_rings = variables / 2;
     let stripping = Stripping {
@@ -344,6 +355,43 @@ mod tests {
     }
 
     #[test]
+    fn few_variables_are_unnamed() {
+        for family in FAMILIES {
+            let most = match family.letter {
+                'b' => 3,
+                'g' => 4,
+                'h' => 1,
+                _ => 0,
+            };
+            let unnamed = |case: &Case| LARGEST - case.left_to_assign();
+            let seen = family.cases().iter().map(unnamed).max();
+            assert_eq!(seen, Some(most), "{}", family.title);
+        }
+    }
+
+    #[test]
+    fn only_stairs_have_few_models() {
+        for family in FAMILIES {
+            let mut models = [0; 1_000];
+            let mut listed = |case: &Case| {
+                let mut checkpoint = [0; 50];
+                Plain.list(&case.input, &case.assumptions, &mut checkpoint, &mut models)
+            };
+            let least = family
+                .cases()
+                .iter()
+                .map(|case| listed(case).unwrap())
+                .min();
+            assert_eq!(
+                least < Some(1_000),
+                family.letter == 'f',
+                "{}",
+                family.title
+            );
+        }
+    }
+
+    #[test]
     fn stripping_drops_clauses_of_two_families() {
         for family in &FAMILIES[6..] {
             for case in family.cases() {
@@ -362,7 +410,7 @@ mod tests {
         for case in FAMILIES.iter().flat_map(Family::cases) {
             let half = case.half_assumed();
             assert!(
-                half.is_accepted() && half.left_to_assign() == LARGEST / 2,
+                half.is_accepted() && half.left_to_assign() == case.left_to_assign() / 2,
                 "{} {}",
                 half.name,
                 half.left_to_assign()
@@ -374,7 +422,9 @@ mod tests {
     fn unmatched_formulas_stay_so_under_assumptions() {
         let (_, cases) = unmatched();
         let (_, half) = unmatched_half_assumed();
-        assert!(half.iter().all(|c| c.left_to_assign() == LARGEST / 2));
+        for (case, half) in cases.iter().zip(&half) {
+            assert_eq!(half.left_to_assign(), case.left_to_assign() / 2);
+        }
         for case in cases.iter().chain(&half) {
             assert_eq!((case.variables, case.clauses), (LARGEST, 96));
             let judged = Plain.judge(&case.input, &case.assumptions, &mut [0; 96]);

@@ -4,7 +4,7 @@ use norwythai_bench::families::{fullest_input, unmatched, unmatched_half_assumed
 use norwythai_bench::listers::{Assumptions, Bytes, Lister, Plain, Refused, Tuned};
 use norwythai_bench::measure::{BUDGET, START};
 use norwythai_reference::{PAGE_LINES, PAGE_SIZE};
-use norwythai_samples::{encode, some_crowded_input, stripped, Random, Stripping};
+use norwythai_samples::{encode, some_crowded_input, stripped, with_unnamed, Random, Stripping};
 
 /// Models of a list, pages in a row, and walk calls from the start and from the list's end.
 const MODELS: usize = 3_000;
@@ -126,6 +126,37 @@ fn on_smaller_formulas_of_each_family() {
                 same_acts(&all_assumed(case));
             }
         }
+    }
+}
+
+#[test]
+fn with_unnamed_variables() {
+    let mut random = Random::new(10);
+    for family in FAMILIES {
+        for variables in (12..48).step_by(5) {
+            for case in family.generated(variables, 2) {
+                let mut input = case.input;
+                input[1] = 48;
+                let mut case = Case::new(case.name, input);
+                assert!(case.left_to_assign() <= variables);
+                same_acts(&case);
+                same_acts(&case.half_assumed());
+                let foreign = with_unnamed(&mut random, &case.input, &[START]);
+                refused_alike(&case, foreign.expect("48 is unnamed"));
+                case.assumptions.push(48, true);
+                same_acts(&case);
+            }
+        }
+    }
+    // Nothing is to be assigned.
+    same_acts(&Case::new("no clause".to_string(), vec![1, 48, 5]));
+}
+
+/// A walk call from a checkpoint that the walk never has.
+fn refused_alike(case: &Case, foreign: Bytes) {
+    for lister in [&Plain as &dyn Lister, &Tuned] {
+        let walked = lister.walk(&case.input, &case.assumptions, &mut foreign.clone(), BUDGET);
+        assert_eq!(walked, Err((11, 0)), "{}", case.name);
     }
 }
 

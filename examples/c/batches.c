@@ -1,5 +1,5 @@
-/* batches FILE SIZE: prints the models of the formula in FILE, a digit for each variable, in batches of SIZE models. The file has DIMACS
- * text if its name ends in .cnf, else the encoded formula.
+/* batches FILE SIZE: prints the models of the formula in FILE, in batches of SIZE models: a digit for each variable, or a dash if no
+ * clause names it. The file has DIMACS text if its name ends in .cnf, else the encoded formula.
  *
  * In this folder, once `rt staticlib capi` has built the library:
  *
@@ -59,10 +59,26 @@ static uint8_t *read_input(const char *name, size_t *length) {
     return input;
 }
 
-/* Prints the first variables of an assignment, variable 1 first. Returns 0 if that could be done. */
-static int print_assignment(uint64_t assignment, uint64_t variables) {
+/* The variables that some clause names, as an assignment has those that are true. The formula is readable, as judge has found. */
+static uint64_t named_variables(const uint8_t *input) {
+    uint64_t named = 0;
+    size_t at = 2;
+    while (input[at] != 5) {
+        if (input[at] == 4) {
+            at += 1;
+        } else {
+            named |= (uint64_t)1 << (input[at + 1] - 1);
+            at += 2;
+        }
+    }
+    return named;
+}
+
+/* Prints a model, variable 1 first. Returns 0 if that could be done. */
+static int print_model(uint64_t model, uint64_t variables, uint64_t named) {
     for (uint64_t v = 0; v < variables; v++) {
-        if (putchar((assignment >> v & 1) != 0 ? '1' : '0') == EOF) {
+        int column = (model >> v & 1) != 0 ? '1' : '0';
+        if (putchar((named >> v & 1) != 0 ? column : '-') == EOF) {
             return 1;
         }
     }
@@ -82,7 +98,7 @@ static int print_batches(const uint8_t *input, size_t length, size_t size) {
     if (results[ANSWER] != NORWYTHAI_ACCEPTED) {
         return refused(results);
     }
-    uint64_t variables = results[VARIABLES];
+    uint64_t variables = results[VARIABLES], named = named_variables(input);
 
     if (norwythai_start(checkpoint, NORWYTHAI_CHECKPOINT) != 0) {
         return fail("an array has the wrong length");
@@ -100,7 +116,7 @@ static int print_batches(const uint8_t *input, size_t length, size_t size) {
             return fail("the output can't be written");
         }
         for (uint64_t i = 0; i < results[WRITTEN]; i++) {
-            if (print_assignment(models[i], variables) != 0) {
+            if (print_model(models[i], variables, named) != 0) {
                 return fail("the output can't be written");
             }
         }

@@ -49,7 +49,7 @@ impl<S: ClauseSet> Occurrences<S> {
 /// What remains of the formula when some variables are assigned.
 #[derive(Clone, Copy, Default)]
 pub(crate) struct Node<S> {
-    /// The variables without a value.
+    /// The variables to assign that have no value.
     unassigned: u64,
     /// The clauses without a true literal. False literals are gone from them.
     clauses: S,
@@ -88,10 +88,10 @@ impl Choice {
 }
 
 impl<S: ClauseSet> Node<S> {
-    /// The node with nothing assigned but what is assumed, which the formula has no more.
-    pub fn root(formula: &Formula, assumed: u64) -> Self {
+    /// The node with none of the variables to assign assigned, of what remains of the formula.
+    pub fn root(formula: &Formula, to_assign: u64) -> Self {
         let mut node = Node {
-            unassigned: (bit(formula.variables()) - 1) & !assumed,
+            unassigned: to_assign,
             clauses: S::first(formula.clauses().len()),
             positive: 0,
             negative: 0,

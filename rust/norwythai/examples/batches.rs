@@ -1,6 +1,6 @@
-//! batches FILE SIZE [CHECKPOINT]: prints the next models of the formula in a file, SIZE of them, a digit for each variable, and then
-//! the checkpoint to go on with, or `end` if no model is left. The file has DIMACS text if its name ends in .cnf, else the encoded
-//! formula.
+//! batches FILE SIZE [CHECKPOINT]: prints the next models of the formula in a file, SIZE of them, and then the checkpoint to go on with,
+//! or `end` if no model is left. A model has a digit for each variable, or a dash if no clause names it. The file has DIMACS text if its
+//! name ends in .cnf, else the encoded formula.
 
 mod program;
 
@@ -15,11 +15,10 @@ fn print_batch(arguments: &[&str]) -> Outcome {
         Some(text) => text.parse()?,
         None => Checkpoint::start(),
     };
-    let variables = formula.judge(&[])?.variables();
     let mut models = formula.models_from(start);
     for _ in 0..size {
         match models.next() {
-            Some(model) => println!("{}", model?.digits(variables)),
+            Some(model) => println!("{}", model?.columns(&formula, &[])),
             None => {
                 println!("end");
                 return Ok(());

@@ -1,6 +1,6 @@
 //! notice_board FILE PAGES: prints the models of the formula in a file as pages to be pinned up, so many pages or all if these are fewer.
-//! A line has a serial, a digit for each variable, and the steps since the line before. The file has DIMACS text if its name ends in
-//! .cnf, else the encoded formula.
+//! A line has a serial, a digit for each variable, or a dash if no clause names it, and the steps since the line before. The file has
+//! DIMACS text if its name ends in .cnf, else the encoded formula.
 
 mod program;
 
@@ -92,20 +92,22 @@ mod tests {
         let models: Result<Vec<_>, _> = formula.models().collect();
         assert_eq!(lines.len(), 546);
         for (serial, (line, model)) in (1..).zip(lines.iter().zip(models.unwrap())) {
-            assert!(line.starts_with(&format!("{serial:>6} {} ", model.digits(12))));
+            let columns = model.columns(&formula, &[]);
+            assert!(line.starts_with(&format!("{serial:>6} {columns} ")));
         }
     }
 
     #[test]
     fn the_last_page_has_a_model() {
-        // Six variables and no clause: 64 models; and (not 1, 2, 6) and (not 1, not 4, not 5): 50.
-        let counts = |input: &[u8]| -> Vec<usize> {
-            let pages = lines_of(&Formula::from(input), 1).into_iter();
+        let counts = |text: &[u8]| -> Vec<usize> {
+            let formula = Formula::from_dimacs(text).unwrap();
+            let pages = lines_of(&formula, 1).into_iter();
             pages.map(|lines| lines.unwrap().len()).collect()
         };
-        assert_eq!(counts(&[1, 6, 5]), [50, 14]);
-        let fifty = [1, 6, 3, 1, 2, 2, 2, 6, 4, 3, 1, 3, 4, 3, 5, 4, 5];
-        assert_eq!(counts(&fifty), [50]);
+        // 63 models, and 50.
+        assert_eq!(counts(b"p cnf 6 1\n1 2 3 4 5 6 0\n"), [50, 13]);
+        let fifty = b"p cnf 6 3\n1 2 3 0\n-1 4 5 6 0\n-1 2 3 -4 5 0\n";
+        assert_eq!(counts(fifty), [50]);
     }
 
     #[test]
@@ -113,7 +115,8 @@ mod tests {
         let unmatched = Formula::from(&[1, 1, 4, 5][..]);
         let refusal = Refusal::Unmatched { clauses: 1 };
         assert_eq!(lines_of(&unmatched, 1), [Err(refusal)]);
-        let many = Formula::from(&[1, 48, 5][..]);
+        // Ten variables, of which some is true.
+        let many = Formula::from_dimacs(b"p cnf 10 1\n1 2 3 4 5 6 7 8 9 10 0\n").unwrap();
         let mut pages = Pages::new(&many, 999_900);
         assert!(pages.next().unwrap().is_ok());
         assert!(pages.next().unwrap().unwrap().contains("\n999999 "));

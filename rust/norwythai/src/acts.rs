@@ -8,7 +8,8 @@ use crate::limits::{FORMULA_BUFFER, MAX_CLAUSES, PAGE_LINES, TEXT_BUFFER};
 use crate::refusal::Refusal;
 use crate::violator::{JudgeError, Violator};
 
-/// Whether the assignment is a model of the encoded formula, also of one that is not accepted.
+/// Whether the assignment is a model of the encoded formula, also of one that is not accepted. It need not be one that is listed
+/// ([`walk`](walk#models)): variables that no clause names may be true.
 ///
 /// ```
 /// use norwythai::{check, Assignment, Refusal};
@@ -284,7 +285,7 @@ pub struct Walked {
 /// model or the end.
 ///
 /// ```
-/// use norwythai::{walk, Answer, Assignment, Assumption, Checkpoint};
+/// use norwythai::{walk, Answer, Assignment, Checkpoint};
 ///
 /// let input = [1, 2, 2, 1, 2, 2, 4, 3, 1, 3, 2, 4, 5];
 /// let mut checkpoint = Checkpoint::start();
@@ -292,23 +293,45 @@ pub struct Walked {
 /// let walked = walk(&input, &[], &mut checkpoint, 96)?;
 /// assert_eq!(walked.answer, Answer::Model(Assignment::from_bits(0b10)));
 /// assert_eq!((walked.steps, walked.expansions), (1, 0));
+/// # Ok::<(), norwythai::Refusal>(())
+/// ```
 ///
-/// // Where all variables are assumed, the one model comes without a step, and then the end.
+/// # Models
+///
+/// The walk assigns the variables that some clause names and that are not assumed: these are the variables *to assign*. A clause counts
+/// here as it is read, also where an assumption satisfies it. So a model that is listed has the assumed values, and any other variable that
+/// no clause names is false in it. Each setting of the named variables that some model has, beside the assumed values, is listed exactly
+/// once. [`check`] says yes to the other models, too.
+///
+/// Where nothing is to be assigned, an accepted formula has one listed model. It comes without a step, on any budget, and then the end
+/// does:
+///
+/// ```
+/// use norwythai::{walk, Answer, Assignment, Assumption, Checkpoint};
+///
+/// // Both variables of (1, 2) (not 1, not 2) are assumed.
+/// let input = [1, 2, 2, 1, 2, 2, 4, 3, 1, 3, 2, 4, 5];
 /// let all = [Assumption::positive(1), Assumption::negative(2)];
 /// let mut checkpoint = Checkpoint::start();
 /// let walked = walk(&input, &all, &mut checkpoint, 0)?;
 /// assert_eq!(walked.answer, Answer::Model(Assignment::from_bits(0b01)));
 /// assert_eq!(walk(&input, &all, &mut checkpoint, 0)?.answer, Answer::Ended);
+///
+/// // No clause names a variable.
+/// let mut checkpoint = Checkpoint::start();
+/// let walked = walk(&[1, 2, 5], &[], &mut checkpoint, 0)?;
+/// assert_eq!(walked.answer, Answer::Model(Assignment::from_bits(0b00)));
+/// assert_eq!(walk(&[1, 2, 5], &[], &mut checkpoint, 0)?.answer, Answer::Ended);
 /// # Ok::<(), norwythai::Refusal>(())
 /// ```
 ///
 /// # Waits
 ///
-/// How many steps lie between two models is known exactly, however the budgets divide them over calls. With n variables that are not
-/// assumed, the first model comes after n steps, and the end n steps after the last model. From a model to the next it is two steps for
-/// each variable from the point on where their trails part. A model's trail stands in the checkpoint that comes with it, behind mode and
-/// length: n bytes, a variable each in the order of assignment, and 128 more if it is true. Nobody knows the next trail before the walk has
-/// come to it. So a display that counts down to the next model asks on a copy of the checkpoint how many steps are still to come:
+/// How many steps lie between two models is known exactly, however the budgets divide them over calls. With n variables to assign, the
+/// first model comes after n steps, and the end n steps after the last model. From a model to the next it is two steps for each variable
+/// from the point on where their trails part. A model's trail stands in the checkpoint that comes with it, behind mode and length: n bytes,
+/// a variable each in the order of assignment, and 128 more if it is true. Nobody knows the next trail before the walk has come to it. So a
+/// display that counts down to the next model asks on a copy of the checkpoint how many steps are still to come:
 ///
 /// ```
 /// use norwythai::{walk, Answer, Checkpoint};
@@ -364,9 +387,9 @@ pub struct Listed {
     pub answer: Answer,
 }
 
-/// Fills the slice with the next models of an accepted formula, as [`walk`] calls with a budget of 96 would, and tests the checkpoint only
-/// once. The checkpoint becomes the one to go on from, under the same assumptions; at a refusal it stays. An empty slice brings no model
-/// and makes no step.
+/// Fills the slice with the next listed models of an accepted formula, as [`walk`](walk#models) calls with a budget of 96 would, and tests
+/// the checkpoint only once. The checkpoint becomes the one to go on from, under the same assumptions; at a refusal it stays. An empty
+/// slice brings no model and makes no step.
 ///
 /// ```
 /// use norwythai::{list, Answer, Assumption, Checkpoint};
@@ -419,12 +442,13 @@ impl Paged {
     }
 }
 
-/// Writes the next models of an accepted formula as a page for the notice board: [`PAGE_LINES`] lines of text in the first
-/// [`PAGE_SIZE`](crate::PAGE_SIZE) bytes of the slice, of which it must have that many. A line has the model's serial, a digit for each
-/// variable in 48 columns, and the steps from the line before to it, which are those of [`walk`](walk#waits), on the first line from the
-/// checkpoint; a blank stands between two of these, and a line feed at the end. The first line has the given serial, which is 1 to
-/// [`MAX_SERIAL`](crate::MAX_SERIAL), and each other one a serial that is one above that of the line before. Lines without a model are
-/// blank.
+/// Writes the next listed models ([`walk`](walk#models)) of an accepted formula as a page for the notice board: [`PAGE_LINES`] lines of
+/// text in the first [`PAGE_SIZE`](crate::PAGE_SIZE) bytes of the slice, of which it must have that many. A line has the model's serial, 48
+/// columns, and the steps from the line before to it, which are those of [`walk`](walk#waits), on the first line from the checkpoint; a
+/// blank stands between two of these, and a line feed at the end. The column of a variable is its digit if some clause names it or it is
+/// assumed, else a dash ([`Assignment::columns`]); behind that of the last variable are blanks. The first line has the given serial, which
+/// is 1 to [`MAX_SERIAL`](crate::MAX_SERIAL), and each other one a serial that is one above that of the line before. Lines without a model
+/// are blank.
 ///
 /// The checkpoint becomes the one to go on from, under the same assumptions, as after [`walk`] calls with a budget of 96. The bytes
 /// behind the page stay as they are; at a refusal all do, and the checkpoint, too.
@@ -441,6 +465,10 @@ impl Paged {
 /// assert_eq!(lines[0], "     9 01                                                 2");
 /// assert_eq!(lines[1], "    10 10                                                 4");
 /// assert!(lines[2..].iter().all(|line| line.trim().is_empty()));
+///
+/// // No clause names the third variable of (1, 2).
+/// let paged = page(&[1, 3, 2, 1, 2, 2, 4, 5], &[], &mut Checkpoint::start(), 1, &mut text)?;
+/// assert_eq!((paged.lines, &text[..10]), (3, &b"     1 10-"[..]));
 ///
 /// let refused = page(&input, &[], &mut Checkpoint::start(), 0, &mut text);
 /// assert_eq!(refused, Err(Refusal::BadSerial));

@@ -4,7 +4,7 @@ use crate::acts::{
     check, deficiency, from_dimacs, judge, list, page, to_dimacs, walk, weigh, Listed, Matching,
     Paged, Walked, Weight,
 };
-use crate::assignment::Assignment;
+use crate::assignment::{mask_of, Assignment};
 use crate::assumption::Assumption;
 use crate::checkpoint::Checkpoint;
 use crate::models::Models;
@@ -26,8 +26,8 @@ use std::borrow::Cow;
 /// assert_eq!(formula.as_bytes(), [1, 2, 2, 1, 2, 2, 4, 3, 1, 3, 2, 4, 5]);
 ///
 /// let models: Result<Vec<_>, _> = formula.models().collect();
-/// let lines: Vec<String> = models?.iter().map(|model| model.digits(2).to_string()).collect();
-/// assert_eq!(lines, ["01", "10"]);
+/// let bits: Vec<u64> = models?.iter().map(|model| model.bits()).collect();
+/// assert_eq!(bits, [0b10, 0b01]);
 ///
 /// // The same, from bytes that came from somewhere, and from DIMACS CNF text.
 /// let read = Formula::from(&[1, 2, 2, 1, 2, 2, 4, 3, 1, 3, 2, 4, 5][..]);
@@ -109,29 +109,48 @@ impl Formula<'_> {
         to_dimacs(&self.0)
     }
 
-    /// All models, in the order of the walk.
+    /// The number of its variables. Of bytes that can't be read it means nothing.
+    pub(crate) fn variables(&self) -> u8 {
+        self.0.get(1).copied().unwrap_or(0)
+    }
+
+    /// The variables that some clause names, as a mask. Of bytes that can't be read it means nothing.
+    pub(crate) fn named(&self) -> u64 {
+        let mut named = 0;
+        let mut bytes = self.0.iter().skip(2);
+        while let Some(kind) = bytes.next() {
+            // Behind the number of variables only literals have a body.
+            if let 2 | 3 = kind {
+                named |= bytes.next().map_or(0, |variable| mask_of(*variable));
+            }
+        }
+        named
+    }
+
+    /// All models that are listed, in the order of the walk: [`walk`](walk()#models) says which these are.
     pub fn models(&self) -> Models<'_> {
         Models::new(&self.0)
     }
 
-    /// The models that come after a checkpoint.
+    /// Those that come after a checkpoint.
     pub fn models_from(&self, checkpoint: Checkpoint) -> Models<'_> {
         Models::resume(&self.0, checkpoint)
     }
 
-    /// The models that keep the assumptions.
+    /// The listed models that keep the assumptions.
     ///
     /// ```
     /// use norwythai::{Assumption, Formula};
     ///
+    /// // The assumption satisfies the only clause, which still names variable 2: it comes with both values. No clause names variable 3.
     /// let formula = Formula::from_dimacs(b"p cnf 3 1\n1 2 0\n")?;
-    /// let known = [Assumption::negative(1)];
+    /// let known = [Assumption::positive(1)];
     /// let mut models = formula.models_under(&known);
-    /// assert_eq!(models.next().unwrap()?.digits(3).to_string(), "010");
+    /// assert_eq!(models.next().unwrap()?.columns(&formula, &known).to_string(), "10-");
     ///
     /// // Later, under the same assumptions:
     /// let mut rest = formula.models_under_from(&known, models.checkpoint());
-    /// assert_eq!(rest.next().unwrap()?.digits(3).to_string(), "011");
+    /// assert_eq!(rest.next().unwrap()?.columns(&formula, &known).to_string(), "11-");
     /// assert!(rest.next().is_none());
     /// # Ok::<(), norwythai::Refusal>(())
     /// ```

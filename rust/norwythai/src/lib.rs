@@ -6,11 +6,12 @@
 //! matched, or if what stripping leaves of it is: so it may have more clauses than variables.
 //!
 //! The library reads an encoded formula, says whether an assignment is a model ([`check`]) and whether the formula is accepted ([`judge`]),
-//! and lists all models of an accepted formula ([`walk`], [`list`], [`Models`]), each exactly once and after a wait that is known to the
-//! step ([`walk`](walk#waits)); or it writes them as pages of text, to be pinned up ([`page`]). The listing can be stopped after any number
-//! of steps and goes on from a [`Checkpoint`], which is a line of text if need be. Where the values of some variables are known, matching,
-//! stripping and listing are of what remains under these [`Assumption`]s. DIMACS CNF text is read into an encoded formula and written from
-//! one ([`from_dimacs`], [`to_dimacs`]). Whatever the bytes are, an act answers: with a [`Refusal`], if it has to.
+//! and lists the models of an accepted formula ([`walk`], [`list`], [`Models`]), each exactly once and after a wait that is known to the
+//! step ([`walk`](walk#waits)); or it writes them as pages of text, to be pinned up ([`page`]). A variable that no clause names is no part
+//! of what is listed ([`walk`](walk#models)). The listing can be stopped after any number of steps and goes on from a [`Checkpoint`], which
+//! is a line of text if need be. Where the values of some variables are known, matching, stripping and listing are of what remains under
+//! these [`Assumption`]s. DIMACS CNF text is read into an encoded formula and written from one ([`from_dimacs`], [`to_dimacs`]). Whatever
+//! the bytes are, an act answers: with a [`Refusal`], if it has to.
 //!
 //! Where a formula is not accepted, judge says which clauses stand in the way. Such a [`Violator`] names exactly one variable fewer than it
 //! has clauses, assumed ones not counted, and without any single one of these the others can be matched. [`weigh`] counts any marked
@@ -36,14 +37,16 @@
 //!
 //! let mut lines = Vec::new();
 //! for model in formula.models() {
-//!     lines.push(model?.digits(3).to_string());
+//!     lines.push(model?.columns(&formula, &[]).to_string());
 //! }
 //! lines.sort();
 //! assert_eq!(lines, ["001", "100", "101", "110", "111"]);
 //!
 //! // Switch 1 is known to be off.
-//! let models: Result<Vec<_>, _> = formula.models_under(&[Assumption::negative(1)]).collect();
-//! let lines: Vec<String> = models?.iter().map(|model| model.digits(3).to_string()).collect();
+//! let known = [Assumption::negative(1)];
+//! let models: Result<Vec<_>, _> = formula.models_under(&known).collect();
+//! let models = models?.into_iter();
+//! let lines: Vec<String> = models.map(|model| model.columns(&formula, &known).to_string()).collect();
 //! assert_eq!(lines, ["001"]);
 //! # Ok(())
 //! # }
@@ -70,7 +73,7 @@ pub use acts::{
     check, deficiency, from_dimacs, from_dimacs_into, judge, judge_into, list, page, to_dimacs,
     to_dimacs_into, walk, weigh, Answer, Listed, Matching, Paged, Size, Walked, Weight,
 };
-pub use assignment::{Assignment, Digits};
+pub use assignment::{Assignment, Columns};
 pub use assumption::Assumption;
 pub use builder::{BuildError, FormulaBuilder, Literal};
 pub use checkpoint::{Checkpoint, ParseCheckpointError};

@@ -10,23 +10,26 @@ use std::iter::FusedIterator;
 /// The most models that are listed at once. A list call tests its checkpoint, which takes as long as many models.
 const MOST_AT_ONCE: usize = 256;
 
-/// The models of an encoded formula, in the order of the walk: all, or those that keep some assumptions. It may be stopped anywhere:
-/// its [`checkpoint`](Models::checkpoint) says where, and [`resume`](Models::resume) goes on from there, or under the same assumptions
-/// [`resume_under`](Models::resume_under). After a refusal, which comes first if it comes, and after the end it gives nothing more.
+/// The models of an encoded formula that are listed, in the order of the walk: all, or those that keep some assumptions.
+/// [`walk`](crate::walk()#models) says which are listed: a variable that no clause names and that is not assumed is false in each.
+///
+/// It may be stopped anywhere: its [`checkpoint`](Models::checkpoint) says where, and [`resume`](Models::resume) goes on from there, or
+/// under the same assumptions [`resume_under`](Models::resume_under). After a refusal, which comes first if it comes, and after the end it
+/// gives nothing more.
 ///
 /// ```
 /// use norwythai::{Checkpoint, Models};
 ///
-/// let input = [1, 2, 5]; // two variables, no clauses
+/// let input = [1, 3, 2, 1, 2, 2, 4, 5]; // (1, 2), of three variables
 /// let mut models = Models::new(&input);
-/// assert_eq!(models.next().unwrap()?.digits(2).to_string(), "00");
+/// assert_eq!(models.next().unwrap()?.bits(), 0b001);
 /// let text = models.checkpoint().to_string();
 ///
 /// // Later, perhaps somewhere else:
 /// let checkpoint: Checkpoint = text.parse()?;
 /// let rest: Result<Vec<_>, _> = Models::resume(&input, checkpoint).collect();
 /// let rest: Vec<u64> = rest?.iter().map(|model| model.bits()).collect();
-/// assert_eq!(rest, [0b10, 0b01, 0b11]);
+/// assert_eq!(rest, [0b010, 0b011]);
 /// # Ok::<(), Box<dyn std::error::Error>>(())
 /// ```
 ///
@@ -35,14 +38,14 @@ const MOST_AT_ONCE: usize = 256;
 /// ```
 /// use norwythai::{Assumption, Models};
 ///
-/// let input = [1, 2, 5];
+/// let input = [1, 3, 2, 1, 2, 2, 4, 5];
 /// let known = [Assumption::positive(2)];
 /// let mut models = Models::under(&input, &known);
-/// assert_eq!(models.next().unwrap()?.bits(), 0b10);
+/// assert_eq!(models.next().unwrap()?.bits(), 0b010);
 ///
 /// // The checkpoint doesn't hold what is assumed: keep that beside it.
 /// let mut rest = Models::resume_under(&input, &known, models.checkpoint());
-/// assert_eq!(rest.next().unwrap()?.bits(), 0b11);
+/// assert_eq!(rest.next().unwrap()?.bits(), 0b011);
 /// assert!(rest.next().is_none());
 /// # Ok::<(), norwythai::Refusal>(())
 /// ```

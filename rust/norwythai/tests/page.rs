@@ -3,12 +3,15 @@
 use norwythai::{
     Answer, Assumption, Checkpoint, Formula, Refusal, LINE_SIZE, MAX_SERIAL, PAGE_LINES, PAGE_SIZE,
 };
+use norwythai_samples::encode;
 
 /// (1, 2) and (not 1, not 2)
 const EXAMPLE: &[u8] = &[1, 2, 2, 1, 2, 2, 4, 3, 1, 3, 2, 4, 5];
 
-/// (not 1, 2, 6) and (not 1, not 4, not 5), over six variables: just as many models as a page has lines.
-const FIFTY: &[u8] = &[1, 6, 3, 1, 2, 2, 2, 6, 4, 3, 1, 3, 4, 3, 5, 4, 5];
+/// (1, 2, 3), (not 1, 4, 5, 6) and (not 1, 2, 3, not 4, 5), over six variables: just as many models as a page has lines.
+const FIFTY: &[u8] = &[
+    1, 6, 2, 1, 2, 2, 2, 3, 4, 3, 1, 2, 4, 2, 5, 2, 6, 4, 3, 1, 2, 2, 2, 3, 3, 4, 2, 5, 4, 5,
+];
 
 /// 546 models of twelve variables.
 const VELODROME: &[u8] = include_bytes!("../../../examples/velodrome.bin");
@@ -44,8 +47,13 @@ fn next_lines(
 }
 
 /// A line as it must be.
-fn line(serial: u32, digits: &str, steps: u32) -> String {
-    format!("{serial:>6} {digits:<48} {steps:>3}")
+fn line(serial: u32, columns: &str, steps: u32) -> String {
+    format!("{serial:>6} {columns:<48} {steps:>3}")
+}
+
+/// The largest number of variables, of which some is true: the last is assigned first.
+fn some_true() -> Vec<u8> {
+    encode(48, &[(1..=48).collect()])
 }
 
 #[test]
@@ -66,20 +74,27 @@ fn the_example_has_two_lines() {
 fn a_line_has_a_column_for_each_variable() {
     let first = [Assumption::positive(1)];
     let mut checkpoint = Checkpoint::start();
-    // Nothing is left to assign: no steps.
+    // Nothing is to be assigned: no steps.
     let lines = next_lines(&[1, 1, 5], &first, &mut checkpoint, 7);
     assert_eq!(lines, [line(7, "1", 0)]);
 
-    // An assumed variable has the digit of its value.
+    // An assumed variable has the digit of its value, and one that is neither assumed nor named a dash. (1, 2), of five variables.
     let mut checkpoint = Checkpoint::start();
-    let assumed = [Assumption::negative(3), Assumption::positive(2)];
-    let lines = next_lines(&[1, 3, 5], &assumed, &mut checkpoint, 9);
-    assert_eq!(lines, [line(9, "010", 1), line(10, "110", 2)]);
+    let assumed = [Assumption::negative(4), Assumption::positive(1)];
+    let input = encode(5, &[vec![1, 2]]);
+    let lines = next_lines(&input, &assumed, &mut checkpoint, 9);
+    assert_eq!(lines, [line(9, "10-0-", 1), line(10, "11-0-", 2)]);
 
     let mut checkpoint = Checkpoint::start();
-    let lines = next_lines(&[1, 48, 5], &[], &mut checkpoint, 99_999);
-    assert_eq!(lines[0], line(99_999, &"0".repeat(48), 48));
-    assert_eq!(lines[1], line(100_000, &("0".repeat(47) + "1"), 2));
+    let lines = next_lines(&some_true(), &[], &mut checkpoint, 99_999);
+    assert_eq!(
+        lines[0],
+        line(99_999, &("1".to_string() + &"0".repeat(47)), 48)
+    );
+    assert_eq!(
+        lines[1],
+        line(100_000, &("01".to_string() + &"0".repeat(46)), 4)
+    );
 }
 
 #[test]
@@ -103,8 +118,8 @@ fn pages_go_on_to_the_end() {
         let Answer::Model(model) = walked.answer else {
             panic!("{walked:?}");
         };
-        let digits = model.digits(12).to_string();
-        assert_eq!(found, line(serial, &digits, walked.steps));
+        let columns = model.columns(&formula, &[]).to_string();
+        assert_eq!(found, line(serial, &columns, walked.steps));
     }
     let walked = formula.walk(&[], &mut checkpoint, 96).unwrap();
     assert_eq!(walked.answer, Answer::Ended);
@@ -134,12 +149,12 @@ fn as_many_models_as_lines_fill_a_page_and_leave_a_blank_one() {
 
 #[test]
 fn steps_are_those_since_the_checkpoint() {
-    let formula = Formula::from(&[1, 48, 5][..]);
+    let formula = Formula::from(some_true());
     let mut checkpoint = Checkpoint::start();
     let walked = formula.walk(&[], &mut checkpoint, 40).unwrap();
     assert_eq!(walked.answer, Answer::Spent);
-    let lines = next_lines(&[1, 48, 5], &[], &mut checkpoint, 1);
-    assert_eq!(lines[0], line(1, &"0".repeat(48), 8));
+    let lines = next_lines(formula.as_bytes(), &[], &mut checkpoint, 1);
+    assert_eq!(lines[0], line(1, &("1".to_string() + &"0".repeat(47)), 8));
 }
 
 /// The input, the assumptions, the serial, the page's length, and the refusal.

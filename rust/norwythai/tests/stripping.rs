@@ -124,9 +124,11 @@ fn a_stripped_formula_is_walked_and_listed() {
     assert!(rest.eq([Ok(Assignment::from_bits(0b011))]));
 }
 
-/// All models, a digit for each of five variables, in the order of the walk.
-fn lines(models: Models) -> Vec<String> {
-    models.map(|m| m.unwrap().digits(5).to_string()).collect()
+/// All models under the assumptions, as they are printed, in the order of the walk.
+fn lines(formula: &Formula, assumptions: &[Assumption]) -> Vec<String> {
+    let models = formula.models_under(assumptions).map(Result::unwrap);
+    let columns = |model: Assignment| model.columns(formula, assumptions).to_string();
+    models.map(columns).collect()
 }
 
 #[test]
@@ -137,7 +139,7 @@ fn the_athletics_example_is_what_its_readme_says() {
     assert_eq!((judged.variables(), judged.clauses()), (5, 7));
     assert_eq!(judged.matched(), [130, 130, 130, 129, 129, 3, 4]);
     assert_eq!(
-        lines(formula.models()),
+        lines(&formula, &[]),
         ["01010", "11010", "11011", "11100", "11101"]
     );
     let counts = walked(ATHLETICS, &[]).into_iter();
@@ -149,7 +151,7 @@ fn the_athletics_example_is_what_its_readme_says() {
     let third = [Assumption::positive(3)];
     let judged = formula.judge(&third).unwrap();
     assert_eq!(judged.matched(), [130, 130, 130, 129, 129, 0, 132]);
-    assert_eq!(lines(formula.models_under(&third)), ["11100", "11101"]);
+    assert_eq!(lines(&formula, &third), ["11100", "11101"]);
 
     let not_first = [Assumption::negative(1)];
     let mut buffer = [7; 96];

@@ -347,6 +347,5 @@ fn errors_of_the_builder_name_clause_and_variable() {
 fn assignments_have_no_other_variables() {
     let all = Assignment::from_bits(u64::MAX);
     assert!(all.is_true(1) && all.is_true(64));
-    assert!(!all.is_true(0) && !all.is_true(65));
-    assert_eq!(all.digits(66).to_string(), "1".repeat(64) + "00");
+    assert!(!all.is_true(0) && !all.is_true(65) && !all.is_true(255));
 }

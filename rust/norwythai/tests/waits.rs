@@ -5,8 +5,8 @@ use norwythai::{
 };
 use norwythai_reference as reference;
 use norwythai_samples::{
-    encode, shared, some_accepted_formula, some_assumptions, some_budget, trail_in, Random, Stop,
-    Wait, Waits,
+    encode, named_variables, shared, some_accepted_formula, some_assumptions, some_budget,
+    trail_in, Random, Stop, Wait, Waits,
 };
 
 /// The example of the specification, S12.3: (1, 2) and (not 1, not 2).
@@ -51,19 +51,24 @@ fn the_waits_do_not_depend_on_the_budgets() {
     let pairs = encode(3, &[vec![1, 2], vec![1, 3], vec![2, 3]]);
     let turn = encode(2, &[vec![1, 2], vec![1, -2]]);
     let stripped = encode(1, &[vec![1], vec![1]]);
-    let cases: [(&[u8], &[Assumption], &[u64]); 7] = [
+    let unnamed = encode(5, &[vec![2, 4]]);
+    let cases: [(&[u8], &[Assumption], &[u64]); 10] = [
         (&pairs, &[], &[3, 6, 4, 2, 3]),
         (&pairs, &[Assumption::positive(3)], &[2, 4, 2, 2]),
         (&turn, &[], &[2, 4, 2]),
         (&stripped, &[], &[1, 1]),
         (EXAMPLE, &[], &[2, 4, 2]),
         (EXAMPLE, &[Assumption::positive(1)], &[1, 1]),
-        // Nothing is left to assign.
+        // Nothing is to be assigned.
         (
             EXAMPLE,
             &[Assumption::positive(1), Assumption::negative(2)],
             &[0, 0],
         ),
+        (&[1, 3, 5], &[], &[0, 0]),
+        // Two of five variables are named; where one of them is assumed, the other is to be assigned.
+        (&unnamed, &[], &[2, 4, 2, 2]),
+        (&unnamed, &[Assumption::positive(4)], &[1, 2, 1]),
     ];
     let budgets: [&[u32]; 7] = [
         &[1],
@@ -82,11 +87,10 @@ fn the_waits_do_not_depend_on_the_budgets() {
     }
 }
 
-/// The variables of an input that are not assumed, as a mask.
-fn free_variables(input: &[u8], assumptions: &[Assumption]) -> u64 {
-    assumptions.iter().fold((1 << input[1]) - 1, |free, a| {
-        free & !(1 << (a.variable - 1))
-    })
+/// The variables that a walk assigns, as a mask: those that some clause names and that are not assumed.
+fn to_assign(input: &[u8], assumptions: &[Assumption]) -> u64 {
+    let assumed = |mask, a: &Assumption| mask | 1 << (a.variable - 1);
+    named_variables(input) & !assumptions.iter().fold(0, assumed)
 }
 
 /// An accepted formula and a list of assumptions under which it is accepted, often an empty one; and whether stripping drops some clause.
@@ -114,15 +118,16 @@ struct Seen {
     ends: usize,
     divided: usize,
     assuming: usize,
-    nothing_left: usize,
+    unnamed: usize,
+    nothing_to_assign: usize,
     stripped: usize,
 }
 
 impl Seen {
     /// Makes calls on one input from the start, and compares each wait with the trails, and each trail with its model.
     fn chain(&mut self, random: &mut Random, input: &[u8], assumptions: &[Assumption]) {
-        let free = free_variables(input, assumptions);
-        let left = free.count_ones() as usize;
+        let to_assign = to_assign(input, assumptions);
+        let left = to_assign.count_ones() as usize;
         let mut checkpoint = Checkpoint::start();
         let mut waits = Waits::default();
         let small = random.percent(50);
@@ -141,7 +146,8 @@ impl Seen {
             assert_eq!(wait.steps, wait.told, "{input:02x?} {assumptions:?}");
             self.divided += usize::from(wait.calls > 1);
             if let Answer::Model(model) = walked.answer {
-                self.model(model, checkpoint.as_bytes(), earlier.as_deref(), wait, free);
+                let (bytes, earlier) = (checkpoint.as_bytes(), earlier.as_deref());
+                self.model(model, bytes, earlier, wait, to_assign);
             } else {
                 assert_eq!(wait.steps, left as u64);
                 self.ends += 1;
@@ -156,9 +162,9 @@ impl Seen {
         checkpoint: &[u8; Checkpoint::LENGTH],
         earlier: Option<&[u8]>,
         wait: Wait,
-        free: u64,
+        to_assign: u64,
     ) {
-        let left = free.count_ones() as usize;
+        let left = to_assign.count_ones() as usize;
         let later = trail_in(checkpoint);
         assert_eq!((checkpoint[0], later.len()), (1, left));
         let mut assigned = 0;
@@ -167,8 +173,8 @@ impl Seen {
             assert_eq!(model.bits() & variable != 0, *byte > 128);
             assigned |= variable;
         }
-        // Each variable that is not assumed, once.
-        assert_eq!(assigned, free);
+        // Each variable to assign, once.
+        assert_eq!(assigned, to_assign);
         let Some(earlier) = earlier else {
             assert_eq!(wait.steps, left as u64);
             self.firsts += 1;
@@ -190,13 +196,16 @@ fn along_ten_thousand_chains_the_waits_are_those_of_the_trails() {
         let (input, assumptions, stripped) = some_accepted(&mut random);
         seen.chain(&mut random, &input, &assumptions);
         seen.assuming += usize::from(!assumptions.is_empty());
-        seen.nothing_left += usize::from(free_variables(&input, &assumptions) == 0);
+        let named = named_variables(&input).count_ones();
+        seen.unnamed += usize::from(named < u32::from(input[1]));
+        seen.nothing_to_assign += usize::from(to_assign(&input, &assumptions) == 0);
         seen.stripped += usize::from(stripped);
     }
     println!("{seen:?}");
     assert!(seen.firsts > 8_000 && seen.between > 20_000 && seen.ends > 1_000);
     assert!(seen.divided > 10_000 && seen.assuming > 2_000);
-    assert!(seen.nothing_left > 100 && seen.stripped > 500);
+    assert!(seen.unnamed > 2_000 && seen.unnamed < 8_000);
+    assert!(seen.nothing_to_assign > 100 && seen.stripped > 500);
 }
 
 /// The steps on the lines of a page.

@@ -30,9 +30,14 @@ pub struct Assumed {
 }
 
 impl Assumed {
-    /// How many of the formula's variables are not assumed.
-    pub fn left_to_assign(&self, formula: &Formula) -> usize {
-        formula.variables() - self.variables.count_ones() as usize
+    /// The variables that a walk assigns (S23.1): those that some clause of the formula names, as it was read, and that are not assumed.
+    pub fn to_assign(&self, formula: &Formula) -> u64 {
+        formula.named() & !self.variables
+    }
+
+    /// The variables whose columns have a digit (S23.3): those that some clause names and those that are assumed.
+    pub fn visible(&self, formula: &Formula) -> u64 {
+        formula.named() | self.variables
     }
 
     /// Writes a byte for each clause of the whole formula: these for the clauses that remain, in their order, and 0 for the others.

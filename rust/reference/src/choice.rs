@@ -66,13 +66,13 @@ impl<'a> Chooser<'a> {
         }
     }
 
-    /// The next variable to assign, where these variables are assigned and not all.
-    pub fn choose(&mut self, assigned: u64, assignment: u64) -> Choice {
+    /// The next variable to assign, where these are still to be assigned, of which there are some.
+    pub fn choose(&mut self, unassigned: u64, assignment: u64) -> Choice {
         self.remaining
-            .set_remaining(self.formula, assigned, assignment);
+            .set_remaining(self.formula, unassigned, assignment);
         let remaining = self.remaining.as_slice();
         if remaining.is_empty() {
-            return Choice::both_open(lowest(!assigned), 0);
+            return Choice::both_open(lowest(unassigned), 0);
         }
         self.left.set(remaining);
         let mut noted = Noted::default();

@@ -51,6 +51,7 @@ impl Clause {
 #[derive(Clone, Debug)]
 pub struct Formula {
     pub(crate) variables: usize,
+    named: u64,
     pub(crate) count: usize,
     pub(crate) clauses: [Clause; MAX_CLAUSES],
 }
@@ -59,6 +60,11 @@ impl Formula {
     /// n, the number of variables: 1 to 48. Those that are assumed count, too.
     pub fn variables(&self) -> usize {
         self.variables
+    }
+
+    /// The variables that some clause names, as the clauses were read: those of satisfied clauses and those that are assumed count, too.
+    pub fn named(&self) -> u64 {
+        self.named
     }
 
     /// The clauses, in the input's order.
@@ -76,6 +82,7 @@ impl Formula {
 pub fn decode(input: &[u8]) -> Result<Formula, Refusal> {
     let mut formula = Formula {
         variables: decode_variables(input)?,
+        named: 0,
         count: 0,
         clauses: [Clause::default(); MAX_CLAUSES],
     };
@@ -95,6 +102,7 @@ pub fn decode(input: &[u8]) -> Result<Formula, Refusal> {
             4 => {
                 formula.clauses[formula.count] = open;
                 formula.count += 1;
+                formula.named |= open.named();
                 open = Clause::default();
                 at += 1;
             }

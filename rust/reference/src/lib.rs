@@ -17,6 +17,7 @@ mod acceptance;
 mod assumptions;
 pub mod bits;
 mod choice;
+mod columns;
 mod deficiency;
 mod dimacs;
 mod formula;
@@ -29,6 +30,7 @@ mod weighing;
 
 pub use acceptance::{accept, judge, judge_with, Size};
 pub use assumptions::{Assumed, Assumption};
+pub use columns::Columns;
 pub use deficiency::{deficiency, largest_excess};
 pub use dimacs::{from_dimacs, read_text, to_dimacs, write_text, FORMULA_BUFFER, TEXT_BUFFER};
 pub use formula::{check, decode, Clause, Formula, Refusal, MAX_CLAUSES, MAX_VARIABLES};

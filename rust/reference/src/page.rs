@@ -1,8 +1,8 @@
 //! The act page (S19; request: the notice-board page): the next models of a walk as lines of text.
 
 use crate::assumptions::Assumption;
+use crate::columns::Columns;
 use crate::formula::{decode, Refusal, MAX_VARIABLES};
-use crate::printing::digits;
 use crate::walking::{Answer, Checkpoint, Progress, Walker, LIST_BUDGET};
 use std::ops::Range;
 
@@ -56,7 +56,7 @@ impl<'a> LentPage<'a> {
 
     /// Writes a line for each model that a walk call on an ample budget brings, and blank lines from the end on. Gives how many have
     /// a model.
-    pub fn fill(self, variables: usize, mut call: impl FnMut() -> Progress) -> usize {
+    pub fn fill(self, columns: Columns, mut call: impl FnMut() -> Progress) -> usize {
         let mut filled = 0;
         for (line, serial) in self.bytes.chunks_exact_mut(LINE_SIZE).zip(self.serial..) {
             line.fill(b' ');
@@ -64,8 +64,8 @@ impl<'a> LentPage<'a> {
             let Progress { answer, steps, .. } = call();
             if let Answer::Model(model) = answer {
                 put_right(&mut line[SERIAL], serial);
-                for (byte, digit) in line[COLUMNS].iter_mut().zip(digits(model, variables)) {
-                    *byte = digit as u8;
+                for (byte, column) in line[COLUMNS].iter_mut().zip(columns.of(model)) {
+                    *byte = column as u8;
                 }
                 put_right(&mut line[STEPS], steps);
                 filled += 1;
@@ -101,7 +101,8 @@ pub fn page(
     let mut formula = decode(input)?;
     let assumed = formula.assume(assumptions)?;
     let mut walker = Walker::resume(&formula, assumed, checkpoint)?;
-    let lines = page.fill(formula.variables(), || walker.advance(LIST_BUDGET));
+    let columns = Columns::new(&formula, &assumed);
+    let lines = page.fill(columns, || walker.advance(LIST_BUDGET));
     Ok(Paged {
         lines,
         checkpoint: walker.checkpoint(),

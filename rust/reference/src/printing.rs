@@ -1,6 +1,7 @@
 //! The printed walk.
 
 use crate::assumptions::Assumed;
+use crate::columns::Columns;
 use crate::formula::{decode, Refusal};
 use crate::walking::{Answer, Progress, Walker, LIST_BUDGET};
 use std::fmt::Write;
@@ -21,9 +22,11 @@ pub fn print(input: &[u8]) -> String {
 
 fn print_models(input: &[u8]) -> Result<String, Refusal> {
     let formula = decode(input)?;
-    let mut walker = Walker::start(&formula, Assumed::default())?;
-    let variables = formula.variables();
-    let mut text = format!("switches {} rules {}\n", variables, formula.clauses().len());
+    let assumed = Assumed::default();
+    let mut walker = Walker::start(&formula, assumed)?;
+    let columns = Columns::new(&formula, &assumed);
+    let (variables, clauses) = (formula.variables(), formula.clauses().len());
+    let mut text = format!("switches {variables} rules {clauses}\n");
     for _ in 0..MOST_MODELS {
         let Progress {
             answer,
@@ -31,7 +34,7 @@ fn print_models(input: &[u8]) -> Result<String, Refusal> {
             expansions,
         } = walker.advance(LIST_BUDGET);
         let first_word = match answer {
-            Answer::Model(model) => digits(model, variables).collect(),
+            Answer::Model(model) => columns.of(model).collect(),
             _ => "end".to_string(),
         };
         writeln!(text, "{first_word} {steps} {expansions}").expect("writing to a string");
@@ -41,9 +44,4 @@ fn print_models(input: &[u8]) -> Result<String, Refusal> {
     }
     text.push_str("more\n");
     Ok(text)
-}
-
-/// A digit for each variable, the first one first.
-pub(crate) fn digits(model: u64, variables: usize) -> impl Iterator<Item = char> {
-    (0..variables).map(move |v| if model >> v & 1 == 1 { '1' } else { '0' })
 }

@@ -32,16 +32,16 @@ impl Clauses {
         self.count = clauses.len();
     }
 
-    /// Becomes the clauses that remain where these variables are assigned: satisfied ones are gone, and assigned variables are gone
-    /// from the others.
-    pub fn set_remaining(&mut self, formula: &Formula, assigned: u64, assignment: u64) {
+    /// Becomes the clauses that remain where these variables are unassigned, and those of the assignment are true: satisfied ones are
+    /// gone, and assigned variables are gone from the others.
+    pub fn set_remaining(&mut self, formula: &Formula, unassigned: u64, assignment: u64) {
         self.count = 0;
-        let (are_true, are_false) = (assigned & assignment, assigned & !assignment);
+        let are_false = !(unassigned | assignment);
         for clause in formula.clauses() {
-            if clause.positive & are_true | clause.negative & are_false == 0 {
+            if clause.positive & assignment | clause.negative & are_false == 0 {
                 self.clauses[self.count] = Clause {
-                    positive: clause.positive & !assigned,
-                    negative: clause.negative & !assigned,
+                    positive: clause.positive & unassigned,
+                    negative: clause.negative & unassigned,
                 };
                 self.count += 1;
             }

@@ -2,10 +2,12 @@
 
 use norwythai_reference::bits::{bit, numbers};
 use norwythai_reference::{
-    check, decode, judge, list, start_checkpoint, walk, Answer, Assumed, Assumption, Checkpoint,
-    Formula, Listed, Refusal, Size, Walker, LIST_BUDGET,
+    check, decode, judge, list, start_checkpoint, walk, Answer, Assumption, Checkpoint, Formula,
+    Listed, Refusal, Size, Walker, LIST_BUDGET,
 };
-use norwythai_samples::{encode, some_assumptions, some_input, Random};
+use norwythai_samples::{
+    encode, listed_models, named_variables, some_assumptions, some_input, Random,
+};
 
 /// The specification's example, S12.3: clauses (1, 2) and (not 1, not 2).
 const EXAMPLE: &[u8] = &[1, 2, 2, 1, 2, 2, 4, 3, 1, 3, 2, 4, 5];
@@ -173,10 +175,9 @@ fn assumed_variables_are_in_no_trail() {
     }
     // One that was made without the assumption is taken where it fits.
     let fits = checkpoint(&[1, 1, 130]);
-    let models = [1, 3].map(|variables| {
-        let input = [1, variables, 5];
-        walk(&input, &first, &fits, LIST_BUDGET).map(|walked| walked.progress.answer)
-    });
+    let inputs = [encode(1, &[vec![-1]]), encode(3, &[vec![-1, 2, 3]])];
+    let models = inputs
+        .map(|input| walk(&input, &first, &fits, LIST_BUDGET).map(|walked| walked.progress.answer));
     assert_eq!(models, [Err(refusal(11, 0)), Ok(Answer::Model(2))]);
 }
 
@@ -194,11 +195,16 @@ fn the_order_of_the_list_plays_no_part() {
 
 #[test]
 fn nothing_is_left_to_assign() {
-    let inputs: [(&[u8], &[i8], u64); 4] = [
+    let inputs: [(&[u8], &[i8], u64); 8] = [
         (EXAMPLE, &[1, -2], 1),
         (EXAMPLE, &[2, -1], 2),
         (&[1, 1, 5], &[-1], 0),
         (&[1, 2, 5], &[1, 2], 3),
+        // No clause names the variables that are not assumed.
+        (&[1, 2, 5], &[], 0),
+        (&[1, 2, 5], &[2], 2),
+        (&encode(3, &[vec![-2], vec![-2, 3]]), &[3, -2], 4),
+        (&encode(3, &[vec![2]]), &[2, 1], 3),
     ];
     let [start, given, ended] = [&[0, 0], &[1, 0], &[4, 0]].map(|bytes| checkpoint(bytes));
     for (input, literals, model) in inputs {
@@ -260,13 +266,9 @@ fn list_gives_the_models_that_keep_the_assumptions() {
         if formula.variables() > 10 || judge(&input, &assumptions, &mut [0; 96]).is_err() {
             continue;
         }
-        let keeps = |assignment: u64| {
-            let kept = |a: &Assumption| (assignment >> (a.variable - 1) & 1 == 1) == a.value;
-            assumptions.iter().all(kept)
-        };
-        let all: Vec<u64> = (0..1 << formula.variables())
-            .filter(|assignment| keeps(*assignment) && check(&input, *assignment) == Ok(true))
-            .collect();
+        let pairs: Vec<(u8, bool)> = assumptions.iter().map(|a| (a.variable, a.value)).collect();
+        let is_model = |assignment| check(&input, assignment) == Ok(true);
+        let all = listed_models(&input, &pairs, is_model);
         let (listed, mut found) = list_of(&input, &assumptions, &start_checkpoint(), 1 << 11);
         let listed = listed.unwrap();
         assert_eq!(listed.answer, Answer::Ended);
@@ -279,14 +281,23 @@ fn list_gives_the_models_that_keep_the_assumptions() {
     assert!(models > 5_000, "{models}");
 }
 
-/// What remains of a formula, as an input, and its variables: those that are not assumed, renumbered in their order.
-fn renumbered(formula: &Formula, assumptions: &[Assumption]) -> (Vec<u8>, Vec<u8>) {
+/// What remains of a formula, of which some variable is assumed, and its variables: those to assign, renumbered in their order.
+struct Remaining {
+    input: Vec<u8>,
+    /// What is assumed of it: nothing, unless no clause that remains names some variable to assign. Then there is a clause more, that
+    /// names them all, and one variable more, that satisfies it.
+    assumptions: Vec<Assumption>,
+    variables: Vec<u8>,
+}
+
+fn renumbered(input: &[u8], formula: &Formula, assumptions: &[Assumption]) -> Remaining {
     let value_of = |variable: u8| {
         let assumption = assumptions.iter().find(|a| a.variable == variable);
         assumption.map(|a| a.value)
     };
+    let named = named_variables(input);
     let left: Vec<u8> = (1..=formula.variables() as u8)
-        .filter(|variable| value_of(*variable).is_none())
+        .filter(|v| named >> (v - 1) & 1 == 1 && value_of(*v).is_none())
         .collect();
     let mut clauses = Vec::new();
     for clause in formula.clauses() {
@@ -304,28 +315,51 @@ fn renumbered(formula: &Formula, assumptions: &[Assumption]) -> (Vec<u8>, Vec<u8
             clauses.push(literals.iter().filter_map(number).collect());
         }
     }
-    (encode(left.len(), &clauses), left)
+    let all: Vec<i8> = (1..=left.len() as i8).collect();
+    let remain_named = |v: &i8| {
+        let names = |clause: &Vec<i8>| clause.contains(v) || clause.contains(&-v);
+        clauses.iter().any(names)
+    };
+    if all.iter().all(remain_named) {
+        return Remaining {
+            input: encode(left.len(), &clauses),
+            assumptions: Vec::new(),
+            variables: left,
+        };
+    }
+    let more = left.len() as i8 + 1;
+    clauses.push(all.into_iter().chain([more]).collect());
+    Remaining {
+        input: encode(left.len() + 1, &clauses),
+        assumptions: assuming(&[more]),
+        variables: left,
+    }
 }
 
 #[test]
 fn a_walk_under_assumptions_is_that_of_what_remains() {
     let mut random = Random::new(2);
-    let (mut walks, mut refused, mut with_trials) = (0, 0, 0);
+    let (mut walks, mut refused, mut with_trials, mut with_more) = (0, 0, 0, 0);
     while walks < 1_500 {
         let input = some_input(&mut random, is_accepted);
         let assumptions = some_list(&mut random, &input);
         let Ok(mut formula) = decode(&input) else {
             continue;
         };
-        if assumptions.is_empty() || assumptions.len() >= formula.variables() {
+        let remaining = renumbered(&input, &formula, &assumptions);
+        let left = &remaining.variables;
+        if assumptions.is_empty() || left.is_empty() {
             continue;
         }
-        let (smaller, left) = renumbered(&formula, &assumptions);
         let Ok(assumed) = formula.assume(&assumptions) else {
             continue;
         };
-        let smaller = decode(&smaller).unwrap();
-        let smaller_walker = Walker::start(&smaller, Assumed::default());
+        // A 97th clause can't be read.
+        let Ok(mut smaller) = decode(&remaining.input) else {
+            continue;
+        };
+        let smaller_assumed = smaller.assume(&remaining.assumptions).unwrap();
+        let smaller_walker = Walker::start(&smaller, smaller_assumed);
         let mut walker = match Walker::start(&formula, assumed) {
             Ok(walker) => walker,
             Err(refusal) => {
@@ -342,6 +376,7 @@ fn a_walk_under_assumptions_is_that_of_what_remains() {
             assert_eq!(found.expansions, expected.expansions);
             let answer = match expected.answer {
                 Answer::Model(model) => {
+                    let model = model & !smaller_assumed.variables;
                     let are_true = numbers(model).map(|v| bit(usize::from(left[v]) - 1));
                     Answer::Model(assumed.assignment | are_true.sum::<u64>())
                 }
@@ -357,9 +392,9 @@ fn a_walk_under_assumptions_is_that_of_what_remains() {
             with_trials += usize::from(found.expansions > 0);
         }
         walks += 1;
+        with_more += usize::from(smaller_assumed.variables != 0);
     }
-    assert!(
-        refused > 100 && with_trials > 200,
-        "{refused} {with_trials}"
-    );
+    println!("{refused} refused, {with_trials} with trials, {with_more} with a clause more");
+    assert!(refused > 100 && with_trials > 200);
+    assert!(with_more > 200 && walks - with_more > 200);
 }

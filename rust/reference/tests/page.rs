@@ -5,14 +5,17 @@ use norwythai_reference::{
     LIST_BUDGET, MAX_SERIAL, PAGE_LINES, PAGE_SIZE,
 };
 use norwythai_samples::{
-    encode, some_assumptions, some_checkpoint, some_input, some_length, some_serial, Random,
+    encode, named_variables, some_assumptions, some_checkpoint, some_input, some_length,
+    some_serial, Random,
 };
 
 /// The specification's example, S12.3: clauses (1, 2) and (not 1, not 2).
 const EXAMPLE: &[u8] = &[1, 2, 2, 1, 2, 2, 4, 3, 1, 3, 2, 4, 5];
 
-/// (not 1, 2, 6) and (not 1, not 4, not 5), over six variables: just as many models as a page has lines.
-const FIFTY: &[u8] = &[1, 6, 3, 1, 2, 2, 2, 6, 4, 3, 1, 3, 4, 3, 5, 4, 5];
+/// (1, 2, 3), (not 1, 4, 5, 6) and (not 1, 2, 3, not 4, 5), over six variables: just as many models as a page has lines.
+const FIFTY: &[u8] = &[
+    1, 6, 2, 1, 2, 2, 2, 3, 4, 3, 1, 2, 4, 2, 5, 2, 6, 4, 3, 1, 2, 2, 2, 3, 3, 4, 2, 5, 4, 5,
+];
 
 /// (1) and (not 1)
 const UNMATCHED: &[u8] = &[1, 1, 2, 1, 4, 3, 1, 4, 5];
@@ -76,15 +79,18 @@ fn a_model_without_steps_has_a_line() {
 
 #[test]
 fn more_models_than_lines_take_a_second_page() {
-    let (first, lines) = filled(&[1, 6, 5], &[], &start_checkpoint(), 1);
+    // The one clause is satisfied, so that all assignments of the six variables are models.
+    let input = encode(7, &[vec![1, 2, 3, 4, 5, 6, 7]]);
+    let last = [Assumption::from((7, true))];
+    let (first, lines) = filled(&input, &last, &start_checkpoint(), 1);
     assert_eq!(
         (first.lines, first.checkpoint[..2].to_vec()),
         (50, vec![1, 6])
     );
-    assert!(lines[0].starts_with("     1 000000 ") && lines[49].starts_with("    50 110001 "));
-    let (second, lines) = filled(&[1, 6, 5], &[], &first.checkpoint, 51);
+    assert!(lines[0].starts_with("     1 0000001 ") && lines[49].starts_with("    50 1100011 "));
+    let (second, lines) = filled(&input, &last, &first.checkpoint, 51);
     assert_eq!((second.lines, second.checkpoint), (14, ended()));
-    assert!(lines[0].starts_with("    51 110010 ") && lines[13].starts_with("    64 111111 "));
+    assert!(lines[0].starts_with("    51 1100101 ") && lines[13].starts_with("    64 1111111 "));
 }
 
 #[test]
@@ -103,22 +109,23 @@ fn as_many_models_as_lines_fill_a_page_and_leave_a_blank_one() {
 
 #[test]
 fn steps_are_those_since_the_checkpoint_that_is_handed_in() {
-    let input = encode(48, &[]);
+    // Some variable is true. The last one is assigned first, and where one is true the lowest that is left follows.
+    let input = encode(48, &[(1..=48).collect()]);
     let mut given = start_checkpoint();
     for (spent, steps) in [(0, 48), (3, 45), (40, 5)] {
         given = walk(&input, &[], &given, spent).unwrap().checkpoint;
         let (_, lines) = filled(&input, &[], &given, 1);
-        assert_eq!(lines[0], format!("     1 {} {steps:>3}", "0".repeat(48)));
-        assert_eq!(lines[1], format!("     2 {}1   2", "0".repeat(47)));
+        assert_eq!(lines[0], format!("     1 1{} {steps:>3}", "0".repeat(47)));
+        assert_eq!(lines[1], format!("     2 01{}   4", "0".repeat(46)));
     }
-    // Back from the model with variable 1 false and all others true, and forth again: as many steps as a call ever makes.
+    // Back from the model with variable 48 false and all others true, and forth again: as many steps as a call ever makes.
     let mut given = start_checkpoint();
-    given[..2].copy_from_slice(&[1, 48]);
-    for (byte, number) in given[2..].iter_mut().zip(1..) {
-        *byte = number + if number == 1 { 0 } else { 128 };
+    given[..4].copy_from_slice(&[1, 48, 48, 128 + 47]);
+    for (byte, number) in given[4..].iter_mut().zip(1..) {
+        *byte = 128 + number;
     }
     let (_, lines) = filled(&input, &[], &given, 1);
-    assert_eq!(lines[0], format!("     1 1{}  96", "0".repeat(47)));
+    assert_eq!(lines[0], format!("     1 {}1  96", "0".repeat(47)));
 }
 
 /// The serial, the page's length, the input, the assumptions, and the number and place.
@@ -153,6 +160,20 @@ fn refusals_come_in_their_order_and_leave_everything() {
     }
 }
 
+/// The columns of a model: a digit for each variable that some clause names or that is assumed, and a dash for any other.
+fn columns(input: &[u8], assumptions: &[Assumption], model: u64) -> String {
+    let named = named_variables(input);
+    let column = |v: u8| {
+        let assumed = assumptions.iter().any(|a| a.variable == v);
+        match (named >> (v - 1) & 1, model >> (v - 1) & 1) {
+            (0, _) if !assumed => '-',
+            (_, 0) => '0',
+            _ => '1',
+        }
+    };
+    (1..=input[1]).map(column).collect()
+}
+
 /// What the walk calls that a page stands for give, one after the other, and their lines.
 fn told(
     input: &[u8],
@@ -165,8 +186,7 @@ fn told(
         let walked = walk(input, assumptions, &checkpoint, LIST_BUDGET)?;
         checkpoint = walked.checkpoint;
         if let Answer::Model(model) = walked.progress.answer {
-            let variables = usize::from(input[1]);
-            let columns: String = format!("{model:0variables$b}").chars().rev().collect();
+            let columns = columns(input, assumptions, model);
             let steps = walked.progress.steps;
             text += &format!("{serial:>6} {columns:<48} {steps:>3}\n");
             lines += 1;

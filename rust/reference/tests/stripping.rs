@@ -6,8 +6,8 @@ use norwythai_reference::{
     Refusal, Walker, LIST_BUDGET,
 };
 use norwythai_samples::{
-    encode, some_accepted_formula, some_assumptions, some_checkpoint, some_input, Random, Stop,
-    Waits,
+    encode, listed_models, some_accepted_formula, some_assumptions, some_checkpoint, some_input,
+    Random, Stop, Waits,
 };
 use std::collections::BTreeMap;
 
@@ -348,7 +348,7 @@ fn a_walk_lists_all_models_and_waits_as_long_as_others() {
         let mut formula = decode(&input).unwrap();
         let assumed = formula.assume(&assumptions).unwrap();
         let mut walker = Walker::start(&formula, assumed).unwrap();
-        let to_assign = assumed.left_to_assign(&formula) as u32;
+        let to_assign = assumed.to_assign(&formula).count_ones();
         let mut waits = Waits::default();
         let mut found = Vec::new();
         loop {
@@ -368,10 +368,10 @@ fn a_walk_lists_all_models_and_waits_as_long_as_others() {
             found.push(model);
         }
         found.sort();
-        let keeps = |assignment: u64| assignment & assumed.variables == assumed.assignment;
-        let all: Vec<u64> = (0..1 << formula.variables())
-            .filter(|assignment| keeps(*assignment) && check(&input, *assignment) == Ok(true))
-            .collect();
+        let list: Vec<(u8, bool)> = assumptions.iter().map(|a| (a.variable, a.value)).collect();
+        let all = listed_models(&input, &list, |assignment| {
+            check(&input, assignment) == Ok(true)
+        });
         assert_eq!(found, all, "{input:?} {assumptions:?}");
         assuming += usize::from(!assumptions.is_empty());
         models += all.len();

@@ -1,6 +1,7 @@
 //! What calls get beside the input: assignments, budgets, buffers, marks, serials, and checkpoints that a walk may or may not have.
 
 use crate::random::Random;
+use crate::trials::named_variables;
 
 /// The bytes of a checkpoint.
 pub(crate) type Checkpoint = [u8; 50];
@@ -113,5 +114,43 @@ pub fn some_checkpoint(random: &mut Random, pool: &[Checkpoint]) -> Checkpoint {
         0..=3 => checkpoint,
         4..=7 => cut(random, checkpoint),
         _ => changed(random, checkpoint),
+    }
+}
+
+/// A checkpoint from those that walks of a readable formula have returned, with a variable more at the end of its trail, which no clause
+/// names: no walk has it. None if the clauses name every variable.
+pub fn with_unnamed(random: &mut Random, input: &[u8], pool: &[Checkpoint]) -> Option<Checkpoint> {
+    let named = named_variables(input);
+    let unnamed: Vec<u8> = (1..=input[1])
+        .filter(|v| named >> (v - 1) & 1 == 0)
+        .collect();
+    if unnamed.is_empty() {
+        return None;
+    }
+    let mut checkpoint = random.pick(pool);
+    let length = usize::from(checkpoint[1]);
+    checkpoint[0] = random.pick(&[1, 2, 3]);
+    checkpoint[1] += 1;
+    checkpoint[2 + length] = random.pick(&unnamed) + random.pick(&[0, 128]);
+    Some(checkpoint)
+}
+
+#[cfg(test)]
+mod tests {
+    use super::*;
+    use crate::formulas::encode;
+
+    #[test]
+    fn an_unnamed_variable_is_put_behind_the_trail() {
+        let mut random = Random::new(1);
+        let mut given = [0; 50];
+        given[..3].copy_from_slice(&[1, 1, 129]);
+        for _ in 0..20 {
+            let found = with_unnamed(&mut random, &encode(2, &[vec![1]]), &[given]).unwrap();
+            assert!((1..=3).contains(&found[0]) && found[1..3] == [2, 129]);
+            assert!(found[3] & 127 == 2 && found[4..] == [0; 46]);
+        }
+        let all = encode(2, &[vec![1, -2]]);
+        assert_eq!(with_unnamed(&mut random, &all, &[given]), None);
     }
 }

@@ -296,7 +296,26 @@ pub fn some_input_or_crowded(random: &mut Random, is_accepted: fn(&[u8]) -> bool
 #[cfg(test)]
 mod tests {
     use super::*;
+    use crate::trials::named_variables;
     use std::collections::BTreeSet;
+
+    #[test]
+    fn many_formulas_name_all_variables_and_many_do_not() {
+        let mut random = Random::new(1);
+        let (mut all, mut some, mut none) = (0, 0, 0);
+        for _ in 0..4_000 {
+            let input = some_formula(&mut random);
+            match named_variables(&input).count_ones() {
+                0 => none += 1,
+                named if named < u32::from(input[1]) => some += 1,
+                _ => all += 1,
+            }
+        }
+        assert!(
+            all > 2_000 && some > 800 && none > 40,
+            "{all} {some} {none}"
+        );
+    }
 
     #[test]
     fn many_formulas_repeat_literals_and_some_are_long() {

@@ -57,6 +57,7 @@ pub fn compare_check(tally: &mut Tally, input: &[u8], assignment: u64) {
     };
     assert_eq!(results, expected_results, "{input:02x?} {assignment:x}");
     tally.checks += 1;
+    tally.unnamed.checked(input, assignment, expected);
     match expected {
         Ok(true) => tally.yes += 1,
         Ok(false) => tally.no += 1,
@@ -184,6 +185,9 @@ pub fn compare_walk(
     tally
         .assuming
         .walked(input, assumed, given, budget, progress);
+    tally
+        .unnamed
+        .walked(input, assumed, given, budget, progress);
     match expected {
         Ok(reference::Walked { progress, .. }) => {
             tally.answered(progress.answer);
@@ -290,6 +294,7 @@ pub fn compare_list(
                 .stripped(assumed)
                 .listed(input, assumed, given, listed);
             tally.assuming.listed(input, assumed, given, length, listed);
+            tally.unnamed.listed(input, assumed, given, length, listed);
             Some(returned)
         }
         Err(refusal) => {

@@ -18,25 +18,29 @@ impl Assumed {
     pub fn some(random: &mut Random, input: &[u8]) -> Self {
         let mut assumed = Assumed::default();
         for (variable, value) in some_assumptions(random, input) {
-            assumed.list.push(Assumption { variable, value });
-            assumed.reference.push((variable, value).into());
             let truth = random.pick(&[1, 1, 2, 128, 255]);
-            assumed
-                .bytes
-                .extend([variable, if value { truth } else { 0 }]);
+            assumed.push(variable, value, truth);
         }
         assumed
+    }
+
+    /// One more, with this byte for true.
+    pub fn push(&mut self, variable: u8, value: bool, truth: u8) {
+        self.list.push(Assumption { variable, value });
+        self.reference.push((variable, value).into());
+        let byte = if value { truth } else { 0 };
+        self.bytes.extend([variable, byte]);
     }
 
     pub fn is_empty(&self) -> bool {
         self.list.is_empty()
     }
 
-    /// How many variables of a readable input are not assumed; none if the list is bad.
-    pub fn left_to_assign(&self, input: &[u8]) -> Option<usize> {
-        let mut formula = reference::decode(input).ok()?;
-        let masks = formula.assume(&self.reference).ok()?;
-        Some(masks.left_to_assign(&formula))
+    /// How many variables of a readable input are to be assigned; none if the list is bad.
+    pub fn to_assign(&self, input: &[u8]) -> Option<usize> {
+        let formula = reference::decode(input).ok()?;
+        let masks = formula.assumed(&self.reference).ok()?;
+        Some(masks.to_assign(&formula).count_ones() as usize)
     }
 
     /// Whether the input is accepted under the list, but only since stripping drops clauses.
@@ -49,11 +53,5 @@ impl Assumed {
     /// Whether the list has the variable of this number.
     pub fn has(&self, variable: u8) -> bool {
         self.list.iter().any(|a| a.variable == variable)
-    }
-
-    /// Whether the assignment has the assumed values.
-    pub fn kept_by(&self, assignment: u64) -> bool {
-        let kept = |a: &Assumption| (assignment >> (a.variable - 1) & 1 == 1) == a.value;
-        self.list.iter().all(kept)
     }
 }

@@ -9,6 +9,7 @@ mod deficiencies;
 mod pages;
 mod raw;
 mod tally;
+mod unnamed;
 mod weights;
 
 use acts::{
@@ -17,11 +18,11 @@ use acts::{
 };
 use assumed::Assumed;
 use deficiencies::compare_deficiencies;
-use norwythai::{Answer, Assumption, Checkpoint, Models, Refusal, LINE_SIZE, PAGE_SIZE};
+use norwythai::{Answer, Assumption, Checkpoint, Formula, Models, Refusal, LINE_SIZE, PAGE_SIZE};
 use norwythai_reference as reference;
 use norwythai_samples::{
-    encode, longest_path, some_accepted_formula, some_assignment, some_budget, some_checkpoint,
-    some_input, some_text, Random,
+    encode, listed_models, longest_path, named_variables, some_accepted_formula, some_assignment,
+    some_budget, some_checkpoint, some_input, some_text, with_unnamed, Random,
 };
 use pages::compare_pages;
 use tally::Tally;
@@ -59,6 +60,10 @@ fn compare_assuming(
             let given = random.pick(others);
             let taken = compare_walk(tally, input, assumed, &given, some_budget(random));
             tally.assuming.walked_on(assumed, &given, taken.is_some());
+        }
+        if let Some(given) = with_unnamed(random, input, &pool) {
+            compare_walk(tally, input, assumed, &given, some_budget(random));
+            compare_list(tally, input, assumed, &given, 2);
         }
     }
     for _ in 0..10 {
@@ -156,12 +161,12 @@ fn a_path_of_any_length_is_rematched() {
     }
 }
 
-/// The models that keep the assumptions, by a trial of all assignments.
+/// The models that a walk lists under the assumptions, by a trial of all assignments.
 fn all_models(input: &[u8], assumed: &Assumed) -> Vec<u64> {
+    let list = assumed.list.iter();
+    let pairs: Vec<(u8, bool)> = list.map(|a| (a.variable, a.value)).collect();
     let formula = reference::decode(input).unwrap();
-    (0..1 << formula.variables())
-        .filter(|assignment| formula.is_model(*assignment) && assumed.kept_by(*assignment))
-        .collect()
+    listed_models(input, &pairs, |assignment| formula.is_model(assignment))
 }
 
 /// A list under which the formula is accepted; often the empty one.
@@ -178,8 +183,9 @@ fn some_accepted(random: &mut Random, input: &[u8]) -> Assumed {
 fn list_and_models_give_exactly_all_models() {
     let mut random = Random::new(1);
     let (mut formulas, mut models, mut resumed) = (0, 0, 0);
-    // Lists under assumptions, those of them where nothing is left to assign, and lists of formulas that are accepted by stripping.
-    let (mut assuming, mut full, mut stripped) = (0, 0, 0);
+    // Lists under assumptions, those where nothing is to be assigned, and lists of formulas that are accepted by stripping or have unnamed
+    // variables.
+    let (mut assuming, mut nothing, mut stripped, mut unnamed) = (0, 0, 0, 0);
     while formulas < 800 {
         let input = some_accepted_formula(&mut random, is_accepted);
         if input[1] > 10 {
@@ -218,22 +224,25 @@ fn list_and_models_give_exactly_all_models() {
         formulas += 1;
         models += all.len();
         assuming += usize::from(!assumed.is_empty());
-        full += usize::from(assumed.left_to_assign(&input) == Some(0));
+        nothing += usize::from(assumed.to_assign(&input) == Some(0));
         stripped += usize::from(assumed.drops_clauses(&input));
+        unnamed += usize::from(named_variables(&input).count_ones() < input[1].into());
     }
     println!("{formulas} formulas, {models} models, taken up again {resumed} times");
-    println!("{assuming} under assumptions, {full} with nothing left to assign, {stripped} accepted by stripping");
+    println!("{assuming} under assumptions, {nothing} with nothing to assign");
+    println!("{stripped} accepted by stripping, {unnamed} with unnamed variables");
     assert!(models > 5_000 && resumed > 1_000);
-    assert!(assuming > 200 && full > 50 && stripped > 50);
+    assert!(assuming > 200 && nothing > 50 && stripped > 50 && unnamed > 100);
 }
 
-/// A formula of exactly 50 models, as many as a page has lines.
-const FULL_PAGE: &[u8] = &[1, 6, 3, 1, 2, 2, 2, 6, 4, 3, 1, 3, 4, 3, 5, 4, 5];
+/// Clauses over six variables with exactly 50 models, as many as a page has lines.
+const FULL_PAGE: [&[i8]; 3] = [&[1, 2, 3], &[-1, 4, 5, 6], &[-1, 2, 3, -4, 5]];
 
 /// Walks a formula page by page to its end, with each line under the next serial and with the iterator's next model. Gives how many lines
 /// each page has.
 fn page_by_page(input: &[u8], assumed: &Assumed, first: u32) -> Vec<usize> {
-    let mut models = Models::under(input, &assumed.list);
+    let formula = Formula::from(input);
+    let mut models = formula.models_under(&assumed.list);
     let mut checkpoint = Checkpoint::start();
     let mut serial = first;
     let mut lines = Vec::new();
@@ -243,8 +252,8 @@ fn page_by_page(input: &[u8], assumed: &Assumed, first: u32) -> Vec<usize> {
             norwythai::page(input, &assumed.list, &mut checkpoint, serial, &mut page).unwrap();
         for line in page.chunks(LINE_SIZE).take(paged.lines) {
             let model = models.next().unwrap().unwrap();
-            let digits = model.digits(input[1]).to_string();
-            let start = format!("{serial:>6} {digits:<48} ");
+            let columns = model.columns(&formula, &assumed.list).to_string();
+            let start = format!("{serial:>6} {columns:<48} ");
             assert!(line.starts_with(start.as_bytes()), "{input:02x?}");
             serial += 1;
         }
@@ -278,13 +287,17 @@ fn pages_have_all_models_under_rising_serials() {
 
 #[test]
 fn behind_a_full_page_the_last_one_is_blank() {
-    for first in [1, 9_990, 999_900] {
-        let lines = page_by_page(FULL_PAGE, &Assumed::default(), first);
+    let mut clauses: Vec<Vec<i8>> = FULL_PAGE.map(<[i8]>::to_vec).into();
+    // Variables that no clause names make no difference.
+    for (variables, first) in [(6, 1), (6, 9_990), (6, 999_900), (9, 1)] {
+        let lines = page_by_page(&encode(variables, &clauses), &Assumed::default(), first);
         assert_eq!(lines, [50, 0]);
     }
-    // Two more variables that are free: four full pages, and a blank one.
-    let free = [&[1, 8], &FULL_PAGE[2..]].concat();
-    let lines = page_by_page(&free, &Assumed::default(), 1);
+    // Two more variables, which have all values where variable 9 is true: four full pages, and a blank one.
+    clauses.push(vec![7, 8, 9]);
+    let mut last = Assumed::default();
+    last.push(9, true, 1);
+    let lines = page_by_page(&encode(9, &clauses), &last, 1);
     assert_eq!(lines, [50, 50, 50, 50, 0]);
 }
 

@@ -8,7 +8,7 @@ use crate::raw;
 use crate::tally::Tally;
 use norwythai::{Checkpoint, PAGE_SIZE};
 use norwythai_reference::{self as reference, Paged, Refusal};
-use norwythai_samples::{some_checkpoint, some_length, some_serial, Random};
+use norwythai_samples::{named_variables, some_checkpoint, some_length, some_serial, Random};
 use std::fmt;
 
 /// A page call, with the lent page as it is before.
@@ -108,7 +108,7 @@ pub fn compare_pages(
 }
 
 /// What must be seen of page calls, and of how many once at least.
-const PAGES: [(&str, usize); 17] = [
+const PAGES: [(&str, usize); 18] = [
     ("full", 10),
     ("with fewer lines", 20),
     ("blank", 20),
@@ -118,6 +118,7 @@ const PAGES: [(&str, usize); 17] = [
     ("from the end", 50),
     ("under assumptions", 10),
     ("of a formula that is accepted by stripping", 50),
+    ("with a dash", 20),
     ("with a digit more in the last serial", 50),
     ("with the highest serial", 20),
     ("with bytes behind it", 10),
@@ -155,8 +156,8 @@ impl Pages {
         seen.see("blank", paged.lines == 0);
 
         let [mode, length, ..] = call.given;
-        let left = call.assumed.left_to_assign(call.input);
-        let behind_model = mode == 1 && left == Some(length.into());
+        let to_assign = call.assumed.to_assign(call.input);
+        let behind_model = mode == 1 && to_assign == Some(length.into());
         let within = (1..=3).contains(&mode);
         seen.see("from the start", mode == 0);
         seen.see("from behind a model", behind_model);
@@ -165,6 +166,11 @@ impl Pages {
         seen.see("under assumptions", !call.assumed.is_empty());
         let stripped = call.assumed.drops_clauses(call.input);
         seen.see("of a formula that is accepted by stripping", stripped);
+
+        let named = named_variables(call.input);
+        let visible = |v: u8| named >> (v - 1) & 1 == 1 || call.assumed.has(v);
+        let dash = (1..=call.input[1]).any(|v| !visible(v));
+        seen.see("with a dash", dash && paged.lines > 0);
 
         let digits = |serial: u32| serial.to_string().len();
         let more = digits(call.serial) < digits(call.serial + 49);

@@ -5,6 +5,7 @@ use crate::counts::{write_refusals, Outcomes, Refusals, Seen};
 use crate::deficiencies::Deficiencies;
 use crate::is_accepted;
 use crate::pages::Pages;
+use crate::unnamed::Unnamed;
 use crate::weights::Weights;
 use norwythai_reference::{decode, Answer, Checkpoint, Listed, Progress, Refusal, Size};
 use std::fmt;
@@ -30,14 +31,23 @@ const WANTED: [(&str, usize); 27] = [
     ("walk: a checkpoint of another list is foreign", 500),
     ("walk: an assumed variable in the trail is foreign", 500),
     ("walk: mode 1 at length 0 is foreign", 500),
-    ("all assumed: the model on budget 0", 5_000),
-    ("all assumed: the model on another budget", 1_000),
-    ("all assumed: the end behind it on budget 0", 5_000),
-    ("all assumed: the end behind it on another budget", 1_000),
-    ("all assumed: other checkpoints are foreign", 500),
-    ("all assumed: a list without room keeps the model", 2_000),
-    ("all assumed: a list without room ends behind it", 10_000),
-    ("all assumed: a list has the model", 500),
+    ("nothing to assign: the model on budget 0", 5_000),
+    ("nothing to assign: the model on another budget", 1_000),
+    ("nothing to assign: the end behind it on budget 0", 5_000),
+    (
+        "nothing to assign: the end behind it on another budget",
+        1_000,
+    ),
+    ("nothing to assign: other checkpoints are foreign", 500),
+    (
+        "nothing to assign: a list without room keeps the model",
+        2_000,
+    ),
+    (
+        "nothing to assign: a list without room ends behind it",
+        10_000,
+    ),
+    ("nothing to assign: a list has the model", 500),
 ];
 
 /// What was seen of judge, walk and list under a list of assumptions that is not empty.
@@ -117,9 +127,11 @@ impl Assuming {
             Err(Refusal { number: 11, .. }) => true,
             Err(_) => return,
         };
-        if assumed.left_to_assign(input) == Some(0) {
+        if assumed.to_assign(input) == Some(0) {
             let answer = walked.map(|progress| progress.answer);
-            self.walked_without_steps(given, budget, answer);
+            if let Some(what) = walked_without_steps(given, budget, answer) {
+                self.see(what, true);
+            }
             return;
         }
         if let Ok(progress) = walked {
@@ -139,24 +151,6 @@ impl Assuming {
         let behind_nothing = *given == checkpoint(1);
         assert!(foreign || !behind_nothing);
         self.see("walk: mode 1 at length 0 is foreign", behind_nothing);
-    }
-
-    fn walked_without_steps(
-        &mut self,
-        given: &Checkpoint,
-        budget: u32,
-        answer: Result<Answer, Refusal>,
-    ) {
-        let what = match answer {
-            Ok(Answer::Model(_)) if budget == 0 => "all assumed: the model on budget 0",
-            Ok(Answer::Model(_)) => "all assumed: the model on another budget",
-            Ok(Answer::Spent) => panic!("a walk without steps is spent"),
-            Ok(Answer::Ended) if *given == checkpoint(4) => return,
-            Ok(Answer::Ended) if budget == 0 => "all assumed: the end behind it on budget 0",
-            Ok(Answer::Ended) => "all assumed: the end behind it on another budget",
-            Err(_) => "all assumed: other checkpoints are foreign",
-        };
-        self.see(what, true);
     }
 
     /// A walk call with a checkpoint that was made under another list, be it the empty one; the start is every list's.
@@ -179,17 +173,10 @@ impl Assuming {
             return;
         }
         self.calls += 1;
-        if assumed.left_to_assign(input) != Some(0) {
-            return;
-        }
-        if *given == checkpoint(0) && room == 0 {
-            let kept = listed.answer == Answer::Spent && listed.checkpoint == *given;
-            self.see("all assumed: a list without room keeps the model", kept);
-        } else if *given == checkpoint(0) {
-            self.see("all assumed: a list has the model", listed.written == 1);
-        } else if *given == checkpoint(1) && room == 0 {
-            let ended = listed.answer == Answer::Ended && listed.checkpoint == checkpoint(4);
-            self.see("all assumed: a list without room ends behind it", ended);
+        if assumed.to_assign(input) == Some(0) {
+            if let Some(what) = listed_without_steps(given, room, listed) {
+                self.see(what, true);
+            }
         }
     }
 
@@ -303,6 +290,42 @@ fn checkpoint(mode: u8) -> Checkpoint {
     checkpoint
 }
 
+/// What a walk call shows where nothing is to be assigned, in the words of a tally.
+pub fn walked_without_steps(
+    given: &Checkpoint,
+    budget: u32,
+    answer: Result<Answer, Refusal>,
+) -> Option<&'static str> {
+    Some(match answer {
+        Ok(Answer::Model(_)) if budget == 0 => "nothing to assign: the model on budget 0",
+        Ok(Answer::Model(_)) => "nothing to assign: the model on another budget",
+        Ok(Answer::Spent) => panic!("a walk without steps is spent"),
+        Ok(Answer::Ended) if *given == checkpoint(4) => return None,
+        Ok(Answer::Ended) if budget == 0 => "nothing to assign: the end behind it on budget 0",
+        Ok(Answer::Ended) => "nothing to assign: the end behind it on another budget",
+        Err(_) => "nothing to assign: other checkpoints are foreign",
+    })
+}
+
+/// What a list with room for so many models shows there.
+pub fn listed_without_steps(
+    given: &Checkpoint,
+    room: usize,
+    listed: Listed,
+) -> Option<&'static str> {
+    if *given == checkpoint(0) && room == 0 {
+        let kept = listed.answer == Answer::Spent && listed.checkpoint == *given;
+        kept.then_some("nothing to assign: a list without room keeps the model")
+    } else if *given == checkpoint(0) {
+        (listed.written == 1).then_some("nothing to assign: a list has the model")
+    } else if *given == checkpoint(1) && room == 0 {
+        let ended = listed.answer == Answer::Ended && listed.checkpoint == checkpoint(4);
+        ended.then_some("nothing to assign: a list without room ends behind it")
+    } else {
+        None
+    }
+}
+
 /// How often what was seen, so that a run that tests little fails.
 #[derive(Default)]
 pub struct Tally {
@@ -338,6 +361,7 @@ pub struct Tally {
     /// Refusals of all acts but weigh, deficiency, page and those between formulas and texts.
     refusals: Refusals,
     pub assuming: Assuming,
+    pub unnamed: Unnamed,
     /// Without assumptions, and under some.
     stripped: [Stripped; 2],
     /// Readable inputs in which a literal comes again in its clause, and those that are longer than the printing program takes.
@@ -426,6 +450,7 @@ impl Tally {
             assert!(*seen >= calls / 2000, "refusal {number}: only {seen}");
         }
         self.assuming.require_enough();
+        self.unnamed.require_enough();
         self.weights.require_enough();
         self.deficiencies.require_enough();
         self.pages.require_enough();
@@ -481,6 +506,7 @@ impl fmt::Display for Tally {
         let [without, under] = &self.stripped;
         write!(f, "\naccepted by stripping, without assumptions: {without}")?;
         write!(f, "\naccepted by stripping, under assumptions: {under}")?;
+        write!(f, "\nwith unnamed variables: {}", self.unnamed)?;
         write!(f, "\n{}", self.assuming)
     }
 }

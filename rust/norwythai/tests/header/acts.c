@@ -309,16 +309,62 @@ static int test_all_assumed(void) {
     return 0;
 }
 
-/* No clauses over six variables: 64 models, of which 50 are on the first page. */
-static const uint8_t TWO_PAGES[] = {1, 6, 5};
+/* Variables that no clause names: (1, 2), of three variables, and none named of two. */
+static const uint8_t FIRST_TWO[] = {1, 3, 2, 1, 2, 2, 4, 5};
+static const uint8_t NONE_NAMED[] = {1, 2, 5};
 
-/* Whether a line has this serial, these digits and these steps. */
-static int is_line(const uint8_t *line, const char *serial, const char *digits, const char *steps) {
+static int test_unnamed(void) {
+    /* The unnamed variable as true, behind the named one. */
+    static const uint8_t WITH_THIRD[] = {1, 2, 2, 128 + 3};
+    const uint8_t byte = 0;
+    uint8_t checkpoint[NORWYTHAI_CHECKPOINT];
+    uint64_t models[3] = {7, 7, 7}, results[NORWYTHAI_RESULTS];
+
+    /* The satisfied clause names variable 2, which comes both ways; variable 3 is false. */
+    REQUIRE(norwythai_start(checkpoint, sizeof checkpoint) == 0);
+    REQUIRE(norwythai_list(FIRST_TWO, sizeof FIRST_TWO, FIRST_TRUE, 2, checkpoint, sizeof checkpoint, models, 3, results,
+                           NORWYTHAI_RESULTS) == 0);
+    REQUIRE(results[0] == NORWYTHAI_ENDED && results[4] == 2 && models[0] == 1 && models[1] == 3 && models[2] == 7);
+    REQUIRE(norwythai_check(FIRST_TWO, sizeof FIRST_TWO, 5, results, NORWYTHAI_RESULTS) == 0);
+    REQUIRE(results[0] == NORWYTHAI_YES);
+    REQUIRE(norwythai_start(checkpoint, sizeof checkpoint) == 0);
+    memcpy(checkpoint, WITH_THIRD, sizeof WITH_THIRD);
+    REQUIRE(norwythai_walk(FIRST_TWO, sizeof FIRST_TWO, FIRST_TRUE, 2, checkpoint, sizeof checkpoint, 96, results,
+                           NORWYTHAI_RESULTS) == 0);
+    REQUIRE(results[0] == NORWYTHAI_REFUSED && results[2] == 11 && results[3] == 0);
+
+    /* Nothing is to be assigned: one model, and no steps. */
+    REQUIRE(norwythai_start(checkpoint, sizeof checkpoint) == 0);
+    REQUIRE(norwythai_walk(NONE_NAMED, sizeof NONE_NAMED, &byte, 0, checkpoint, sizeof checkpoint, 0, results,
+                           NORWYTHAI_RESULTS) == 0);
+    REQUIRE(results[0] == NORWYTHAI_MODEL && results[1] == 0 && results[4] == 0 && results[5] == 0);
+    REQUIRE(checkpoint[0] == 1 && checkpoint[1] == 0);
+    REQUIRE(norwythai_walk(NONE_NAMED, sizeof NONE_NAMED, &byte, 0, checkpoint, sizeof checkpoint, 0, results,
+                           NORWYTHAI_RESULTS) == 0);
+    REQUIRE(results[0] == NORWYTHAI_ENDED && results[4] == 0 && checkpoint[0] == 4);
+    /* A variable that is assumed has its value. */
+    REQUIRE(norwythai_start(checkpoint, sizeof checkpoint) == 0);
+    REQUIRE(norwythai_walk(NONE_NAMED, sizeof NONE_NAMED, FIRST_TRUE, 2, checkpoint, sizeof checkpoint, 96, results,
+                           NORWYTHAI_RESULTS) == 0);
+    REQUIRE(results[0] == NORWYTHAI_MODEL && results[1] == 1 && results[4] == 0);
+    /* Something is to be assigned: no walk has mode 1 at length 0. */
+    REQUIRE(norwythai_walk(INPUT, sizeof INPUT, FIRST_TRUE, 2, checkpoint, sizeof checkpoint, 96, results, NORWYTHAI_RESULTS) == 0);
+    REQUIRE(results[0] == NORWYTHAI_REFUSED && results[2] == 11);
+    return 0;
+}
+
+/* One clause of all seven variables. With the last one true all assignments of the others are models, 64 of them, of which 50 are on the
+   first page. */
+static const uint8_t TWO_PAGES[] = {1, 7, 2, 1, 2, 2, 2, 3, 2, 4, 2, 5, 2, 6, 2, 7, 4, 5};
+static const uint8_t SEVENTH_TRUE[] = {7, 1};
+
+/* Whether a line has this serial, these columns and these steps. */
+static int is_line(const uint8_t *line, const char *serial, const char *columns, const char *steps) {
     char expected[NORWYTHAI_LINE_SIZE];
 
     memset(expected, ' ', sizeof expected);
     memcpy(expected, serial, 6);
-    memcpy(expected + 7, digits, strlen(digits));
+    memcpy(expected + 7, columns, strlen(columns));
     memcpy(expected + 56, steps, 3);
     expected[NORWYTHAI_LINE_SIZE - 1] = '\n';
     return memcmp(line, expected, sizeof expected) == 0;
@@ -326,7 +372,6 @@ static int is_line(const uint8_t *line, const char *serial, const char *digits, 
 
 static int test_page(void) {
     static uint8_t page[NORWYTHAI_PAGE_SIZE + 5];
-    const uint8_t byte = 0;
     uint8_t checkpoint[NORWYTHAI_CHECKPOINT];
     uint64_t results[NORWYTHAI_RESULTS];
     const uint8_t *last = page + NORWYTHAI_LINE_SIZE * (NORWYTHAI_PAGE_LINES - 1);
@@ -336,16 +381,16 @@ static int test_page(void) {
     REQUIRE(NORWYTHAI_MAX_SERIAL + NORWYTHAI_PAGE_LINES - 1 == 999999);
     memset(page, 7, sizeof page);
     REQUIRE(norwythai_start(checkpoint, sizeof checkpoint) == 0);
-    REQUIRE(norwythai_page(TWO_PAGES, sizeof TWO_PAGES, &byte, 0, checkpoint, sizeof checkpoint, 960, page, sizeof page, results,
+    REQUIRE(norwythai_page(TWO_PAGES, sizeof TWO_PAGES, SEVENTH_TRUE, 2, checkpoint, sizeof checkpoint, 960, page, sizeof page, results,
                            NORWYTHAI_RESULTS) == 0);
     REQUIRE(results[0] == NORWYTHAI_FULL && results[1] == 0 && results[4] == NORWYTHAI_PAGE_LINES && results[5] == 0);
-    REQUIRE(is_line(page, "   960", "000000", "  6") && is_line(page + NORWYTHAI_LINE_SIZE, "   961", "000001", "  2"));
-    REQUIRE(is_line(last, "  1009", "110001", "  2") && page[NORWYTHAI_PAGE_SIZE] == 7);
+    REQUIRE(is_line(page, "   960", "0000001", "  6") && is_line(page + NORWYTHAI_LINE_SIZE, "   961", "0000011", "  2"));
+    REQUIRE(is_line(last, "  1009", "1100011", "  2") && page[NORWYTHAI_PAGE_SIZE] == 7);
     REQUIRE(checkpoint[0] == 1 && checkpoint[1] == 6);
-    REQUIRE(norwythai_page(TWO_PAGES, sizeof TWO_PAGES, &byte, 0, checkpoint, sizeof checkpoint, 1010, page, sizeof page, results,
+    REQUIRE(norwythai_page(TWO_PAGES, sizeof TWO_PAGES, SEVENTH_TRUE, 2, checkpoint, sizeof checkpoint, 1010, page, sizeof page, results,
                            NORWYTHAI_RESULTS) == 0);
     REQUIRE(results[0] == NORWYTHAI_ENDED && results[4] == 14 && checkpoint[0] == 4);
-    REQUIRE(is_line(page, "  1010", "110010", "  4"));
+    REQUIRE(is_line(page, "  1010", "1100101", "  4"));
     for (line = 14; line < NORWYTHAI_PAGE_LINES; line++) {
         REQUIRE(is_line(page + NORWYTHAI_LINE_SIZE * line, "      ", "", "   "));
     }
@@ -356,6 +401,15 @@ static int test_page(void) {
     REQUIRE(norwythai_page(INPUT, sizeof INPUT, FIRST_TRUE, 2, checkpoint, sizeof checkpoint, NORWYTHAI_MAX_SERIAL, page,
                            NORWYTHAI_PAGE_SIZE, results, NORWYTHAI_RESULTS) == 0);
     REQUIRE(results[0] == NORWYTHAI_ENDED && results[4] == 1 && is_line(page, "999950", "10", "  1"));
+    /* One that is neither assumed nor named has a dash. */
+    REQUIRE(norwythai_start(checkpoint, sizeof checkpoint) == 0);
+    REQUIRE(norwythai_page(FIRST_TWO, sizeof FIRST_TWO, FIRST_TRUE, 2, checkpoint, sizeof checkpoint, 1, page, NORWYTHAI_PAGE_SIZE,
+                           results, NORWYTHAI_RESULTS) == 0);
+    REQUIRE(results[4] == 2 && is_line(page, "     1", "10-", "  1") && is_line(page + NORWYTHAI_LINE_SIZE, "     2", "11-", "  2"));
+    REQUIRE(norwythai_start(checkpoint, sizeof checkpoint) == 0);
+    REQUIRE(norwythai_page(NONE_NAMED, sizeof NONE_NAMED, FIRST_TRUE, 2, checkpoint, sizeof checkpoint, 1, page, NORWYTHAI_PAGE_SIZE,
+                           results, NORWYTHAI_RESULTS) == 0);
+    REQUIRE(results[4] == 1 && is_line(page, "     1", "1-", "  0"));
     return 0;
 }
 
@@ -469,6 +523,6 @@ static int test_lengths(void) {
 int main(void) {
     return test_check() || test_judge() || test_judge_by_stripping() || test_judge_under_assumptions() || test_weigh() ||
            test_deficiency() || test_walk() || test_waits(1) || test_waits(4) || test_waits(96) || test_list() ||
-           test_list_by_stripping() || test_walk_under_assumptions() || test_all_assumed() ||
+           test_list_by_stripping() || test_walk_under_assumptions() || test_all_assumed() || test_unnamed() ||
            test_page() || test_refused_page() || test_from_dimacs() || test_to_dimacs() || test_lengths();
 }

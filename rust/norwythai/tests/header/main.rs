@@ -114,6 +114,10 @@ fn the_example_lists_models_in_batches() {
     assert!(output.status.success());
     assert_eq!(output.stdout, b"batch 1\n01\nbatch 2\n10\n");
 
+    let output = batches(repository("examples/unnamed.bin"), "2");
+    assert!(output.status.success());
+    assert_eq!(output.stdout, b"batch 1\n0-0-\n1-0-\nbatch 2\n1-1-\n");
+
     let output = batches(repository("examples/unmatched.bin"), "1");
     assert!(!output.status.success());
     assert_eq!(output.stderr, b"batches: refused 10 at 3\n");
@@ -141,7 +145,7 @@ fn the_example_lists_models_in_batches() {
     std::fs::write(&file, input).unwrap();
     let output = batches(file, "2");
     assert!(output.status.success());
-    assert_eq!(output.stdout, b"batch 1\n10\n11\n");
+    assert_eq!(output.stdout, b"batch 1\n1-\n");
 }
 
 #[test]

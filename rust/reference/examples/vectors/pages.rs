@@ -164,7 +164,7 @@ mod tests {
 
     #[test]
     fn pages_of_all_kinds_are_written() {
-        let lines = generated_vectors(1, 300);
+        let lines = generated_vectors(1, 600);
         let count = |words: &[&str]| count_with(&lines, words);
         let page = "\"act\": \"page\"";
         for refusal in [2, 10, 11, 16, 17, 18] {

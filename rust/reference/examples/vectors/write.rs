@@ -9,7 +9,7 @@ use norwythai_reference::{
 };
 use norwythai_samples::{
     some_assignment, some_assumptions, some_budget, some_checkpoint, some_crowded_input,
-    some_input, some_length, some_text, Random,
+    some_input, some_length, some_text, with_unnamed, Random,
 };
 
 /// A longer input or printed walk takes much of a file of the corpus. Such an input is given to fewer calls, or left out if it is a crowded
@@ -267,6 +267,10 @@ fn assuming_lines(
             .collect();
         let (chain, checkpoints) = chain_line(from, input, assumptions, &budgets);
         lines.push(chain);
+        if let Some(given) = with_unnamed(random, input, &checkpoints) {
+            let budget = some_budget(random);
+            lines.push(walk_line(from, input, assumptions, &given, budget));
+        }
         known.extend(checkpoints);
         lines.extend(listing_line(from, input, assumptions));
         let first = walk(input, assumptions, &start_checkpoint(), LIST_BUDGET);
@@ -357,6 +361,7 @@ pub mod tests {
     use super::*;
     use crate::compare::{compare_line, field};
     use crate::values::{from_hex, number};
+    use norwythai_samples::named_variables;
 
     /// The specification's example, S12.3: clauses (1, 2) and (not 1, not 2).
     pub const EXAMPLE: &[u8] = &[1, 2, 2, 1, 2, 2, 4, 3, 1, 3, 2, 4, 5];
@@ -402,7 +407,8 @@ pub mod tests {
             "{\"act\": \"listing\", \"from\": \"edge\", \"sheet\": \"01020201020204030103020405\", \
              \"fixings\": [[1, 1]], \"setups\": [[\"0000000000000001\", 1, 0]], \"end\": [1, 0]}"
         );
-        assert_eq!(listing_line("edge", &[1, 6, 5], &[]), None);
+        let many = [1, 6, 2, 1, 2, 2, 2, 3, 2, 4, 2, 5, 2, 6, 4, 5];
+        assert_eq!(listing_line("edge", &many, &[]), None);
     }
 
     #[test]
@@ -506,10 +512,59 @@ pub mod tests {
     }
 
     #[test]
+    fn unnamed_variables_are_written() {
+        let lines = generated_vectors(1, 300);
+        let count = |words: &[&str]| count_with(&lines, words);
+        let wanted = [
+            // dashes before and behind digits, and alone
+            ["\"act\": \"printed\"", "-0", "0-"],
+            ["\"act\": \"printed\"", "\\n-", " 0 0\\nend 0 0\\n"],
+            ["\"act\": \"page\"", "-1", "0-"],
+            ["\"act\": \"page\"", "\"fixings\": [[", "-0"],
+            // nothing is to be assigned without assumptions: the model, behind it, and a whole walk
+            [
+                "\"act\": \"walk\"",
+                "\"fixings\": [], ",
+                "\"answer\": \"set-up\", \"refusal\": null, \"setup\": \"0000000000000000\", \"marker_out\": \"010000",
+            ],
+            [
+                "\"act\": \"walk\"",
+                "\"fixings\": [], \"marker\": \"010000",
+                "\"answer\": \"ended\"",
+            ],
+            [
+                "\"act\": \"listing\"",
+                "\"fixings\": [], ",
+                "\"end\": [0, 0]",
+            ],
+        ];
+        for words in wanted {
+            assert!(count(&words) > 0, "{words:?}");
+        }
+        // Checkpoints whose last variable no clause names, and assignments that are models but are not listed.
+        let (mut foreign, mut unlisted) = (0, 0);
+        for line in &lines {
+            let bytes = |name| from_hex(field(line, name).unwrap()).unwrap();
+            if line.contains("\"refusal\": [11, ") && line.contains("\"act\": \"walk\"") {
+                let (input, given) = (bytes("sheet"), bytes("marker"));
+                let (length, named) = (usize::from(given[1]), named_variables(&input));
+                let last = given[1 + length.clamp(1, 48)] & 127;
+                let is_unnamed = (1..=input[1]).contains(&last) && named >> (last - 1) & 1 == 0;
+                foreign += usize::from(is_unnamed && length <= 48);
+            }
+            if line.contains("\"answer\": \"yes\"") {
+                let assignment = u64::from_str_radix(field(line, "setup").unwrap(), 16).unwrap();
+                unlisted += usize::from(assignment & !named_variables(&bytes("sheet")) != 0);
+            }
+        }
+        assert!(foreign > 20 && unlisted > 20, "{foreign} {unlisted}");
+    }
+
+    #[test]
     fn formulas_that_strip_down_are_written() {
         // Judged without assumptions, and under some.
         let (mut wholly, mut in_part) = ([0; 2], [0; 2]);
-        let lines = generated_vectors(1, 300);
+        let lines = generated_vectors(1, 600);
         for line in lines.iter().filter(|l| l.contains("\"act\": \"judge\"")) {
             let clauses: usize = number(field(line, "m").unwrap()).unwrap();
             let slate = from_hex(field(line, "slate").unwrap()).unwrap();
