@@ -16,7 +16,7 @@ max-input = 16384
 abbrev pub max-header : ℕ
 max-header = 21
 
--- the longest line of a model: the digits of all variables, two digits of steps, seven of expansions, two blanks and the line feed
+-- the longest line of a model: the columns of all variables, two digits of steps, seven of expansions, two blanks and the line feed
 abbrev pub max-model-line : ℕ
 max-model-line = max-variables + 12
 

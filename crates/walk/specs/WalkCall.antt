@@ -8,7 +8,7 @@ use Rattle.walk.specs.Checkpoints.{Checkpoint}
 use Rattle.walk.specs.Results.{Result, refusing}
 use Rattle.walk.specs.InnerLocate.{task-call}
 
--- An accepted input is walked, all variables to assign but those that are assumed; any other input gets its refusal. The call on a task
+-- An accepted input is walked as its formula's task under the assumptions; any other input gets its refusal. The call on a task
 -- is, from a checkpoint that its walk has, the plain machine's from the checkpoint's state, and 11 from any other: `from-checkpoint`,
 -- `foreign-returned` in proofs/Demands.antt.
 abbrev pub call-on : Acceptance → Checkpoint → ℕ → Result

@@ -95,8 +95,8 @@ returns c =
     let steps = feed .before .before .before .before in
     let second = steps .before .before .before .before in
     let rest = second .before .before .before .before in
-    let digits = rest .before .before .before .before in
-    let first = digits .before .before .before .before in
+    let shown = rest .before .before .before .before in
+    let first = shown .before .before .before .before in
     let serial = first .before .before .before .before in
     let s = from-serial serial in
     let h : 0 ≤ length (s .args .line .now) = omega arith in
@@ -109,7 +109,7 @@ returns c =
     (wrote-more h
     (wrote-more h
     (wrote-more h (serial .put-right .ensures) (first .put-byte .ensures))
-    (digits .put-columns .ensures))
+    (shown .put-columns .ensures))
     (rest .put-blanks .ensures))
     (second .put-byte2 .ensures))
     (steps .put-right2 .ensures))
