@@ -97,7 +97,7 @@ hidden-exactly n us cs v =
     let e = unders.visible-bit n (map literal-of us) cs v in
     (λ h. or-none (named cs v) _ (sym e ∙ h), λ w. e ∙ rw (w .0, w .1))
 
--- S23.5: where the clauses name every variable, all that are not assumed are to be assigned, as before there was S23.
+-- S23.5: where the clauses name every variable, all that are not assumed are to be assigned, as it was before slip 10.
 pub all-named : (n : ℕ) (us : List Assumption) (cs : List (List Literal)) → Sized n cs → ((v : ℕ) → v < n → named cs v ≡ true)
     → under n (map literal-of us) cs .scope ≡ minus (full n) (variables (map literal-of us))
 all-named n us cs = unders.all-named n (map literal-of us) cs
@@ -253,6 +253,14 @@ module _ (s : List ℕ) (us : List Assumption) (n : ℕ) (cs : List (List Litera
     λ h. unders.outside n (map literal-of us) cs a (λ w. h (listing-exact a .1 (m, g, w))),
     λ w i. ⊎-elim (λ x. bool-clash x (w .2)) (λ x. bool-clash x (w .3)) (listing-exact a .0 i .2 (w .0) (w .1)),
   )
+
+  -- S23.5: where the clauses name every variable, every call is that on the task with all variables to assign that are not assumed, which
+  -- was the formula's before slip 10.
+  pub call-all-named : ((v : ℕ) → v < n → named cs v ≡ true) → (c : Checkpoint) (b : ℕ)
+      → walk-call s us c b ≡ task-call (record { variables = n; clauses = cs; scope = minus (full n) (variables (map literal-of us)); before = map literal-of us }) c b
+  call-all-named all c b =
+      walks c b
+      ∙ ap (λ (m : ℕ). task-call (record { variables = n; clauses = cs; scope = m; before = map literal-of us }) c b) (all-named n us cs sized all)
 
   -- S6.6: at every node of the walk that is not full, a value of the chosen variable is open exactly if some model keeps the assumptions,
   -- agrees with the trail and has it.
