@@ -1,5 +1,8 @@
 //! Judge, walk and list under assumptions.
 
+mod common;
+
+use common::{assuming, checkpoint, is_accepted};
 use norwythai_reference::bits::{bit, numbers};
 use norwythai_reference::{
     check, decode, judge, list, start_checkpoint, walk, Answer, Assumption, Checkpoint, Formula,
@@ -12,25 +15,8 @@ use norwythai_samples::{
 /// The specification's example, S12.3: clauses (1, 2) and (not 1, not 2).
 const EXAMPLE: &[u8] = &[1, 2, 2, 1, 2, 2, 4, 3, 1, 3, 2, 4, 5];
 
-/// Assumptions as literals: a negative number assumes that the variable is false.
-fn assuming(literals: &[i8]) -> Vec<Assumption> {
-    let assumption = |literal: &i8| (literal.unsigned_abs(), *literal > 0).into();
-    literals.iter().map(assumption).collect()
-}
-
 fn refusal(number: u8, place: usize) -> Refusal {
     Refusal { number, place }
-}
-
-/// A checkpoint by its mode, length and the first bytes of its trail.
-fn checkpoint(bytes: &[u8]) -> Checkpoint {
-    let mut checkpoint = start_checkpoint();
-    checkpoint[..bytes.len()].copy_from_slice(bytes);
-    checkpoint
-}
-
-fn is_accepted(input: &[u8]) -> bool {
-    judge(input, &[], &mut [0; 96]).is_ok()
 }
 
 fn some_list(random: &mut Random, input: &[u8]) -> Vec<Assumption> {

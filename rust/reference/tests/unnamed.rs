@@ -1,9 +1,12 @@
 //! Variables that no clause names: a walk does not assign them, they are false in its models unless they are assumed to be true, and a dash
 //! stands in their columns unless they are assumed.
 
+mod common;
+
+use common::{assuming, checkpoint, is_accepted};
 use norwythai_reference::{
-    check, decode, judge, page, print, start_checkpoint, walk, Answer, Assumption, Checkpoint,
-    Refusal, LINE_SIZE, LIST_BUDGET, PAGE_SIZE,
+    check, decode, judge, page, print, start_checkpoint, walk, Answer, Assumption, Refusal,
+    LINE_SIZE, LIST_BUDGET, PAGE_SIZE,
 };
 use norwythai_samples::{
     encode, listed_models, named_variables, some_accepted_formula, some_assumptions, some_input,
@@ -21,23 +24,6 @@ const FOREIGN: Refusal = Refusal {
     number: 11,
     place: 0,
 };
-
-/// Assumptions as literals: a negative number assumes that the variable is false.
-fn assuming(literals: &[i8]) -> Vec<Assumption> {
-    let assumption = |literal: &i8| (literal.unsigned_abs(), *literal > 0).into();
-    literals.iter().map(assumption).collect()
-}
-
-/// A checkpoint by its mode, length and the first bytes of its trail.
-fn checkpoint(bytes: &[u8]) -> Checkpoint {
-    let mut checkpoint = start_checkpoint();
-    checkpoint[..bytes.len()].copy_from_slice(bytes);
-    checkpoint
-}
-
-fn is_accepted(input: &[u8]) -> bool {
-    judge(input, &[], &mut [0; 96]).is_ok()
-}
 
 /// The whole walk, by calls of an ample budget: each model with its steps, and the steps to the end.
 fn listing(input: &[u8], assumptions: &[Assumption]) -> (Vec<(u64, u32)>, u32) {
