@@ -4,12 +4,12 @@ use mathlib.Core.Bool.{true, false}
 use mathlib.Core.Path.{_≡_}
 use lib.Bits.{bitOr}
 use borrow.Author.Tests.{ne-eqb}
-use Rattle.masks.specs.Mask.{minus, members}
+use Rattle.masks.specs.Mask.{minus}
 use Rattle.formula.specs.declared.Formula.{Formula}
 use Rattle.splitting.specs.declared.Assignment.{Assignment}
 use Rattle.splitting.specs.declared.Reduced.{Reduced}
 use Rattle.splitting.specs.declared.Survey.{Survey}
-use Rattle.splitting.specs.InnerChoose.{node, survey-of, reduced, passing, greatest, listed-last, mask-choice}
+use Rattle.splitting.specs.InnerChoose.{node, survey-of, reduced, passing, busiest-first, greatest, listed-last, mask-choice}
 use Rattle.splitting.specs.Choosing.{last}
 
 -- ---- the choice
@@ -18,7 +18,7 @@ module _ (f : Formula) (scope : ℕ) (a : Assignment) (names : Survey) (n : name
   module _ (t : names .any ≡ true) (r : Reduced) (e : r ≡ reduced f a) where
     -- stripping leaves clauses
     pub chosen-passing : r .survey .any ≡ true
-        → passing f (r .assignment) (members (bitOr (r .survey .positive) (r .survey .negative)) 64) 0 ≡ mask-choice f scope a
+        → passing f (r .assignment) (busiest-first (node f (r .assignment))) 0 ≡ mask-choice f scope a
     unfolding mask-choice
     chosen-passing s = rw (mask-choice, ← n, t, ← e, s)
 

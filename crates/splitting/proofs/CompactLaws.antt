@@ -14,14 +14,12 @@ use borrow.Author.Tests.{not-true, eqb-true}
 use Rattle.limits.specs.Limits.{max-clauses}
 use Rattle.lists.specs.Every.{Every}
 use Rattle.lists.specs.Tabulated.{tabulated}
-use Rattle.lists.proofs.EveryLaws.{every-of, every-getD}
-use Rattle.lists.proofs.SublistLaws.{element-place}
+use Rattle.lists.proofs.EveryLaws.{every-getD}
 use Rattle.lists.proofs.TabulatedLaws.{length-tabulated}
 use Rattle.lists.proofs.TestLaws.{and-left, and-right, or-cases, or-none, bool-cases, bool-clash}
-use Rattle.masks.specs.Mask.{bit, with, minus, members}
+use Rattle.masks.specs.Mask.{bit, with, minus}
 use Rattle.masks.specs.InnerMask.{lowest}
 use Rattle.masks.proofs.BitLaws.{bit-or, bit-xor, bit-minus, bit-none}
-use Rattle.masks.proofs.MembersLaws.{members-are}
 use Rattle.matching.specs.Result.{packed}
 use Rattle.matching.specs.Search.{outcome, succeeds, expansions}
 use Rattle.formula.specs.declared.Clause.{Clause}
@@ -34,10 +32,12 @@ use Rattle.splitting.specs.declared.Reduced.{Reduced}
 use Rattle.splitting.specs.declared.Survey.{Survey}
 use Rattle.splitting.specs.declared.Trial.{Trial}
 use Rattle.splitting.specs.Choosing.{both-open}
-use Rattle.splitting.specs.InnerChoose.{assigned, set-to, satisfied-under, left-under, open-clauses, node, unnamed, unassigned, formula-at, clauses-in, clause-in, formula-in, Small, surveys, survey-from, survey-of, matching-at, pure-of, reduce-from, reduced, tried, passing, greatest, listed-last, mask-choice}
+use Rattle.splitting.specs.InnerChoose.{assigned, set-to, satisfied-under, left-under, open-clauses, node, unnamed, unassigned, formula-at, clauses-in, clause-in, formula-in, Small, surveys, survey-from, survey-of, matching-at, pure-of, reduce-from, reduced, tried, passing, occurrences-in, busiest-first, greatest, listed-last, mask-choice}
 use Rattle.splitting.proofs.NodeMatchingLaws.{small-at}
 use Rattle.splitting.proofs.ReduceLaws.{pure-lowest, next-of, reduce-done, reduce-turn}
 use Rattle.splitting.proofs.LastMemberLaws.{greatest-member}
+use Rattle.splitting.proofs.SearchLaws.{every-among}
+use Rattle.splitting.proofs.OrderLaws.{by-count-of}
 use Rattle.splitting.proofs.ChosenLaws.{chosen-passing, chosen-noted, chosen-other}
 use Rattle.splitting.proofs.MaskNodeLaws.{clause-same, meets-none, satisfied-more, survey-side, surveys-side, assign-masks, open-of, open-more, open-list, open-none, left-side, assigned-more}
 
@@ -163,6 +163,22 @@ survey-none v sign s (c ∷ cs) e =
     let w = survey-none v sign (surveys s c) cs e in
     let u = or-none (bit (survey-side s sign) v) (bit (side c sign) v) (sym (surveys-side s c sign v) ∙ w .0) in
     (u .0, (u .1, w .1))
+
+-- a variable that is counted at a node is not assigned
+none-counted : (v : ℕ) (cs : List Clause) → Every (λ c. bit (side c true) v ≡ false) cs → Every (λ c. bit (side c false) v ≡ false) cs → occurrences-in cs v ≡ 0
+unfolding occurrences-in
+none-counted v [] p q = refl
+none-counted v (c ∷ cs) p q = rw (bit-or (c .positive) (c .negative) v, p .0, q .0) (none-counted v cs (p .1) (q .1))
+
+counted-free : (f : Formula) (a : Assignment) (v : ℕ) → 0 < occurrences-in (node f a) v → Free a v
+counted-free f a v h =
+    ⊎-elim
+    (side-free f a v true)
+    (λ p. ⊎-elim (side-free f a v false) (λ q. absurd (omega (arith, none-counted v (node f a) (none true p) (none false q)))) (bool-cases (bit (survey-of (node f a) .negative) v)))
+    (bool-cases (bit (survey-of (node f a) .positive) v))
+  where
+    none : (sign : Bool) → bit (survey-side (survey-of (node f a)) sign) v ≡ false → Every (λ c. bit (side c sign) v ≡ false) (node f a)
+    none sign e = survey-none v sign (record { positive = 0; negative = 0; any = false }) (node f a) e .1
 
 -- where a variable is named one way only, the survey has not the other way
 pure-way : (s : Survey) (v : ℕ) → bit (bitXor (s .positive) (s .negative)) v ≡ true → bit (survey-side s (not (bit (s .positive) v))) v ≡ false
@@ -336,19 +352,17 @@ module _ (f : Formula) (small : Small f) (scope : ℕ) (a : Assignment) (names :
 
   -- stripping leaves clauses
   pub choice-passing : r .survey .any ≡ true
-      → passing (formula-at (formula-at f a) (r .assignment)) unassigned (members (bitOr (r .survey .positive) (r .survey .negative)) 64) 0 ≡ mask-choice f scope a
+      → passing (formula-at (formula-at f a) (r .assignment)) unassigned (busiest-first (node (formula-at f a) (r .assignment))) 0 ≡ mask-choice f scope a
   choice-passing s =
       let w = reduced f a in
-      let m = bitOr (w .survey .positive) (w .survey .negative) in
-      let free : Every (λ v. Free unassigned v × Free (w .assignment) v) (members m 64) =
-      every-of (λ v. Free unassigned v × Free (w .assignment) v) (members m 64)
-      (λ v k.
-      let p = element-place (members m 64) v 0 k in
-      let is : bit m v ≡ true = rw (p .2) at (members-are m 64 (p .0) (p .1) .1) in
-      (free-none v, named-free f (w .assignment) v (rw (reduce-survey (f .variables) f a 0 0) at is))) in
-      rw (same .survey)
-      (passing-same (formula-at (formula-at f a) (r .assignment)) f unassigned (w .assignment) (node-at (formula-at f a) (r .assignment) ∙ same .nodes) (members m 64) 0 free
-      ∙ chosen-passing f scope a names n t w refl (rw (same .survey) at s))
+      let vs = busiest-first (node f (w .assignment)) in
+      let free : Every (λ v. Free unassigned v × Free (w .assignment) v) vs =
+      every-among (λ v. Free unassigned v × Free (w .assignment) v) vs
+      (λ v k. (free-none v, counted-free f (w .assignment) v (by-count-of (occurrences-in (node f (w .assignment))) 64 (length (node f (w .assignment))) v k .1))) in
+      let g = formula-at (formula-at f a) (r .assignment) in
+      ap (λ (l : List Clause). passing g unassigned (busiest-first l) 0) (same .nodes)
+      ∙ passing-same g f unassigned (w .assignment) (node-at (formula-at f a) (r .assignment) ∙ same .nodes) vs 0 free
+      ∙ chosen-passing f scope a names n t w refl (rw (same .survey) at s)
 
   module _ (s : r .survey .any ≡ false) (others : ℕ) (o : others ≡ minus (bitOr (names .positive) (names .negative)) (r .noted)) where
     -- it leaves none, and every variable that was named is noted

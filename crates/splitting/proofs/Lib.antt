@@ -15,6 +15,8 @@ pub mod CoreLaws
 pub mod MatchedLaws
 pub mod ModelLaws
 pub mod SoundLaws
+pub mod OrderLaws
+pub mod CounterLaws
 pub mod TrialLaws
 pub mod ChoiceLaws
 pub mod TrailLaws

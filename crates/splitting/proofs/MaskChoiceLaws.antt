@@ -1,5 +1,5 @@
 -- The choice over masks, and stripping on the way to it, are those over lists of literals.
-use Prim.Native.Nat.{ℕ, zero, suc, _+_, _≤_, _<_}
+use Prim.Native.Nat.{ℕ, zero, suc, _+_, _-_, _≤_, _<_}
 use mathlib.Core.Path.{_≡_, refl, sym, _∙_, ap, ap₂, subst}
 use mathlib.Core.Bool.{Bool, true, false, not, cond, _&&_, _||_, or-assoc, or-false}
 use mathlib.Core.List.{List, [], _∷_, _++_, map, append-nil, List·Memᴰ}
@@ -7,12 +7,14 @@ use mathlib.Core.Logic.{⊎-elim}
 use native.Mathlib.Omega.{arith}
 use lib.Bits.{bitOr, bitXor}
 use lib.Dec.{eqb}
+use lib.ListN.{length, length-map}
 use borrow.Author.Tests.{eqb-true, eqb-false}
 use Rattle.lists.proofs.TestLaws.{and-left, or-left, eqb-comm, bool-cases, bool-clash}
 use Rattle.masks.specs.Mask.{bit, with, minus, members}
 use Rattle.masks.specs.InnerMask.{lowest}
 use Rattle.masks.proofs.MembersLaws.{some-member, member-some, members-none}
 use Rattle.masks.proofs.BitLaws.{bit-with, bit-minus, bit-none}
+use Rattle.matching.proofs.Counting.{zero-or-pos}
 use Rattle.matching.specs.Search.{Outcome, outcome, succeeds, expansions}
 use Rattle.formula.specs.declared.Clause.{Clause}
 use Rattle.formula.specs.declared.Formula.{Formula}
@@ -29,19 +31,21 @@ use Rattle.splitting.specs.Nodes as nodes
 use Rattle.splitting.specs.Nodes.{assign, remaining, satisfied-by, occurs, lowest-with, upward}
 use Rattle.splitting.specs.Stripping.{pure, not-naming, Stripped, note, strip, stripped}
 use Rattle.splitting.specs.Choosing as choosing
-use Rattle.splitting.specs.Choosing.{matching-of, trial, both-open, first-passing, candidates, among, listed, last, last-listed, by-left, by-remaining, unassigned-of, choice}
-use Rattle.splitting.specs.InnerChoose.{assigned, set-to, node, survey-from, survey-of, matched-node, reduced-at, pure-of, reduce-from, reduced, noted-from, tried, passing, greatest, listed-last, others-of, mask-choice, assignment-of}
+use Rattle.splitting.specs.Choosing.{matching-of, trial, both-open, first-passing, occurrences, by-count, candidates, among, listed, last, last-listed, by-left, by-remaining, unassigned-of, choice}
+use Rattle.splitting.specs.InnerChoose.{assigned, set-to, node, survey-from, survey-of, matched-node, reduced-at, pure-of, reduce-from, reduced, noted-from, tried, passing, busiest-first, greatest, listed-last, others-of, mask-choice, assignment-of}
 use Rattle.splitting.specs.Terms.{Below, Trail}
 use Rattle.splitting.proofs.ClauseLaws.{occurs-in, pure-named}
 use Rattle.splitting.proofs.NodeLaws.{remaining-snoc, named-remaining, below-remaining}
-use Rattle.splitting.proofs.SearchLaws.{lowest-some, among-here, among-more, upward-of, upward-in, last-append}
+use Rattle.splitting.proofs.SearchLaws.{lowest-some, among-here, among-more, upward-in, last-append}
+use Rattle.splitting.proofs.OrderLaws.{by-count-wide, occurrences-named}
+use Rattle.splitting.proofs.TrialLaws.{candidates-named}
 use Rattle.splitting.proofs.Theorems.{last-listed-named}
 use Rattle.splitting.proofs.TurnLaws.{strip-next, strip-end}
 use Rattle.splitting.proofs.ReduceLaws.{noted-done, noted-turn}
 use Rattle.splitting.proofs.SatisfiedLaws.{less-all, less-all-other, remaining-in, satisfied-snoc}
 use Rattle.splitting.proofs.MaskNodeLaws.{node-masks, assignment-more, assigned-trail}
 use Rattle.splitting.proofs.MaskSearchLaws.{lowest-empty, lowest-member, members-upward}
-use Rattle.splitting.proofs.MaskClauseLaws.{occurs-bit, named-bit, pure-bit, any-some, sets-variables, empty-emptied, assign-drops, pure-way}
+use Rattle.splitting.proofs.MaskClauseLaws.{occurs-bit, named-bit, pure-bit, occurrences-masks, any-some, sets-variables, empty-emptied, assign-drops, pure-way}
 
 -- ---- one trial, by its two outcomes
 
@@ -355,20 +359,27 @@ module _ (n : ℕ) (cs : List (List Literal)) (fits : n ≤ 64) (low : Below n c
   -- ---- the three cases of the choice
 
   -- something is left
-  when-left : (t : List Literal) → Trail n t → (r : Reduced) → Reduces t n 0 0 r
-      → passing f (r .assignment) (members (bitOr (r .survey .positive) (r .survey .negative)) 64) 0
-      ≡ first-passing (stripped n (remaining t cs) .left) (candidates n (stripped n (remaining t cs) .left)) 0
+  candidates-masks : (left : List (List Literal)) → Below n left → busiest-first (map clause-of left) ≡ candidates n left
   unfolding candidates
+  candidates-masks left low-left =
+      let q : 64 ≡ n + (64 - n) = omega arith in
+      let none : (v : ℕ) → n ≤ v → occurrences left v ≡ 0 = λ v l. ⊎-elim (λ e. e) (λ k. absurd (let b = low-left v (occurrences-named left v k) in omega arith)) (zero-or-pos (occurrences left v)) in
+      ap₂ (λ (f : ℕ → ℕ) (k : ℕ). by-count f 64 k) (λ i v. occurrences-masks left v i) (length-map left clause-of)
+      ∙ ap (λ (k : ℕ). by-count (occurrences left) k (length left)) q
+      ∙ by-count-wide (occurrences left) n (64 - n) (length left) none
+
+  when-left : (t : List Literal) → Trail n t → (r : Reduced) → Reduces t n 0 0 r
+      → passing f (r .assignment) (busiest-first (node f (r .assignment))) 0
+      ≡ first-passing (stripped n (remaining t cs) .left) (candidates n (stripped n (remaining t cs) .left)) 0
   when-left t w r h =
       let left = stripped n (remaining t cs) .left in
       let low-left : Below n left = λ v k. below-node (h .trail) v (rw (h .left) k) in
-      let cands : members (bitOr (r .survey .positive) (r .survey .negative)) 64 ≡ upward (nodes.named left) n =
-      ap (λ (s : Survey). members (bitOr (s .positive) (s .negative)) 64) (h .surveyed)
-      ∙ members-upward n (bitOr (survey-of (map clause-of left) .positive) (survey-of (map clause-of left) .negative)) (nodes.named left) fits (named-bit left) low-left in
+      let cands : busiest-first (node f (assignment-of (h .trail))) ≡ candidates n left =
+      ap busiest-first (node-of (h .trail) (h .is-trail) ∙ ap (map clause-of) (h .left)) ∙ candidates-masks left low-left in
       rw (h .assigns, cands)
-      (passing-first (h .trail) (h .is-trail) (upward (nodes.named left) n) 0
-      (λ v k. let u = upward-of (nodes.named left) n v k in (u .0, named-remaining (h .trail) cs v (rw (h .left) (u .1)) .1))
-      ∙ ap (λ (d : List (List Literal)). first-passing d (upward (nodes.named left) n) 0) (h .left))
+      (passing-first (h .trail) (h .is-trail) (candidates n left) 0
+      (λ v k. let u = candidates-named n left v k in (low-left v u, named-remaining (h .trail) cs v (rw (h .left) u) .1))
+      ∙ ap (λ (d : List (List Literal)). first-passing d (candidates n left) 0) (h .left))
 
   -- nothing is left: the last of the list
   others-bit : (t : List Literal) → Trail n t → (v : ℕ)

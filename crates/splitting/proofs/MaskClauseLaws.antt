@@ -14,13 +14,13 @@ use Rattle.formula.specs.Format.{Literal, names, names-as}
 use Rattle.formula.specs.Masked.{variables}
 use Rattle.formula.specs.InnerMasked.{clause-of}
 use Rattle.formula.specs.InnerFits.{clause-variables}
-use Rattle.formula.proofs.ClauseLaws.{clause-side, clause-empty, variables-named, named-as}
+use Rattle.formula.proofs.ClauseLaws.{clause-side, clause-names, clause-empty, variables-named, named-as}
 use Rattle.splitting.specs.declared.Survey.{Survey}
 use Rattle.splitting.specs.Nodes as nodes
 use Rattle.splitting.specs.Nodes.{less, assign, occurs}
 use Rattle.splitting.specs.Stripping.{pure, not-naming}
-use Rattle.splitting.specs.Choosing.{emptied}
-use Rattle.splitting.specs.InnerChoose.{surveys, survey-from, survey-of, some-empty}
+use Rattle.splitting.specs.Choosing.{occurrences, emptied}
+use Rattle.splitting.specs.InnerChoose.{surveys, survey-from, survey-of, some-empty, occurrences-in}
 use Rattle.splitting.proofs.ClauseLaws.{names-some}
 use Rattle.splitting.proofs.MaskNodeLaws.{survey-side, surveys-side}
 
@@ -48,6 +48,12 @@ named-bit ds v = bit-or (survey-of (map clause-of ds) .positive) (survey-of (map
 pub pure-bit : (ds : List (List Literal)) (v : ℕ) → bit (bitXor (survey-of (map clause-of ds) .positive) (survey-of (map clause-of ds) .negative)) v ≡ pure ds v
 unfolding pure
 pure-bit ds v = bit-xor (survey-of (map clause-of ds) .positive) (survey-of (map clause-of ds) .negative) v ∙ rw (occurs-bit ds true v, occurs-bit ds false v)
+
+-- how many clauses name a variable
+pub occurrences-masks : (ds : List (List Literal)) (v : ℕ) → occurrences-in (map clause-of ds) v ≡ occurrences ds v
+unfolding occurrences-in occurrences
+occurrences-masks [] v = refl
+occurrences-masks (d ∷ ds) v = rw (clause-names d v, occurrences-masks ds v)
 
 survey-goes : (s : Survey) (cs : List Clause) → s .any ≡ true → survey-from s cs .any ≡ true
 unfolding survey-from

@@ -14,7 +14,7 @@ use Rattle.masks.proofs.BitLaws.{bit-none}
 use Rattle.masks.proofs.MembersLaws.{lowest-is, mask-lt, members-wide}
 use Rattle.matching.proofs.Counting.{lt-or-le}
 use Rattle.splitting.specs.Nodes.{first-from, lowest-with, upward-from, upward}
-use Rattle.splitting.proofs.SearchLaws.{lowest-some, lowest-found}
+use Rattle.splitting.proofs.SearchLaws.{lowest-some, lowest-found, upward-more}
 
 -- below the lowest the test does not hold
 first-least : (f : ℕ → Bool) (v k i : ℕ) → v ≤ i → i < first-from f v k → f i ≡ false
@@ -25,22 +25,6 @@ first-least f v (suc k) i p q = at (λ p q. first-least f (suc v) k i p q) (f v)
     at : (suc v ≤ i → i < first-from f (suc v) k → f i ≡ false) → (b : Bool) → f v ≡ b → i < elim b [ true ↦ v | false ↦ first-from f (suc v) k ] → f i ≡ false
     at rec true e q = absurd (omega arith)
     at rec false e q = ⊎-elim (λ (same : v ≡ i). rw same at e) (λ (l : v < i). rec l q) (eq-or-lt-of-le p)
-
--- one variable more at the end
-upward-more : (f : ℕ → Bool) (v k : ℕ) → upward-from f v (suc k) ≡ upward-from f v k ++ only-if (f (v + k)) (v + k)
-unfolding upward-from
-upward-more f v zero = let q : v + 0 ≡ v = omega arith in rw q (go (f v))
-  where
-    go : (b : Bool) → cond b (v ∷ []) [] ≡ only-if b v
-    go true = refl
-    go false = refl
-upward-more f v (suc k) = let q : v + suc k ≡ suc v + k = omega arith in rw q (go (f v) (upward-more f (suc v) k))
-  where
-    go : (b : Bool) → upward-from f (suc v) (suc k) ≡ upward-from f (suc v) k ++ only-if (f (suc v + k)) (suc v + k)
-        → cond b (v ∷ upward-from f (suc v) (suc k)) (upward-from f (suc v) (suc k))
-        ≡ cond b (v ∷ upward-from f (suc v) k) (upward-from f (suc v) k) ++ only-if (f (suc v + k)) (suc v + k)
-    go true e = ap (λ (l : List ℕ). v ∷ l) e
-    go false e = e
 
 upward-members : (m : ℕ) (f : ℕ → Bool) → ((v : ℕ) → bit m v ≡ f v) → (k : ℕ) → members m k ≡ upward f k
 unfolding members upward-from

@@ -1,22 +1,35 @@
--- Trials over masks, and the lowest candidate.
-use Prim.Native.Nat.{ℕ, suc, _+_, _^_, _≤_, _<_}
-use mathlib.Core.Bool.{Bool, true, false}
-use mathlib.Core.List.{_∷_}
-use mathlib.Core.Path.{_≡_, refl, sym, ap, _∙_}
+-- Trials over masks, and the masks of what is left to try.
+use Prim.Native.Nat.{ℕ, suc, _+_, _-_, _^_, _≤_, _<_}
+use mathlib.Core.Bool.{Bool, true, false, not}
+use mathlib.Core.List.{List, [], _∷_}
+use mathlib.Core.Logic.{⊎-elim}
+use mathlib.Core.Path.{_≡_, refl, sym, ap, ap₂, _∙_}
+use native.Mathlib.Decide.{ℕ-discrete}
 use native.Mathlib.Omega.{arith}
+use lib.Dec.{eqb, ltb}
 use lib.ListN.{length}
-use Rattle.masks.specs.Mask.{members}
+use borrow.Author.Tests.{lt-ltb, ltb-true}
+use Rattle.limits.specs.Limits.{max-clauses}
+use Rattle.lists.proofs.TabulatedLaws.{length-tabulated}
+use Rattle.lists.proofs.TestLaws.{and-left, bool-cases, bool-clash}
+use Rattle.masks.specs.Mask.{bit, members, size}
 use Rattle.masks.specs.InnerMask.{without, lowest}
-use Rattle.masks.proofs.BitLaws.{minus-lt, bit-none}
-use Rattle.masks.proofs.MembersLaws.{lowest-is, members-none, members-lowest}
+use Rattle.masks.proofs.BitLaws.{minus-lt, bit-none, bit-below, bit-without, bit-without-same, bit-without-other}
+use Rattle.masks.proofs.MembersLaws.{lowest-is, members-lowest}
 use Rattle.matching.specs.declared.Matching.{Matching}
 use Rattle.matching.specs.Search.{succeeds, expansions}
 use Rattle.matching.proofs.ResultLaws.{packed-complete, packed-expansions}
 use Rattle.formula.specs.declared.Formula.{Formula}
 use Rattle.splitting.specs.declared.Assignment.{Assignment}
 use Rattle.splitting.specs.declared.Trial.{Trial}
-use Rattle.splitting.specs.InnerChoose.{set-to, node, Small, matched-node, matching-at, tried, passing}
-use Rattle.splitting.specs.Choosing.{both-open}
+use Rattle.splitting.specs.declared.Counts.{Counts}
+use Rattle.splitting.specs.Choosing.{both-open, by-count, among}
+use Rattle.splitting.specs.Terms.{Ordered}
+use Rattle.splitting.specs.InnerChoose.{set-to, node, clause-in, clauses-in, Small, matched-node, matching-at, tried, passing, occurrences-in, busiest-first, count-at, Busiest}
+use Rattle.splitting.proofs.CountLaws.{count-le, count-drop, size-count}
+use Rattle.splitting.proofs.SearchLaws.{among-here, among-other, among-cases, among-none}
+use Rattle.splitting.proofs.OrderLaws.{before-once, by-count-of, by-count-in, by-count-ordered, by-count-length, by-count-high, counted-to}
+use Rattle.splitting.proofs.CounterLaws.{count-below, occurrences-few}
 use Rattle.splitting.proofs.NodeMatchingLaws.{node-cost}
 
 -- ---- trials
@@ -72,25 +85,89 @@ lowered m h z =
     let e = members-lowest 64 64 m h h (omega arith) in
     record { below = lowest-is 64 m h (omega arith) .below; fits = minus-lt 64 m (2 ^ lowest m) h; less = sym (ap length e); listed = e }
 
--- the lowest candidate v is tried
-module _ (f : Formula) (a : Assignment) (rest e v : ℕ) (t : Trial) (w : Lowered rest) (q : v ≡ lowest rest) (p : t ≡ tried f a v) where
-  trial : tried f a (lowest rest) ≡ t
-  trial = ap (tried f a) (sym q) ∙ sym p
-
+-- the first of a list is tried
+module _ (f : Formula) (a : Assignment) (l vs : List ℕ) (e v : ℕ) (t : Trial) (q : l ≡ v ∷ vs) (p : t ≡ tried f a v) where
   -- it passes
-  pub passing-found : t .passes ≡ true → passing f a (members rest 64) e ≡ both-open v (e + t .cost)
+  pub passing-found : t .passes ≡ true → passing f a l e ≡ both-open v (e + t .cost)
   unfolding passing
-  passing-found h = rw (w .listed, passing, trial, h, trial, q)
+  passing-found h = rw (q, passing, ← p, h, ← p)
 
   -- it does not
-  pub passing-more : (next : ℕ) → t .passes ≡ false → next ≡ without rest v → passing f a (members rest 64) e ≡ passing f a (members next 64) (e + t .cost)
+  pub passing-more : t .passes ≡ false → passing f a l e ≡ passing f a vs (e + t .cost)
   unfolding passing
-  passing-more next h n = rw (w .listed, passing, trial, h, trial, n, q)
+  passing-more h = rw (q, passing, ← p, h, ← p)
 
-  pub trial-cost : Small f → t .cost ≤ 9312
-  trial-cost fits = rw p (tried-cost f a v fits)
+pub trial-cost : (f : Formula) (a : Assignment) (v : ℕ) (t : Trial) → t ≡ tried f a v → Small f → t .cost ≤ 9312
+trial-cost f a v t p fits = rw p (tried-cost f a v fits)
 
--- no candidate is left
-pub passing-none : (f : Formula) (a : Assignment) (e : ℕ) → passing f a (members 0 64) e ≡ both-open 0 e
+-- nothing is left to try
+pub passing-none : (f : Formula) (a : Assignment) (e : ℕ) → passing f a [] e ≡ both-open 0 e
 unfolding passing
-passing-none f a e = rw (members-none 0 64 (λ i l. bit-none i))
+passing-none f a e = refl
+
+-- ---- a mask whose members are tried in order
+
+-- the list has the members of the mask, in order
+pub record Lists (f : ℕ → ℕ) (l : List ℕ) (m : ℕ) : Type 0 where
+  pub ordered : Ordered f l
+  pub members : (v : ℕ) → among l v ≡ bit m v
+
+-- the first is the busiest member, and the others are the rest
+pub lists-first : (f : ℕ → ℕ) (l : List ℕ) (m v : ℕ) → Lists f l m → Busiest f m v → (vs : List ℕ) × (l ≡ v ∷ vs) × Lists f vs (without m v)
+lists-first f [] m v w b = among-none v (w .members v ∙ b .member)
+lists-first f (x ∷ vs) m v w b = go (ℕ-discrete x v)
+  where
+    go : Dec (x ≡ v) → (us : List ℕ) × (x ∷ vs ≡ v ∷ us) × Lists f us (without m v)
+    go (yes e) = (vs, ap (λ (y : ℕ). y ∷ vs) e, record { ordered = w .ordered .1; members = λ y. others y (ℕ-discrete y v) })
+      where
+        others : (y : ℕ) → Dec (y ≡ v) → among vs y ≡ bit (without m v) y
+        others y (yes q) =
+            ⊎-elim
+            (λ t. absurd (before-once f x x (rw (q ∙ sym e) at (w .ordered .0 y t)) (rw (q ∙ sym e) at (w .ordered .0 y t))))
+            (λ t. t ∙ sym (ap (bit (without m v)) q ∙ bit-without-same m v))
+            (bool-cases (among vs y))
+        others y (no q) = sym (among-other x y vs (λ k. q (sym k ∙ e))) ∙ w .members y ∙ sym (bit-without-other m v y q)
+    go (no q) =
+        absurd
+        (before-once f x v
+        (⊎-elim (λ e. absurd (q (sym e))) (w .ordered .0 v) (among-cases v x vs (w .members v ∙ b .member)))
+        (b .first x (sym (w .members x) ∙ among-here x vs) q))
+
+-- an empty mask has none
+pub lists-none : (f : ℕ → ℕ) (l : List ℕ) (m : ℕ) → Lists f l m → m ≡ 0 → l ≡ []
+lists-none f [] m w e = refl
+lists-none f (x ∷ l) m w e = bool-clash (among-here x l) (w .members x ∙ ap (λ (k : ℕ). bit k x) e ∙ bit-none x)
+
+-- all that are counted, and how many they are at most
+pub lists-counted : (c : Counts) (m : ℕ) → m < 2 ^ 64 → ((v : ℕ) → bit m v ≡ ltb 0 (count-at c v)) → Lists (count-at c) (by-count (count-at c) 64 127) m
+lists-counted c m l h = record {
+  ordered = by-count-ordered (count-at c) 64 127;
+  members = λ v.
+      ⊎-elim
+      (λ t. t ∙ sym (h v ∙ lt-ltb 0 (count-at c v) (by-count-of (count-at c) 64 127 v t .1)))
+      (λ t.
+      ⊎-elim
+      (λ u. bool-clash (by-count-in (count-at c) 64 127 v (bit-below 64 v m l u) (ltb-true 0 (count-at c v) (sym (h v) ∙ u)) (count-below c v)) t)
+      (λ u. t ∙ sym u)
+      (bool-cases (bit m v)))
+      (bool-cases (among (by-count (count-at c) 64 127) v));
+}
+
+-- counted of the clauses in arrays they are in the order of trials there
+pub counted-first : (c : Counts) (p q : List ℕ) (k : ℕ) → k ≤ max-clauses → ((v : ℕ) → count-at c v ≡ occurrences-in (clauses-in p q k) v)
+    → by-count (count-at c) 64 127 ≡ busiest-first (clauses-in p q k)
+counted-first c p q k few h =
+    let cs = clauses-in p q k in
+    let l = length-tabulated (clause-in p q) k in
+    let e : 127 ≡ 127 - length cs + length cs = omega arith in
+    ap₂ (λ (f : ℕ → ℕ) (j : ℕ). by-count f 64 j) (λ i v. h v i) e ∙ by-count-high (occurrences-in cs) 64 (length cs) (127 - length cs) (occurrences-few cs)
+
+pub counted-few : (c : Counts) → length (by-count (count-at c) 64 127) ≤ 64
+counted-few c = omega (arith, by-count-length (count-at c) 64 127, count-le (counted-to (count-at c) 64 127) 64)
+
+-- a mask has more members than without one of them
+pub without-fewer : (m v : ℕ) → m < 2 ^ 64 → bit m v ≡ true → size (without m v) < size m
+without-fewer m v l t =
+    let k : without m v < 2 ^ 64 = minus-lt 64 m (2 ^ v) l in
+    let w = count-drop (bit (without m v)) (bit m) 64 v (λ i h. and-left (bit m i) (not (eqb i v)) (sym (bit-without m v i) ∙ h)) (bit-below 64 v m l t) t (bit-without-same m v) in
+    omega (arith, size-count 64 m (omega arith) l, size-count 64 (without m v) (omega arith) k)

@@ -1,15 +1,17 @@
 -- Laws of the lowest variable with a test and of the variables with it, upward.
 use Prim.Native.Nat.{ℕ, zero, suc, _+_, _≤_, _<_}
-use mathlib.Core.Path.{_≡_, refl, sym}
+use mathlib.Core.Path.{_≡_, refl, sym, ap, _∙_}
 use mathlib.Core.Bool.{Bool, true, false, cond}
-use mathlib.Core.List.{List, [], _∷_, _++_}
+use mathlib.Core.List.{List, [], _∷_, _++_, append-nil}
 use mathlib.Core.Logic.{_⊎_, inl, inr, ⊎-elim}
 use native.Mathlib.Nat.{eq-or-lt-of-le}
 use native.Mathlib.Omega.{arith}
 use lib.ListN.{length}
 use lib.Dec.{eqb, ltb}
-use borrow.Author.Tests.{eqb-true, eq-eqb, ltb-true, ltb-false}
+use borrow.Author.Tests.{eqb-true, eq-eqb, ne-eqb, ltb-true, ltb-false}
+use Rattle.lists.specs.Every.{Every}
 use Rattle.lists.proofs.TestLaws.{or-cases, bool-cases, bool-clash, or-left, or-right}
+use Rattle.masks.specs.Mask.{only-if}
 use Rattle.matching.proofs.Counting.{count}
 use Rattle.splitting.specs.Nodes.{first-from, lowest-with, upward-from, upward}
 use Rattle.splitting.specs.Choosing.{among, last}
@@ -64,6 +66,11 @@ pub among-more : (x y : ℕ) (l : List ℕ) → among l x ≡ true → among (y 
 unfolding among
 among-more x y l t = or-right (eqb y x) (among l x) t
 
+-- another than the first is on the list if it is on the rest
+pub among-other : (x y : ℕ) (l : List ℕ) → (x ≡ y → ⊥) → among (x ∷ l) y ≡ among l y
+unfolding among
+among-other x y l ne = rw (ne-eqb x y ne)
+
 -- what is on the list is the first or on the rest
 pub among-cases : (x y : ℕ) (l : List ℕ) → among (y ∷ l) x ≡ true → (x ≡ y) ⊎ (among l x ≡ true)
 unfolding among
@@ -94,6 +101,11 @@ pub among-right : (l r : List ℕ) (x : ℕ) → among r x ≡ true → among (l
 among-right [] r x t = t
 among-right (y ∷ l) r x t = among-more x y (l ++ r) (among-right l r x t)
 
+-- what holds of all that is on the list
+pub every-among : (P : ℕ → Type 0) (l : List ℕ) → ((x : ℕ) → among l x ≡ true → P x) → Every P l
+every-among P [] h = tt
+every-among P (x ∷ l) h = (h x (among-here x l), every-among P l (λ y m. h y (among-more y x l m)))
+
 -- the last of a list that is not empty is on it
 pub last-among : (x : ℕ) (l : List ℕ) → among (x ∷ l) (last (x ∷ l)) ≡ true
 unfolding last
@@ -109,7 +121,7 @@ last-append (y ∷ (z ∷ l)) x r = last-append (z ∷ l) x r
 
 -- ── Upward ───────────────────────────────────────────────────────────────────────────────────────────────────────────
 
-upward-from-of : (f : ℕ → Bool) (v k x : ℕ) → among (upward-from f v k) x ≡ true → (v ≤ x) × (x < v + k) × (f x ≡ true)
+pub upward-from-of : (f : ℕ → Bool) (v k x : ℕ) → among (upward-from f v k) x ≡ true → (v ≤ x) × (x < v + k) × (f x ≡ true)
 unfolding upward-from
 upward-from-of f v zero x t = among-none x t
 upward-from-of f v (suc k) x t = go (λ u. let r = upward-from-of f (suc v) k x u in (omega (arith, r .0), omega (arith, r .1), r .2)) (f v) refl t
@@ -149,3 +161,32 @@ upward-in f n x l t = upward-from-in f 0 n x (omega arith) (omega arith) t
 pub upward-length : (f : ℕ → Bool) (n : ℕ) → length (upward f n) ≡ count f n
 unfolding count
 upward-length f n = let e = upward-from-length f 0 n in let z : 0 + n ≡ n = omega arith in omega (arith, (rw z at e))
+
+-- one variable more at the end
+pub upward-more : (f : ℕ → Bool) (v k : ℕ) → upward-from f v (suc k) ≡ upward-from f v k ++ only-if (f (v + k)) (v + k)
+unfolding upward-from
+upward-more f v zero = let q : v + 0 ≡ v = omega arith in rw q (go (f v))
+  where
+    go : (b : Bool) → cond b (v ∷ []) [] ≡ only-if b v
+    go true = refl
+    go false = refl
+upward-more f v (suc k) = let q : v + suc k ≡ suc v + k = omega arith in rw q (go (f v) (upward-more f (suc v) k))
+  where
+    go : (b : Bool) → upward-from f (suc v) (suc k) ≡ upward-from f (suc v) k ++ only-if (f (suc v + k)) (suc v + k)
+        → cond b (v ∷ upward-from f (suc v) (suc k)) (upward-from f (suc v) (suc k))
+        ≡ cond b (v ∷ upward-from f (suc v) k) (upward-from f (suc v) k) ++ only-if (f (suc v + k)) (suc v + k)
+    go true e = ap (λ (l : List ℕ). v ∷ l) e
+    go false e = e
+
+-- where the test holds of none there is none
+pub upward-none : (f : ℕ → Bool) (v k : ℕ) → ((x : ℕ) → f x ≡ false) → upward-from f v k ≡ []
+unfolding upward-from
+upward-none f v zero h = refl
+upward-none f v (suc k) h = rw (h v) (upward-none f (suc v) k h)
+
+-- further variables change nothing where the test holds of none of them
+pub upward-wide : (f : ℕ → Bool) (n d : ℕ) → ((x : ℕ) → n ≤ x → f x ≡ false) → upward f (n + d) ≡ upward f n
+upward-wide f n zero h = let e : n + 0 ≡ n = omega arith in rw e
+upward-wide f n (suc d) h =
+    let e : n + suc d ≡ suc (n + d) = omega arith in
+    rw (e, upward-more f 0 (n + d), h (0 + (n + d)) (omega arith)) (append-nil (upward f (n + d)) ∙ upward-wide f n d h)

@@ -19,10 +19,11 @@ use Rattle.formula.specs.Masked.{variables}
 use Rattle.formula.proofs.ClauseLaws.{variables-lt, named-as}
 use Rattle.splitting.specs.declared.Choice.{Choice}
 use Rattle.splitting.specs.Nodes.{assign, named}
-use Rattle.splitting.specs.Choosing.{matching-of, Trial, trial, both-open, first-passing, candidates, among}
-use Rattle.splitting.specs.Terms.{Below, Covers}
+use Rattle.splitting.specs.Choosing.{matching-of, Trial, trial, both-open, first-passing, occurrences, candidates, among}
+use Rattle.splitting.specs.Terms.{Below, Covers, Ordered}
 use Rattle.splitting.proofs.ClauseLaws.{named-by, literal-names}
-use Rattle.splitting.proofs.SearchLaws.{among-here, among-more, among-cases, among-none, upward-of, upward-in, upward-length}
+use Rattle.splitting.proofs.SearchLaws.{among-here, among-more, among-cases, among-none}
+use Rattle.splitting.proofs.OrderLaws.{by-count-of, by-count-in, by-count-ordered, by-count-length, counted-to, counted-of, occurrences-le, occurrences-named, named-occurrences}
 use Rattle.splitting.proofs.NodeLaws.{below-assign, length-assign}
 use Rattle.splitting.proofs.MatchedLaws.{variables-at}
 use Rattle.matching.proofs.Counting.{pigeon}
@@ -110,22 +111,28 @@ trial-cost n m cs v fits low few = go (succeeds (matching-of (assign v false cs)
 
 -- ── The candidates ───────────────────────────────────────────────────────────────────────────────────────────────────
 
--- The candidates are exactly the variables that the left clauses name, whatever their order.
+-- The candidates are exactly the variables that the left clauses name, in order.
 pub candidates-named : (n : ℕ) (left : List (List Literal)) (v : ℕ) → among (candidates n left) v ≡ true → named left v ≡ true
 unfolding candidates
-candidates-named n left v t = upward-of (named left) n v t .1
+candidates-named n left v t = occurrences-named left v (by-count-of (occurrences left) n (length left) v t .1)
 
 pub named-candidates : (n : ℕ) (left : List (List Literal)) → Below n left → (v : ℕ) → named left v ≡ true → among (candidates n left) v ≡ true
 unfolding candidates
-named-candidates n left low v h = upward-in (named left) n v (low v h) h
+named-candidates n left low v h =
+    by-count-in (occurrences left) n (length left) v (low v h) (named-occurrences left v h) (occurrences-le left v)
+
+pub candidates-ordered : (n : ℕ) (left : List (List Literal)) → Ordered (occurrences left) (candidates n left)
+unfolding candidates
+candidates-ordered n left = by-count-ordered (occurrences left) n (length left)
 
 -- They are at most as many as a mask has that has them all.
 pub candidates-length : (n scope : ℕ) (left : List (List Literal)) → n ≤ 64 → Covers scope left → length (candidates n left) ≤ size scope
 unfolding candidates
 candidates-length n scope left fits covers =
     let e = count-members scope 64 in
-    let k = pigeon (named left) n (bit scope) 64 (λ i. i) (λ i l t. (omega arith, covers i t)) (λ i j _ _ _ _ e. e) in
-    omega (arith, upward-length (named left) n)
+    let k = pigeon (counted-to (occurrences left) n (length left)) n (bit scope) 64 (λ i. i)
+    (λ i l t. (omega arith, covers i (occurrences-named left i (counted-of (occurrences left) n (length left) i t .0)))) (λ i j _ _ _ _ e. e) in
+    omega (arith, by-count-length (occurrences left) n (length left))
 
 -- ── The first that passes ────────────────────────────────────────────────────────────────────────────────────────────
 

@@ -1,8 +1,9 @@
 -- S6: the choice of the next variable, at a node of a formula of n variables.
-use Prim.Native.Nat.{ℕ, _+_}
-use mathlib.Core.Bool.{Bool, true, false, not, _&&_, _||_}
+use Prim.Native.Nat.{ℕ, zero, suc, _+_}
+use mathlib.Core.Bool.{Bool, true, false, not, cond, _&&_, _||_}
 use mathlib.Core.List.{List, [], _∷_, _++_, map}
 use lib.Dec.{eqb}
+use lib.ListN.{length}
 use Rattle.masks.specs.Mask.{bit}
 use Rattle.matching.specs.Search.{Outcome, outcome, succeeds, expansions}
 use Rattle.formula.specs.Format.{Literal, names}
@@ -45,9 +46,21 @@ first-passing cs [] e = both-open 0 e
 first-passing cs (v ∷ vs) e =
     elim (trial cs v .passes) [ true ↦ both-open v (e + trial cs v .cost) | false ↦ first-passing cs vs (e + trial cs v .cost) ]
 
--- S6.3: the variables that the left clauses name, in ascending order: these are tried
+-- S6.3: how many of the clauses name v, either way. Clauses that have become equal count each. A clause names a variable once (S1.2), so
+-- this is a number of clauses and of literals alike.
+unfoldable pub occurrences : List (List Literal) → ℕ → ℕ
+occurrences [] v = 0
+occurrences (c ∷ cs) v = cond (names c v) (suc (occurrences cs v)) (occurrences cs v)
+
+-- the variables below n by the number f v of each: those with k, upward, then those with k - 1, and so down to 1
+unfoldable pub by-count : (ℕ → ℕ) → ℕ → ℕ → List ℕ
+by-count f n zero = []
+by-count f n (suc k) = upward (λ v. eqb (f v) (suc k)) n ++ by-count f n k
+
+-- S6.3: the variables that the left clauses name, by how many of them do, most first, ties lowest first (request: busiest switch first).
+-- These are tried, in this order. The counts are made once, and not again within a trial.
 unfoldable pub candidates : ℕ → List (List Literal) → List ℕ
-candidates n left = upward (named left) n
+candidates n left = by-count (occurrences left) n (length left)
 
 -- v is on the list
 unfoldable pub among : List ℕ → ℕ → Bool

@@ -1,8 +1,9 @@
 -- What the code of the choice computes over masks; proofs/MaskChoiceLaws.antt ties it to Choosing.
-use Prim.Native.Nat.{ℕ, zero, suc, _+_, _^_, _<_, _≤_}
+use Prim.Native.Nat.{ℕ, zero, suc, _+_, _*_, _^_, _<_, _≤_}
 use mathlib.Core.Bool.{Bool, true, false, not, cond, _||_}
+use mathlib.Core.Path.{_≡_}
 use mathlib.Core.List.{List, [], _∷_, _++_, map}
-use lib.Bits.{bitOr, bitXor}
+use lib.Bits.{bitAnd, bitOr, bitXor}
 use lib.Dec.{eqb}
 use lib.ListN.{length, getD}
 use Rattle.limits.specs.Limits.{max-variables, max-clauses}
@@ -21,11 +22,13 @@ use Rattle.formula.specs.InnerMasked.{no-clause}
 use Rattle.formula.specs.InnerFits.{side, clause-variables}
 use Rattle.splitting.specs.declared.Assignment.{Assignment}
 use Rattle.splitting.specs.declared.Choice.{Choice}
+use Rattle.splitting.specs.declared.Counts.{Counts}
 use Rattle.splitting.specs.declared.Reduced.{Reduced}
 use Rattle.splitting.specs.declared.Stripping.{Stripping}
 use Rattle.splitting.specs.declared.Survey.{Survey}
 use Rattle.splitting.specs.declared.Trial.{Trial}
-use Rattle.splitting.specs.Choosing.{both-open, last}
+use Rattle.splitting.specs.Choosing.{both-open, by-count, last}
+use Rattle.splitting.specs.Terms.{Before}
 
 -- ---- the clauses at a node
 
@@ -164,6 +167,39 @@ unfoldable pub passing : Formula → Assignment → List ℕ → ℕ → Choice
 passing f a [] e = both-open 0 e
 passing f a (v ∷ vs) e = elim (tried f a v .passes) [ true ↦ both-open v (e + tried f a v .cost) | false ↦ passing f a vs (e + tried f a v .cost) ]
 
+-- ---- the order of trials
+
+-- how many clauses name v
+unfoldable pub occurrences-in : List Clause → ℕ → ℕ
+occurrences-in [] v = 0
+occurrences-in (c ∷ cs) v = cond (bit (clause-variables c) v) (suc (occurrences-in cs v)) (occurrences-in cs v)
+
+-- the variables that clauses name, those that most of them name first, and the lowest of these
+abbrev pub busiest-first : List Clause → List ℕ
+busiest-first cs = by-count (occurrences-in cs) 64 (length cs)
+
+-- a number with one binary digit more at its end
+abbrev pub digit : Bool → ℕ → ℕ
+digit true x = suc (2 * x)
+digit false x = 2 * x
+
+-- the count of v in a counter, which holds the counts of all variables, a mask for each binary digit
+abbrev pub count-at : Counts → ℕ → ℕ
+count-at c v =
+    digit (bit (c .ones) v)
+    (digit (bit (c .twos) v)
+    (digit (bit (c .fours) v)
+    (digit (bit (c .eights) v) (digit (bit (c .sixteens) v) (digit (bit (c .thirtytwos) v) (digit (bit (c .sixtyfours) v) 0))))))
+
+-- the members of a that are members of b, or all of a if none is
+abbrev pub narrowed : ℕ → ℕ → ℕ
+narrowed a b = cond (meets a b) (bitAnd a b) a
+
+-- r is the member of m that is tried before all others
+pub record Busiest (f : ℕ → ℕ) (m r : ℕ) : Type 0 where
+  pub member : bit m r ≡ true
+  pub first : (v : ℕ) → bit m v ≡ true → (v ≡ r → ⊥) → Before f r v
+
 -- ---- the choice
 
 -- the greatest member of a mask, 0 if there is none
@@ -190,7 +226,7 @@ unfoldable pub mask-choice : Formula → ℕ → Assignment → Choice
 mask-choice f scope a =
     cond (survey-of (node f a) .any)
     (cond (reduced f a .survey .any)
-    (passing f (reduced f a .assignment) (members (bitOr (reduced f a .survey .positive) (reduced f a .survey .negative)) 64) 0)
+    (passing f (reduced f a .assignment) (busiest-first (node f (reduced f a .assignment))) 0)
     (listed-last f a (cond (eqb (others-of f a) 0) (reduced f a .last) (greatest (others-of f a)))))
     (free-choice scope a)
 

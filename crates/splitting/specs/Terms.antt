@@ -12,6 +12,7 @@ use Rattle.formula.specs.Models.{Model}
 use Rattle.splitting.specs.declared.Choice.{Choice}
 use Rattle.splitting.specs.Nodes.{named}
 use Rattle.splitting.specs.Stripping.{pure, not-naming, stripped}
+use Rattle.splitting.specs.Choosing.{among}
 
 -- every named variable is below n
 abbrev pub Below : ℕ → List (List Literal) → Type 0
@@ -25,6 +26,15 @@ NonePure cs = (v : ℕ) → pure cs v ≡ false
 unfoldable pub left-after : List ℕ → List (List Literal) → List (List Literal)
 left-after [] cs = cs
 left-after (v ∷ vs) cs = left-after vs (not-naming v cs)
+
+-- S6.3: x is tried before y, where f says how many clauses name each: more name x, or as many and x is the lower
+abbrev pub Before : (ℕ → ℕ) → ℕ → ℕ → Type 0
+Before f x y = (f y < f x) ⊎ ((f x ≡ f y) × (x < y))
+
+-- each of the list is to be tried before all behind it
+abbrev pub Ordered : (ℕ → ℕ) → List ℕ → Type 0
+Ordered f [] = Unit {0}
+Ordered f (x ∷ l) = ((y : ℕ) → among l y ≡ true → Before f x y) × Ordered f l
 
 -- What stripping leaves is matched (definition 5.2 of the source: pure literal matched). This is the invariant of the walk.
 abbrev pub Sound : ℕ → List (List Literal) → Type 0

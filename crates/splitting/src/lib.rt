@@ -4,16 +4,17 @@
 // another are its unassigned variables. Few clauses are open where a choice is made, so what is left of those is copied first, into an
 // array for each side, and all else goes over the arrays: stripping a pure literal drops the clauses that name it, in place.
 ghost use mathlib.Core.Path.{_≡_};
-ghost use mathlib.Core.Bool.{true};
+ghost use mathlib.Core.Bool.{true, cond};
 ghost use mathlib.Core.List.{map};
-ghost use Prim.Native.Nat.{ℕ, _<_, _≤_};
+ghost use Prim.Native.Nat.{ℕ, suc, _<_, _≤_};
+ghost use lib.Dec.{ltb};
 ghost use lib.ListN.{length};
 ghost use Rattle.limits.specs.Limits.{max-clauses};
 ghost use Rattle.lists.specs.Over.{over};
-ghost use Rattle.masks.specs.Mask.{bit, members};
+ghost use Rattle.masks.specs.Mask.{bit};
 ghost use Rattle.formula.specs.InnerFits.{FormulaFits, clause-variables};
-ghost use Rattle.splitting.specs.Choosing.{both-open};
-ghost use Rattle.splitting.specs.InnerChoose.{set-to, satisfied-under, left-under, node, unnamed, survey-of, some-empty, matching-at, unassigned, clause-in, clauses-in, formula-in, formula-at, Small, reduce-from, stripping-at, tried, passing, greatest, listed-last, all-satisfied, free-choice, mask-choice};
+ghost use Rattle.splitting.specs.Choosing.{both-open, by-count};
+ghost use Rattle.splitting.specs.InnerChoose.{set-to, satisfied-under, left-under, node, unnamed, survey-of, some-empty, matching-at, unassigned, clause-in, clauses-in, formula-in, formula-at, Small, reduce-from, stripping-at, tried, passing, occurrences-in, count-at, narrowed, Busiest, greatest, listed-last, all-satisfied, free-choice, mask-choice};
 use formula::Clause;
 use formula::Formula;
 use matching::Matching;
@@ -52,6 +53,17 @@ pub struct Stripping {
     pub assignment: Assignment,
     pub count: usize,
     pub order: [u8; limits::MAX_VARIABLES],
+}
+
+// How many clauses name each variable, for all variables at once: the binary digits of the counts, a mask for each digit.
+struct Counts {
+    ones: u64,
+    twos: u64,
+    fours: u64,
+    eights: u64,
+    sixteens: u64,
+    thirtytwos: u64,
+    sixtyfours: u64,
 }
 
 // Both matchings succeeded, and the expansions.
@@ -480,20 +492,100 @@ fn both_open(v: usize, expansions: u64) -> Choice
     }
 }
 
-// Tries the candidates upward, until one passes.
+// One more for each member of the mask: each digit passes on what it carries.
+fn count_members(c: Counts, mask: u64) -> Counts
+    requires { ⌜ ((v : ℕ) → count-at c v < 127) ⌝ }
+    ensures { λ r. ⌜ ((v : ℕ) → count-at r v ≡ cond (bit mask v) (suc (count-at c v)) (count-at c v)) ⌝ }
+{
+    let to_twos = c.ones & mask;
+    let to_fours = c.twos & to_twos;
+    let to_eights = c.fours & to_fours;
+    let to_sixteens = c.eights & to_eights;
+    let to_thirtytwos = c.sixteens & to_sixteens;
+    let to_sixtyfours = c.thirtytwos & to_thirtytwos;
+    Counts {
+        ones: c.ones ^ mask,
+        twos: c.twos ^ to_twos,
+        fours: c.fours ^ to_fours,
+        eights: c.eights ^ to_eights,
+        sixteens: c.sixteens ^ to_sixteens,
+        thirtytwos: c.thirtytwos ^ to_thirtytwos,
+        sixtyfours: c.sixtyfours ^ to_sixtyfours,
+    }
+}
+
+// How many of the clauses name each variable, either way.
+fn count_names(
+    positives: &[u64; limits::MAX_CLAUSES],
+    negatives: &[u64; limits::MAX_CLAUSES],
+    count: usize,
+) -> Counts
+    requires { ⌜ count ≤ max-clauses ⌝ }
+    ensures { λ r. ⌜ ((v : ℕ) → count-at r v ≡ occurrences-in (clauses-in (now (positives .entry)) (now (negatives .entry)) count) v) ⌝ }
+{
+    let mut counts = Counts {
+        ones: 0,
+        twos: 0,
+        fours: 0,
+        eights: 0,
+        sixteens: 0,
+        thirtytwos: 0,
+        sixtyfours: 0,
+    };
+    let mut i: usize = 0;
+    while i < count {
+        counts = count_members(counts, positives[i] | negatives[i]);
+        i += 1;
+    }
+    counts
+}
+
+// The variables whose count is not 0.
+fn counted(c: Counts) -> u64
+    ensures { λ r. ⌜ ((v : ℕ) → bit r v ≡ ltb 0 (count-at c v)) ⌝ }
+{
+    c.ones | c.twos | c.fours | c.eights | c.sixteens | c.thirtytwos | c.sixtyfours
+}
+
+// The members of the first that are members of the second, or all of the first if none is.
+fn narrow(mask: u64, digit: u64) -> u64
+    ensures { λ r. ⌜ r ≡ narrowed mask digit ⌝ }
+{
+    let both = mask & digit;
+    if both == 0 {
+        return mask;
+    }
+    both
+}
+
+// The member with the highest count, and the lowest of these: digit by digit from the top, those stay that have the digit, if some do.
+fn busiest(c: Counts, mask: u64) -> usize
+    requires { ⌜ (mask ≡ 0 → ⊥) ⌝ }
+    ensures { λ r. ⌜ Busiest (count-at c) mask r ⌝ }
+{
+    let by_64 = narrow(mask, c.sixtyfours);
+    let by_32 = narrow(by_64, c.thirtytwos);
+    let by_16 = narrow(by_32, c.sixteens);
+    let by_8 = narrow(by_16, c.eights);
+    let by_4 = narrow(by_8, c.fours);
+    let by_2 = narrow(by_4, c.twos);
+    masks::lowest(narrow(by_2, c.ones))
+}
+
+// Tries the counted variables, the busiest first and of equally busy ones the lowest, until one passes.
 fn first_passing(
     positives: &[u64; limits::MAX_CLAUSES],
     negatives: &[u64; limits::MAX_CLAUSES],
     count: usize,
-    candidates: u64,
+    counts: Counts,
 ) -> Choice
     requires { ⌜ Small (formula-in (now positives) (now negatives) count) ⌝ }
-    ensures { λ r. ⌜ r ≡ passing (formula-in (now (positives .entry)) (now (negatives .entry)) count) unassigned (members candidates 64) 0 ⌝ }
+    ensures { λ r. ⌜ r ≡ passing (formula-in (now (positives .entry)) (now (negatives .entry)) count) unassigned (by-count (count-at counts) 64 127) 0 ⌝ }
 {
-    let mut rest = candidates;
+    let mut rest = counted(counts);
     let mut cost: u64 = 0;
     while rest != 0 {
-        let v = masks::lowest(rest);
+        let v = busiest(counts, rest);
         let t = try_variable(positives, negatives, count, v);
         cost += t.cost;
         if t.passes {
@@ -548,7 +640,8 @@ fn choose_open(f: Formula, a: Assignment) -> Choice
     let s = r.survey;
     if s.any {
         let stripped = compact(&mut positives, &mut negatives, count, r.assignment);
-        return first_passing(&positives, &negatives, stripped, s.positive | s.negative);
+        let counts = count_names(&positives, &negatives, stripped);
+        return first_passing(&positives, &negatives, stripped, counts);
     }
     let others = masks::minus(names.positive | names.negative, r.noted);
     if others == 0 {

@@ -1,12 +1,13 @@
 -- `choose_open` is the choice where a clause is open: each way out is one case of it.
-use Prim.Native.Nat.{_<_}
+use Prim.Native.Nat.{ℕ, _<_}
 use native.Mathlib.Omega.{arith}
-use mathlib.Core.Path.{_≡_, ap, _∙_}
+use mathlib.Core.List.{List}
+use mathlib.Core.Path.{_≡_, ap, ap₂, _∙_}
 use borrow.Author.Needs.{needs}
-use lib.Bits.{bitOr}
-use Rattle.masks.specs.Mask.{members}
 use Rattle.formula.specs.declared.Formula.{Formula}
-use Rattle.splitting.specs.InnerChoose.{node, unassigned, formula-at, formula-in, Small, survey-of, reduce-from, passing, listed-last}
+use Rattle.splitting.specs.Choosing.{by-count}
+use Rattle.splitting.specs.InnerChoose.{node, unassigned, formula-at, formula-in, Small, survey-of, reduce-from, passing, busiest-first, count-at, listed-last}
+use Rattle.splitting.proofs.MaskTrialLaws.{counted-first}
 use Rattle.splitting.proofs.NodeMatchingLaws.{small-at}
 use Rattle.splitting.proofs.ReduceLaws.{reduce-last}
 use Rattle.splitting.proofs.LastMemberLaws.{greatest-below}
@@ -61,6 +62,23 @@ left c =
     c .compact .ensures .0
     ∙ ap (λ (g : Formula). formula-at g (stripped c .reduce .result .assignment)) (opened (named (stripped c)) .open-node .ensures .0)
 
+left-small : (c : tie.After-compact) → Small (formula-in (c .compact .last .0) (c .compact .last .1 .0) (c .compact .result))
+left-small c =
+    let o = opened (named (stripped c)) in
+    rw (left c) (small-at (formula-at (whole o) (entry o .args .a)) (node-small o) (stripped c .reduce .result .assignment))
+
+-- the order of trials, by what is counted
+abbrev counted-of : tie.After-count-names → tie.After-compact
+counted-of c = c .before .before .before
+
+tried-first : (c : tie.After-count-names)
+    → by-count (count-at (c .count-names .result)) 64 127
+    ≡ busiest-first (node (formula-at (whole (opened (named (stripped (counted-of c))))) (entry (opened (named (stripped (counted-of c)))) .args .a)) (stripped (counted-of c) .reduce .result .assignment))
+tried-first c =
+    let d = counted-of c in
+    counted-first (c .count-names .result) (d .compact .last .0) (d .compact .last .1 .0) (d .compact .result) (left-small d .few) (c .count-names .ensures)
+    ∙ ap (λ (g : Formula). busiest-first (g .clauses)) (left d)
+
 last-below : (c : tie.After-reduce) → c .reduce .result .last < 64
 last-below c =
     let o = opened (named c) in
@@ -84,21 +102,21 @@ compact-requires c κs =
     let o = opened (named (c .before .before .before .before)) in
     (held-small o .few, o .open-node .ensures .1 .0, o .open-node .ensures .1 .1)
 
+count-names-requires : tie.Need-count-names-requires
+count-names-requires c κs = left-small (c .before .before) .few
+
 first-passing-requires : tie.Need-first-passing-requires
-first-passing-requires c κs =
-    let d = c .before .before .before in
-    let o = opened (named (stripped d)) in
-    rw (left d) (small-at (formula-at (whole o) (entry o .args .a)) (node-small o) (stripped d .reduce .result .assignment))
+first-passing-requires c κs = left-small (counted-of (c .before .before))
 
 returns : tie.Need-returns
 returns c scope =
-    let d = c .before .before .before .before in
+    let k = c .before .before .before in
+    let d = counted-of k in
     let r = stripped d in
     let n = named r in
     let o = opened n in
-    let s = r .reduce .result .survey in
     c .first-passing .ensures
-    ∙ ap (λ (g : Formula). passing g unassigned (members (bitOr (s .positive) (s .negative)) 64) 0) (left d)
+    ∙ ap₂ (λ (g : Formula) (vs : List ℕ). passing g unassigned vs 0) (left d) (tried-first k)
     ∙ choice-passing (whole o) (small o) scope (entry o .args .a) (n .survey-clauses .result) (surveyed n)
     (rw (surveyed n) (entry o .pre .1)) (r .reduce .result) (reduced r) (d .before .before .before .if1 .taken)
 
@@ -150,6 +168,7 @@ choose-open-spec =
     survey-clauses-requires
     reduce-requires
     compact-requires
+    count-names-requires
     first-passing-requires
     returns
     minus-requires
