@@ -8,6 +8,7 @@ use native.Mathlib.Omega.{arith}
 use lib.Dec.{eqb}
 use lib.ListN.{length, length-append}
 use borrow.Author.Tests.{eqb-true, eq-eqb, ne-eqb}
+use Rattle.lists.specs.Distinct.{Distinct}
 use Rattle.lists.proofs.TestLaws.{or-cases, or-none, bool-cases, bool-clash}
 use Rattle.matching.proofs.Counting.{lt-or-le, one-if, count}
 use Rattle.formula.specs.Format.{Literal, names}
@@ -15,7 +16,7 @@ use Rattle.formula.proofs.ClauseLaws.{named-as}
 use Rattle.splitting.specs.Nodes.{named, upward-from, upward}
 use Rattle.splitting.specs.Choosing.{occurrences, by-count, among}
 use Rattle.splitting.specs.Terms.{Before, Ordered}
-use Rattle.splitting.proofs.SearchLaws.{among-here, among-more, among-none, among-append, among-left, among-right, upward-of, upward-in, upward-length, upward-from-of, upward-none, upward-wide}
+use Rattle.splitting.proofs.SearchLaws.{among-here, among-more, among-none, mem-among, among-append, among-left, among-right, upward-of, upward-in, upward-length, upward-from-of, upward-none, upward-wide}
 use Rattle.splitting.proofs.ClauseLaws.{occurs-some, named-some, named-by}
 use Rattle.splitting.proofs.CountLaws.{count-none}
 
@@ -28,6 +29,11 @@ before-once f x y p q =
     (λ (a : f y < f x). ⊎-elim (λ (b : f x < f y). omega arith) (λ b. omega (arith, b .0)) q)
     (λ a. ⊎-elim (λ (b : f x < f y). omega (arith, a .0)) (λ b. omega (arith, a .1, b .1)) q)
     p
+
+-- in order, none stands twice
+pub ordered-once : (f : ℕ → ℕ) (l : List ℕ) → Ordered f l → Distinct l
+ordered-once f [] o = tt
+ordered-once f (x ∷ l) o = (λ m. let b = o .0 x (mem-among l x m) in before-once f x x b b, ordered-once f l (o .1))
 
 -- two ordered lists, each of the first before each of the second
 ordered-append : (f : ℕ → ℕ) (l r : List ℕ) → Ordered f l → Ordered f r → ((x y : ℕ) → among l x ≡ true → among r y ≡ true → Before f x y) → Ordered f (l ++ r)

@@ -2,7 +2,7 @@
 use Prim.Native.Nat.{ℕ, zero, suc, _+_, _≤_, _<_}
 use mathlib.Core.Path.{_≡_, refl, sym, ap, _∙_}
 use mathlib.Core.Bool.{Bool, true, false, cond}
-use mathlib.Core.List.{List, [], _∷_, _++_, append-nil}
+use mathlib.Core.List.{List, [], _∷_, _++_, append-nil, List·Memᴰ, List·Memᴰ·cases-cons, List·Memᴰ·not-nil}
 use mathlib.Core.Logic.{_⊎_, inl, inr, ⊎-elim}
 use native.Mathlib.Nat.{eq-or-lt-of-le}
 use native.Mathlib.Omega.{arith}
@@ -75,6 +75,11 @@ among-other x y l ne = rw (ne-eqb x y ne)
 pub among-cases : (x y : ℕ) (l : List ℕ) → among (y ∷ l) x ≡ true → (x ≡ y) ⊎ (among l x ≡ true)
 unfolding among
 among-cases x y l t = ⊎-elim (λ e. inl (sym (eqb-true y x e))) (λ r. inr r) (or-cases (eqb y x) (among l x) t)
+
+-- an element is on the list
+pub mem-among : (l : List ℕ) (x : ℕ) → List·Memᴰ x l → among l x ≡ true
+mem-among [] x m = absurd (List·Memᴰ·not-nil m)
+mem-among (y ∷ l) x m = ⊎-elim (λ (e : x ≡ y). rw e (among-here y l)) (λ k. among-more x y l (mem-among l x k)) (List·Memᴰ·cases-cons m)
 
 -- nothing is on the empty list
 pub among-none : {C : Type 0} (x : ℕ) → among [] x ≡ true → C

@@ -6,6 +6,7 @@ use mathlib.Core.List.{List, [], _∷_, _++_, map, List·Memᴰ, List·Memᴰ·h
 use mathlib.Core.Logic.{_↔_}
 use native.Mathlib.Omega.{arith}
 use lib.ListN.{length}
+use Rattle.lists.specs.Distinct.{Distinct}
 use Rattle.lists.specs.Every.{Every}
 use Rattle.lists.proofs.SublistLaws.{sub-length}
 use Rattle.masks.specs.Mask.{bit, size}
@@ -15,8 +16,8 @@ use Rattle.formula.specs.Models.{Model}
 use Rattle.formula.specs.Masked.{variables}
 use Rattle.splitting.specs.Nodes.{assign, remaining, named, lowest-with}
 use Rattle.splitting.specs.Stripping.{pure, not-naming, note, stripped}
-use Rattle.splitting.specs.Choosing.{trial, first-passing, candidates, among, listed, last, emptied, unassigned-of, choice}
-use Rattle.splitting.specs.Terms.{Below, NonePure, left-after, Sound, Trail, Agrees, Covers, ModelAt, Unassigned, Assigns, opened}
+use Rattle.splitting.specs.Choosing.{trial, first-passing, occurrences, candidates, among, listed, last, emptied, unassigned-of, choice}
+use Rattle.splitting.specs.Terms.{Below, NonePure, left-after, Before, Ordered, Sound, Trail, Agrees, Covers, ModelAt, Unassigned, Assigns, opened}
 use Rattle.splitting.proofs.ClauseLaws.{named-by}
 use Rattle.splitting.proofs.StrippingLaws as stripping
 use Rattle.splitting.proofs.TurnLaws as turns
@@ -24,6 +25,7 @@ use Rattle.splitting.proofs.NodeLaws as nodes
 use Rattle.splitting.proofs.MatchedLaws as matchings
 use Rattle.splitting.proofs.ModelLaws as models
 use Rattle.splitting.proofs.SoundLaws as sound
+use Rattle.splitting.proofs.OrderLaws as orders
 use Rattle.splitting.proofs.TrialLaws as trials
 use Rattle.splitting.proofs.ChoiceLaws as choices
 use Rattle.splitting.proofs.TrailLaws as trails
@@ -88,16 +90,29 @@ trial-decides n cs v fits low = (trials.passes-matched n cs v fits low, trials.m
 pub candidates-are : (n : ℕ) (left : List (List Literal)) → Below n left → (v : ℕ) → (among (candidates n left) v ≡ true) ↔ (named left v ≡ true)
 candidates-are n left low v = (trials.candidates-named n left v, trials.named-candidates n left low v)
 
+-- None is one twice,
+pub candidates-once : (n : ℕ) (left : List (List Literal)) → Distinct (candidates n left)
+candidates-once n left = orders.ordered-once (occurrences left) (candidates n left) (trials.candidates-ordered n left)
+
+-- and of two the earlier is named by more left clauses, or by as many and is the lower.
+pub candidates-sorted : (n : ℕ) (left : List (List Literal)) → Ordered (occurrences left) (candidates n left)
+candidates-sorted n left = trials.candidates-ordered n left
+
 -- They are at most as many as a mask has that has them all.
 pub candidates-few : (n scope : ℕ) (left : List (List Literal)) → n ≤ 64 → Covers scope left → length (candidates n left) ≤ size scope
 candidates-few n scope left fits covers = trials.candidates-length n scope left fits covers
 
--- S6.3: some candidate passes: the chosen variable is a candidate, and its trial passes.
+-- S6.3: some candidate passes: the chosen variable is a candidate, its trial passes, and every candidate before it fails its own.
 pub chosen-passes : (n : ℕ) (cs : List (List Literal)) → n ≤ 64 → Below n cs → Sound n cs → 0 < length (stripped n cs .left)
     → (among (candidates n (stripped n cs .left)) (first-passing (stripped n cs .left) (candidates n (stripped n cs .left)) 0 .variable) ≡ true)
     × (trial (stripped n cs .left) (first-passing (stripped n cs .left) (candidates n (stripped n cs .left)) 0 .variable) .passes ≡ true)
+    × ((x : ℕ) → among (candidates n (stripped n cs .left)) x ≡ true
+    → Before (occurrences (stripped n cs .left)) x (first-passing (stripped n cs .left) (candidates n (stripped n cs .left)) 0 .variable)
+    → trial (stripped n cs .left) x .passes ≡ false)
 chosen-passes n cs fits low S some =
-    choices.left-chosen n (stripped n cs .left) 0 fits (choices.left-below n cs fits low) (stripping.left-none-pure n cs low) S some
+    let left = stripped n cs .left in
+    let w = choices.left-chosen n left 0 fits (choices.left-below n cs fits low) (stripping.left-none-pure n cs low) S some in
+    (w .0, w .1, trials.first-fails left (occurrences left) (candidates n left) 0 (trials.candidates-ordered n left))
 
 -- ── Nothing is left, but clauses remain (lemma 4.5 of the source) ────────────────────────────────────────────────────
 

@@ -20,10 +20,10 @@ use Rattle.formula.proofs.ClauseLaws.{variables-lt, named-as}
 use Rattle.splitting.specs.declared.Choice.{Choice}
 use Rattle.splitting.specs.Nodes.{assign, named}
 use Rattle.splitting.specs.Choosing.{matching-of, Trial, trial, both-open, first-passing, occurrences, candidates, among}
-use Rattle.splitting.specs.Terms.{Below, Covers, Ordered}
+use Rattle.splitting.specs.Terms.{Below, Covers, Before, Ordered}
 use Rattle.splitting.proofs.ClauseLaws.{named-by, literal-names}
 use Rattle.splitting.proofs.SearchLaws.{among-here, among-more, among-cases, among-none}
-use Rattle.splitting.proofs.OrderLaws.{by-count-of, by-count-in, by-count-ordered, by-count-length, counted-to, counted-of, occurrences-le, occurrences-named, named-occurrences}
+use Rattle.splitting.proofs.OrderLaws.{before-once, by-count-of, by-count-in, by-count-ordered, by-count-length, counted-to, counted-of, occurrences-le, occurrences-named, named-occurrences}
 use Rattle.splitting.proofs.NodeLaws.{below-assign, length-assign}
 use Rattle.splitting.proofs.MatchedLaws.{variables-at}
 use Rattle.matching.proofs.Counting.{pigeon}
@@ -159,6 +159,22 @@ first-passes cs (x ∷ vs) e v m t = go (λ k. first-passes cs vs (e + trial cs 
         (λ (q : v ≡ x). bool-clash t (rw q h))
         (λ k. let w = rec k in (among-more (first-passing cs vs (e + trial cs x .cost) .variable) x vs (w .0), w .1))
         (among-cases v x vs m)
+
+-- and what is to be tried before it fails, if the list is in order
+pub first-fails : (cs : List (List Literal)) (f : ℕ → ℕ) (vs : List ℕ) (e : ℕ) → Ordered f vs → (x : ℕ) → among vs x ≡ true → Before f x (first-passing cs vs e .variable)
+    → trial cs x .passes ≡ false
+unfolding first-passing
+first-fails cs f [] e o x m b = among-none x m
+first-fails cs f (y ∷ vs) e o x m b = go (first-fails cs f vs (e + trial cs y .cost) (o .1) x) (trial cs y .passes) refl b
+  where
+    go : (among vs x ≡ true → Before f x (first-passing cs vs (e + trial cs y .cost) .variable) → trial cs x .passes ≡ false) → (p : Bool) → trial cs y .passes ≡ p
+        → Before f x (chosen cs vs e y p .variable) → trial cs x .passes ≡ false
+    go rec true h b =
+        ⊎-elim
+        (λ (q : x ≡ y). let k : Before f y y = rw q at b in absurd (before-once f y y k k))
+        (λ k. absurd (before-once f x y b (o .0 x k)))
+        (among-cases x y vs m)
+    go rec false h b = ⊎-elim (λ (q : x ≡ y). rw q h) (λ k. rec k b) (among-cases x y vs m)
 
 -- both its values are open
 pub first-open : (cs : List (List Literal)) (vs : List ℕ) (e : ℕ) → (first-passing cs vs e .false_open ≡ true) × (first-passing cs vs e .true_open ≡ true)
