@@ -1,6 +1,6 @@
 -- The cases of the tables specs/MarkedCases.antt, specs/AssumedCases.antt, specs/StrippedCases.antt, specs/ViolatorCases.antt,
--- specs/WaitCases.antt, specs/DeficiencyCases.antt, specs/PageCases.antt and specs/UnnamedCases.antt, and some more, computed from the
--- definitions.
+-- specs/WaitCases.antt, specs/DeficiencyCases.antt, specs/PageCases.antt, specs/UnnamedCases.antt and specs/OrderCases.antt, and some more,
+-- computed from the definitions.
 use mathlib.Core.Bool.{xor}
 use Prim.Native.Nat.{ℕ, zero, suc, _≤_, _<_}
 use mathlib.Core.List.{List, [], _∷_, _++_, map, List·Memᴰ·eq-of-singleton}
@@ -31,11 +31,11 @@ use Rattle.matched.specs.Judge.{judge}
 use Rattle.matched.proofs.WeighLaws.{weigh-short, weigh-refused, weigh-bad, weigh-over}
 use Rattle.splitting.specs.Nodes.{less, assign, remaining, satisfied-by, occurs, named, first-from, upward-from}
 use Rattle.splitting.specs.Stripping.{pure, not-naming, strip}
-use Rattle.splitting.specs.Choosing.{matching-of, trial, first-passing, candidates, among, listed, last, emptied, last-listed, choice}
+use Rattle.splitting.specs.Choosing.{matching-of, trial, first-passing, occurrences, by-count, candidates, among, listed, last, emptied, last-listed, choice}
 use Rattle.walk.specs.Task.{Task, under, to-assign, visible, Posed}
 use Rattle.walk.specs.Checkpoints.{Checkpoint, trail-in, checkpoint-of, without-last, last-value, start, past-all, behind, checkpoint-after}
 use Rattle.walk.specs.WalkCall.{walk-call, walk-calls}
-use Rattle.walk.specs.InnerLocate.{task-call}
+use Rattle.walk.specs.InnerLocate.{same-bytes, same-checkpoint, at-state, nowhere, locate-from, located, by-state, task-call}
 use Rattle.walk.specs.Plain.{assignment, node-walk, plain-walk}
 use Rattle.walk.specs.Gaps.{to-model, to-end, gaps-from, gaps, shared, ample-budget}
 use Rattle.walk.specs.PlainMachine.{go-on, plain-call, plain-calls, state-after, Has}
@@ -58,6 +58,7 @@ use Rattle.edge_cases.specs.WaitCases.{gaps-under, WaitCases}
 use Rattle.edge_cases.specs.PageCases.{line-of-these, PageCases}
 use Rattle.edge_cases.specs.TextCases.{ascii}
 use Rattle.edge_cases.specs.UnnamedCases.{no-clause, UnnamedCases}
+use Rattle.edge_cases.specs.OrderCases.{busy, busy-clauses, failing-clauses, first-false, OrderCases}
 
 -- ---- what computes: to unfold one of these is to unfold all that its line names
 
@@ -94,7 +95,7 @@ unfolding reading searching union deficiency-of deficiency most largest-excess s
 measuring = tt
 
 choosing : Unit {0}
-unfolding searching stripping choice remaining assign less named upward-from matching-of trial first-passing candidates among listed last emptied last-listed
+unfolding searching stripping choice remaining assign less named upward-from matching-of trial first-passing occurrences by-count candidates among listed last emptied last-listed
 choosing = tt
 
 walking : Unit {0}
@@ -108,6 +109,10 @@ printing = tt
 paging : Unit {0}
 unfolding walking with-models ample-budgets page-line decimal decimal-within tabulated blanks state-after checkpoint-after behind past-all without-last last-value
 paging = tt
+
+locating : Unit {0}
+unfolding walking located locate-from same-checkpoint same-bytes checkpoint-of padded checkpoint-after behind past-all without-last last-value
+locating = tt
 
 waiting : Unit {0}
 unfolding walking gaps-from shared trail-in checkpoint-of padded checkpoint-after behind past-all without-last last-value
@@ -363,6 +368,38 @@ unnamed-cases = record {
   two-printed = refl;
   satisfied-walked = walked-plain _ _ _ _ _ _ refl 3;
   satisfied-page = λ b l. page-plain _ _ _ _ _ _ refl 1 b l (omega arith) (omega arith);
+}
+
+-- ---- the order of trials
+
+abbrev busy-task : Task
+busy-task = under 3 [] busy-clauses
+
+busy-nowhere : located busy-task first-false ≡ nowhere
+unfolding locating
+busy-nowhere = refl
+
+abbrev failing-task : Task
+failing-task = under 3 [] failing-clauses
+
+failing-at : located failing-task first-false ≡ at-state 1
+unfolding locating
+failing-at = refl
+
+pub order-cases : OrderCases
+unfolding judging walking printing locating task-call
+order-cases = record {
+  busy-order = refl;
+  busy-printed = refl;
+  failing-order = refl;
+  failing-trial = refl;
+  failing-printed = refl;
+  equal-clauses = refl;
+  left-counted = refl;
+  earlier-foreign = λ b. call-accepted busy [] 3 [] busy-clauses _ refl first-false b ∙ ap (λ l. by-state busy-task first-false l b) busy-nowhere;
+  earlier-fits =
+      call-accepted (formula-bytes 3 failing-clauses) [] 3 [] failing-clauses _ refl first-false ample-budget
+      ∙ ap (λ l. by-state failing-task first-false l ample-budget) failing-at;
 }
 
 -- ---- more cases

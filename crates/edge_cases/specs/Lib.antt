@@ -1,6 +1,7 @@
 pub mod AssumedCases
 pub mod DeficiencyCases
 pub mod MarkedCases
+pub mod OrderCases
 pub mod PageCases
 pub mod StrippedCases
 pub mod TextCases

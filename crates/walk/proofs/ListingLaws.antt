@@ -161,3 +161,10 @@ module _ (K : Tree) (Model : ℕ → Type 0) (P : Splits K Model) where
           → (x : Bool) → K .choose t .false_open ≡ x → (a : ℕ) × Model a × Agrees a t
       at ih true o = let i = ih false (r, omega arith, refl, o) (omega arith) in (i .0, i .1, i .2 .1)
       at ih false o = let i = ih true (r, omega arith, refl, L .alive t r (omega arith) o) (omega arith) in (i .0, i .1, i .2 .1)
+
+-- Two trees that split the same models list the same ones, in whichever order each of them chooses variables.
+pub same-listed : (J K : Tree) (Model : ℕ → Type 0) → Splits J Model → Splits K Model → (a : ℕ) → List·Memᴰ a (models-of (walk J)) ↔ List·Memᴰ a (models-of (walk K))
+same-listed J K Model P Q a =
+    let j = walk-lists J Model P a in
+    let k = walk-lists K Model Q a in
+    (λ m. k .1 (j .0 m), λ m. j .1 (k .0 m))
