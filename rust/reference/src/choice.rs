@@ -4,6 +4,7 @@ use crate::bits::{bit, highest, lowest, numbers};
 use crate::formula::{Clause, Formula, MAX_VARIABLES};
 use crate::matching::Matching;
 use crate::stripping::{survey, Clauses};
+use std::cmp::Reverse;
 
 /// The variable to assign next, and its open values: those that some model has, beside what is assigned.
 #[derive(Clone, Copy, Default)]
@@ -81,16 +82,16 @@ impl<'a> Chooser<'a> {
         if left.is_empty() {
             choose_last(remaining, &noted)
         } else {
-            try_upward(left)
+            try_busiest_first(left)
         }
     }
 }
 
-/// Something is left: the first of its variables, upward, for which the clauses can be matched with it false and with it true.
-fn try_upward(left: &[Clause]) -> Choice {
-    let (positive, negative) = survey(left);
+/// Something is left: the first of its variables, in the order of [`busiest_first`], for which the clauses can be matched with it false
+/// and with it true.
+fn try_busiest_first(left: &[Clause]) -> Choice {
     let mut matching = Matching::new();
-    for variable in numbers(positive | negative) {
+    for variable in busiest_first(left) {
         if try_value(left, variable, false, &mut matching)
             && try_value(left, variable, true, &mut matching)
         {
@@ -98,6 +99,19 @@ fn try_upward(left: &[Clause]) -> Choice {
         }
     }
     unreachable!("the source's theorem 5.9: some variable passes its trial")
+}
+
+/// The variables that the clauses name, by how many clauses name them, most first, and of those that as many name the lower one first
+/// (request: busiest first).
+fn busiest_first(clauses: &[Clause]) -> Vec<usize> {
+    let (positive, negative) = survey(clauses);
+    let naming = |variable: &usize| {
+        let names = |clause: &&Clause| clause.named() & bit(*variable) != 0;
+        clauses.iter().filter(names).count()
+    };
+    let mut variables: Vec<usize> = numbers(positive | negative).collect();
+    variables.sort_by_cached_key(|variable| Reverse(naming(variable)));
+    variables
 }
 
 /// One half of a trial: whether the clauses can be matched once the variable has the value. What stripping leaves at a node of a walk is
