@@ -87,11 +87,19 @@ impl<'a> Chooser<'a> {
     }
 }
 
-/// Something is left: the first of its variables, in the order of [`busiest_first`], for which the clauses can be matched with it false
-/// and with it true.
+/// Something is left: the first of its variables for which the clauses can be matched with it false and with it true. They are tried by
+/// how many of the clauses name them, most first, and of those that as many name the lower one first (request: busiest first).
 fn try_busiest_first(left: &[Clause]) -> Choice {
+    let (positive, negative) = survey(left);
+    let mut order = [(Reverse(0), 0); MAX_VARIABLES];
+    let mut count = 0;
+    for variable in numbers(positive | negative) {
+        order[count] = (Reverse(naming(left, variable)), variable);
+        count += 1;
+    }
+    order[..count].sort_unstable();
     let mut matching = Matching::new();
-    for variable in busiest_first(left) {
+    for (_, variable) in order[..count].iter().copied() {
         if try_value(left, variable, false, &mut matching)
             && try_value(left, variable, true, &mut matching)
         {
@@ -101,17 +109,10 @@ fn try_busiest_first(left: &[Clause]) -> Choice {
     unreachable!("the source's theorem 5.9: some variable passes its trial")
 }
 
-/// The variables that the clauses name, by how many clauses name them, most first, and of those that as many name the lower one first
-/// (request: busiest first).
-fn busiest_first(clauses: &[Clause]) -> Vec<usize> {
-    let (positive, negative) = survey(clauses);
-    let naming = |variable: &usize| {
-        let names = |clause: &&Clause| clause.named() & bit(*variable) != 0;
-        clauses.iter().filter(names).count()
-    };
-    let mut variables: Vec<usize> = numbers(positive | negative).collect();
-    variables.sort_by_cached_key(|variable| Reverse(naming(variable)));
-    variables
+/// How many clauses name the variable.
+fn naming(clauses: &[Clause], variable: usize) -> usize {
+    let names = |clause: &&Clause| clause.named() & bit(variable) != 0;
+    clauses.iter().filter(names).count()
 }
 
 /// One half of a trial: whether the clauses can be matched once the variable has the value. What stripping leaves at a node of a walk is
