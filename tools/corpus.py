@@ -967,6 +967,24 @@ def foreign(given, *formulas):
 
 CLOSED_TRUE = '01 01 03 01 04 05'  # the clause (not 1): variable 1 has no model as true
 PURE_LAST = '01 02 02 01 02 02 04 02 01 03 02 04 05'  # S6.4: clauses (1, 2) and (1, not 2); 2 is assigned before 1
+# S6.3: formulas of which stripping leaves clauses. Their variables are tried by how many of these name them, most first
+SECOND = '01 03 03 01 03 02 04 02 02 03 03 04 02 01 03 02 02 03 04 05'  # clauses (not 1, not 2), (2, not 3), (1, not 2, 3): all name 2
+# (not 1, not 2, 3), (1, not 2, not 3), (2): all name 2, which can't be false
+FAILING = '01 03 03 01 03 02 02 03 04 02 01 03 02 03 03 04 02 02 04 05'
+TIED = '01 03 02 01 02 02 03 03 04 03 01 03 02 02 03 04 02 02 02 03 04 05'  # (1, 2, not 3), (not 1, not 2, 3), (2, 3): all name 2 and 3
+# those of SECOND, (3, 4), (not 3, 4): most name 3, but 4 drops the last two
+DROPPING = '01 04' + SECOND[5:-3] + ' 02 03 02 04 04 03 03 02 04 04 05'
+# (1, 2, 3), (1, not 2, 3), (not 1, not 2, not 3, 4), (not 3, not 4): most name 3, as many have 1 as true, as many 2 as false
+BOTH_SIGNS = '01 04 02 01 02 02 02 03 04 02 01 03 02 02 03 04 03 01 03 02 03 03 02 04 04 03 03 03 04 04 05'
+# (2, 3, 4) twice, (not 2, not 3, 1), (not 1, not 4): three name each of 2, 3 and 4, since equal ones count each; and the same with 5 in
+# the first
+EQUAL = '01 04 02 02 02 03 02 04 04 02 02 02 03 02 04 04 03 02 03 03 02 01 04 03 01 03 04 04 05'
+BECOME_EQUAL = '01 05 02 02 02 03 02 04 02 05 04 02 02 02 03 02 04 04 03 02 03 03 02 01 04 03 01 03 04 04 05'
+# (1), (not 1, 4, 3), (not 1, not 4, not 2), (not 4, not 3, 2): three name 1, which can't be false, and three name 4; of the clauses that 1
+# as false would leave, as many name 2 as name 4
+COUNTED_ONCE = '01 04 02 01 04 03 01 02 04 02 03 04 03 01 03 04 03 02 04 03 04 03 03 02 02 04 05'
+# (not 1, 2, not 4), (not 2, 3), (3, 4), (1, 2, not 3, not 4): three name each of 2, 3 and 4; where 2 is false, three name 4 and two name 3
+COUNTED_ANEW = '01 04 03 01 02 02 03 04 04 03 02 02 03 04 02 03 02 04 04 02 01 02 02 03 03 03 04 04 05'
 WIDE_FIRST = in_order(48, 2) + ' 81'  # the trail of the first model where all clauses are that of 48 variables
 WIDE_48 = 'b0 ' + in_order(1, 47)  # and, with one clause, of the first in which 48 is true
 MOST = (1 << 32) - 1
@@ -1165,6 +1183,39 @@ WALK_EDGES = [
     (PARTLY, LAST, MOST, ENDED, 0, 0, 0, OVER, 3, 0),
     *foreign(checkpoint(1, 1, '81'), PARTLY),
     *refused(STRANGE, 10, 2, [(MARKED, MOST)]),
+    # what stripping leaves: the busiest variable is tried first
+    (SECOND, START, 1, SPENT, 0, 0, 0, checkpoint(1, 1, '02'), 1, 3),
+    (SECOND, LAST, 2, MODEL, 0, 0, 0b000, checkpoint(1, 3, '02 03 01'), 2, 0),
+    (SECOND, LAST, 1, SPENT, 0, 0, 0, checkpoint(2, 2, '02 03'), 1, 0),
+    (SECOND, LAST, 1, MODEL, 0, 0, 0b001, checkpoint(1, 3, '02 03 81'), 1, 0),
+    (SECOND, LAST, MOST, MODEL, 0, 0, 0b110, checkpoint(1, 3, '82 01 83'), 6, 0),
+    (SECOND, LAST, MOST, ENDED, 0, 0, 0, OVER, 3, 0),
+    # one that fails, and then the lower one of two that as many name; two that are busiest
+    (FAILING, START, 1, SPENT, 0, 0, 0, checkpoint(1, 1, '01'), 1, 7),
+    (FAILING, LAST, 2, MODEL, 0, 0, 0b010, checkpoint(1, 3, '01 82 03'), 2, 0),
+    *(e for trail in ('02', '82', '03') for e in foreign(checkpoint(1, 1, trail), FAILING)),
+    (TIED, START, 1, SPENT, 0, 0, 0, checkpoint(1, 1, '02'), 1, 3),
+    *(e for trail in ('01', '03') for e in foreign(checkpoint(1, 1, trail), TIED)),
+    # only left clauses count, each as often as it is there and with both signs, once at each node
+    (DROPPING, START, 1, SPENT, 0, 0, 0, checkpoint(1, 1, '02'), 1, 3),
+    *(e for trail in ('01', '03') for e in foreign(checkpoint(1, 1, trail), DROPPING)),
+    (BOTH_SIGNS, START, 1, SPENT, 0, 0, 0, checkpoint(1, 1, '03'), 1, 4),
+    (EQUAL, START, 1, SPENT, 0, 0, 0, checkpoint(1, 1, '02'), 1, 5),
+    *foreign(checkpoint(1, 1, '01'), BOTH_SIGNS, EQUAL),
+    (BECOME_EQUAL, START, 1, SPENT, 0, 0, 0, checkpoint(1, 1, '01'), 1, 4),
+    (COUNTED_ONCE, START, 1, SPENT, 0, 0, 0, checkpoint(1, 1, '04'), 1, 6),
+    *foreign(checkpoint(1, 1, '02'), BOTH_SIGNS, COUNTED_ONCE),
+    (COUNTED_ANEW, START, 1, SPENT, 0, 0, 0, checkpoint(1, 1, '02'), 1, 5),
+    (COUNTED_ANEW, LAST, 1, SPENT, 0, 0, 0, checkpoint(1, 2, '02 04'), 1, 3),
+    *(e for trail in ('02 01', '02 03') for e in foreign(checkpoint(1, 2, trail), COUNTED_ANEW)),
+    # checkpoints of the walk that once took the lowest variable: foreign, or taken as those of this one, which makes something else of
+    # some; where the same variable is taken, all are
+    *(e for mode, trail in ((1, '01'), (1, '01 02'), (1, '01 02 03'), (2, '01'), (3, '01 82'), (1, '81'), (1, '81 02 03'), (2, '81 02'))
+      for e in foreign(checkpoint(mode, len(bytes.fromhex(trail)), trail), SECOND)),
+    (SECOND, checkpoint(2, 0), 1, SPENT, 0, 0, 0, checkpoint(1, 1, '82'), 1, 0),
+    (SECOND, checkpoint(2, 0), MOST, MODEL, 0, 0, 0b110, checkpoint(1, 3, '82 01 83'), 3, 0),
+    (SECOND, OVER, MOST, ENDED, 0, 0, 0, OVER, 0, 0),
+    (FAILING, checkpoint(1, 3, '01 82 03'), MOST, MODEL, 0, 0, 0b111, checkpoint(1, 3, '81 82 83'), 6, 0),
     # the fullest input: all but 1 are false in the first model, and 1 is assigned last
     (FULLEST, START, MOST, MODEL, 0, 0, 1, checkpoint(1, 48, WIDE_FIRST), 48, 0),
 ]
@@ -1225,6 +1276,17 @@ WALK_ASSUMED = [
     # a formula that strips down to nothing under the assumption
     ((PARTLY, '02 01'), START, MOST, MODEL, 0, 0, 0b011, checkpoint(1, 2, '03 81'), 2, 0),
     ((PARTLY, '02 01'), LAST, MOST, ENDED, 0, 0, 0, OVER, 2, 0),
+    # what an assumption satisfies is not counted, and clauses that it makes equal are counted each
+    ((DROPPING, '04 01'), START, 1, SPENT, 0, 0, 0, checkpoint(1, 1, '02'), 1, 3),
+    ((DROPPING, '04 01'), LAST, MOST, MODEL, 0, 0, 0b1000, checkpoint(1, 3, '02 03 01'), 2, 0),
+    *foreign(checkpoint(1, 1, '03'), (DROPPING, '04 01')),
+    ((BECOME_EQUAL, '05 00'), START, 1, SPENT, 0, 0, 0, checkpoint(1, 1, '02'), 1, 5),
+    ((BECOME_EQUAL, '05 01'), START, 1, SPENT, 0, 0, 0, checkpoint(1, 1, '01'), 1, 4),
+    *foreign(checkpoint(1, 1, '01'), (BECOME_EQUAL, '05 00')),
+    *foreign(checkpoint(1, 1, '02'), (BECOME_EQUAL, '05 01')),
+    ((SECOND, '01 00'), START, MOST, MODEL, 0, 0, 0b000, checkpoint(1, 2, '02 03'), 2, 2),
+    ((SECOND, '01 00'), LAST, MOST, MODEL, 0, 0, 0b110, checkpoint(1, 2, '82 83'), 4, 0),
+    ((SECOND, '01 00'), LAST, MOST, ENDED, 0, 0, 0, OVER, 2, 0),
     # nothing is left to assign: the model on any budget, then the end
     *(e for budget in (0, 96) for e in [
         ((TWO_UNNAMED, '01 01 02 00'), START, budget, MODEL, 0, 0, 0b01, checkpoint(1, 0), 0, 0),
@@ -1323,6 +1385,10 @@ WAITS = [
     (MOST_TRUE, [1, 1]),
     (PARTLY, [3, 6, 3]),
     ((PARTLY, '02 01'), [2, 2]),
+    # the busiest variable first: trails -2 -3 -1, -2 -3 1, 2 -1 3; of the next -1 2 -3 and 1 2 3; then -2 3 1, 2 -3 -1, 2 3 -1, 2 3 1
+    (SECOND, [3, 2, 6, 3]),
+    (FAILING, [3, 6, 3]),
+    (TIED, [3, 6, 4, 2, 3]),
     ]
 BUDGETS = [
     [], [0], 3 * [0], 24 * [1], 12 * [2], 3 * [95], 3 * [96], 3 * [97], 8 * [96], [MOST, 0, MOST, 0, 0, MOST], [2, 0, 7, 1], [96, 1, 0, 95],
@@ -1380,6 +1446,7 @@ LIST_EDGES = [
         (TWO_UNNAMED, checkpoint(2, 0), 11, 0),
         (TWO_UNNAMED, checkpoint(1, 1, '01'), 11, 0),
         (TWO_OF_FOUR, checkpoint(1, 3, '03 01 02'), 11, 0),
+        (SECOND, checkpoint(1, 3, '01 02 03'), 11, 0),
     ]),
     (EITHER, START, 4, ENDED, 0, 0, OVER, [0b01, 0b10, 0b11]),
     (MANY, START, 2, ENDED, 0, 0, OVER, [0b01]),
@@ -1401,6 +1468,10 @@ LIST_EDGES = [
     (MOST_TRUE, START, 255, ENDED, 0, 0, OVER, [0b1]),
     (PARTLY, START, 3, ENDED, 0, 0, OVER, [0b101, 0b011]),
     ((PARTLY, '02 01'), START, 2, ENDED, 0, 0, OVER, [0b011]),
+    # the busiest variable first, and from a checkpoint that the walk once had, too
+    (SECOND, START, 4, ENDED, 0, 0, OVER, [0b000, 0b001, 0b110]),
+    (SECOND, checkpoint(2, 0), 4, ENDED, 0, 0, OVER, [0b110]),
+    (TIED, START, 3, MODEL, 0, 0, checkpoint(1, 3, '82 83 01'), [0b101, 0b010, 0b110]),
     # nothing is to be assigned: without room the model is not lost
     (TWO_UNNAMED, START, 0, SPENT, 0, 0, FIRST, []),
     (TWO_UNNAMED, LAST, 1, MODEL, 0, 0, checkpoint(1, 0), [0b00]),
@@ -1499,6 +1570,9 @@ PAGE_EDGES = [
     ((TWO_OF_THREE, '03 01 01 01'), START, 1, 3005, page_lines(1, ('101', 1), ('111', 2)), OVER),
     (LAST_NAMED, START, 1, 3005, page_lines(1, (47 * '-' + '1', 1)), OVER),
     ((LAST_NAMED, '2f 01'), START, 1, 3005, page_lines(1, (46 * '-' + '11', 1)), OVER),
+    # the busiest variable first, and from a checkpoint that the walk once had, too
+    (SECOND, START, 1, 3005, page_lines(1, ('000', 3), ('100', 2), ('011', 6)), OVER),
+    (SECOND, checkpoint(2, 0), 1, 3005, page_lines(1, ('011', 3)), OVER),
     # nothing is to be assigned: one line, of no step
     (TWO_UNNAMED, START, 1, 3005, page_lines(1, ('--', 0)), OVER),
     (TWO_UNNAMED, LAST, 51, 3005, [], OVER),
@@ -1533,12 +1607,13 @@ PAGE_EDGES = [
     page_refused(TWO_UNNAMED, checkpoint(1, 1, '01'), 1, 3005, 11, 0),
     page_refused((TWO_OF_THREE, '01 01'), checkpoint(1, 2, '02 03'), 1, 3005, 11, 0),
     page_refused(EITHER, checkpoint(1, 0), 1, 3005, 11, 0),
+    page_refused(SECOND, checkpoint(1, 3, '01 02 03'), 1, 3005, 11, 0),
 ]
 
 # formulas: some of few variables, each under every list of assumptions, in order, none bad
 FORMULA_EDGES = [(given, ' '.join('%02x %02x' % (v, x) for v, x in enumerate(values, 1) if x < 2))
                  for given in [EXAMPLE, PURE_LAST, UNMATCHED, REMATCHED, ANY_OF_THREE, TWICE, MOST_TRUE, PARTLY, MARKED, LOWER, HIGHER,
-                               TWO_UNNAMED, ONE_OF_TWO, TWO_OF_THREE, TWO_OF_FOUR,
+                               TWO_UNNAMED, ONE_OF_TWO, TWO_OF_THREE, TWO_OF_FOUR, SECOND, FAILING, TIED,
                                '01 04 02 01 03 02 04 02 02 03 03 04 02 03 03 01 02 04 04 05',
                                '01 04 02 01 02 02 04 03 01 02 03 04 03 02 03 03 04 02 04 03 01 04 05',
                                '01 03 02 01 04 03 01 02 02 04 02 02 04 03 03 04 05']
@@ -1555,6 +1630,15 @@ PRINTED_EDGES = [
     (MOST_TRUE, 'switches 1 rules 96\n1 1 0\nend 1 0\n'),
     (PARTLY, 'switches 3 rules 4\n101 3 2\n110 6 0\nend 3 0\n'),
     (MARKED, 'refused 10 2\n'),
+    # the busiest variable first
+    (SECOND, 'switches 3 rules 3\n000 3 3\n100 2 0\n011 6 0\nend 3 0\n'),
+    (FAILING, 'switches 3 rules 3\n010 3 7\n111 6 0\nend 3 0\n'),
+    (TIED, 'switches 3 rules 3\n101 3 3\n010 6 0\n011 4 0\n111 2 0\nend 3 0\n'),
+    (DROPPING, 'switches 4 rules 5\n0001 4 3\n1001 2 0\n0111 8 0\nend 4 0\n'),
+    (BOTH_SIGNS, 'switches 4 rules 4\n1000 4 4\n1001 2 0\n1100 6 0\n1101 2 0\n0010 8 0\n1010 2 0\n0110 6 0\nend 4 0\n'),
+    (EQUAL, 'switches 4 rules 4\n0010 4 5\n1010 2 0\n0001 6 0\n0011 2 0\n0100 8 0\n1100 2 0\n1110 4 0\n0101 6 0\nend 4 0\n'),
+    (COUNTED_ONCE, 'switches 4 rules 4\n1010 4 6\n1110 2 0\n1001 8 0\nend 4 0\n'),
+    (COUNTED_ANEW, 'switches 4 rules 4\n0010 4 8\n1010 2 0\n0001 6 0\n0110 8 0\n1110 2 0\n0111 6 0\n1111 2 0\nend 4 0\n'),
     # dashes for variables that no clause names; the first line counts them
     (EITHER, 'switches 2 rules 1\n10 2 0\n01 4 0\n11 2 0\nend 2 0\n'),
     (TWO_OF_THREE, 'switches 3 rules 1\n10- 2 0\n01- 4 0\n11- 2 0\nend 2 0\n'),

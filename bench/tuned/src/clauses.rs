@@ -19,6 +19,9 @@ pub(crate) trait ClauseSet:
     /// The first so many clauses.
     fn first(count: usize) -> Self;
 
+    /// How many clauses the set has.
+    fn count(self) -> u32;
+
     /// Takes the lowest clause out of the set.
     fn take_lowest(&mut self) -> Option<usize>;
 
@@ -46,6 +49,11 @@ macro_rules! clause_set {
             #[inline]
             fn first(count: usize) -> Self {
                 (1 << count) - 1
+            }
+
+            #[inline]
+            fn count(self) -> u32 {
+                self.count_ones()
             }
 
             #[inline]

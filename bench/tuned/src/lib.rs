@@ -1,7 +1,8 @@
 //! A second baseline of the benchmark: what a faster algorithm would gain. It gives the same answers as the plain reference and
 //! the proved library, and does less for them:
 //!
-//! - for each variable it keeps the clauses that have it, as masks, so that dropping clauses touches only what they name;
+//! - for each variable it keeps the clauses that have it, as masks, so that dropping clauses touches only what they name, and those
+//!   that name a variable are counted at once;
 //! - it keeps a node for each depth of the trail and makes each from the one above, so that no choice gathers clauses anew;
 //! - a matching first looks for a free variable of the new clause, and of each clause that it takes off the queue, by one mask
 //!   operation, and goes through the variables one by one only where there is none.

@@ -44,6 +44,12 @@ impl<S: ClauseSet> Occurrences<S> {
             self.negative_in[variable]
         }
     }
+
+    /// The clauses that name the variable.
+    #[inline]
+    fn naming(&self, variable: usize) -> S {
+        self.positive_in[variable] | self.negative_in[variable]
+    }
 }
 
 /// What remains of the formula when some variables are assigned.
@@ -139,7 +145,7 @@ impl<S: ClauseSet> Node<S> {
         }
         let stripped = self.strip(formula);
         if !stripped.left.clauses.is_empty() {
-            return stripped.left.try_upward(formula, matching);
+            return stripped.left.try_busiest_first(formula, matching);
         }
         // The noted variables in order, then the others that are named here, upward: the last one.
         let others = (self.positive | self.negative) & !stripped.noted;
@@ -172,19 +178,26 @@ impl<S: ClauseSet> Node<S> {
             }
             last_noted = lowest(pure);
             noted |= bit(last_noted);
-            let naming = formula.positive_in[last_noted] | formula.negative_in[last_noted];
-            left.drop_clauses(formula, naming);
+            left.drop_clauses(formula, formula.naming(last_noted));
         }
     }
 
-    /// The first variable, upward, for which the clauses can be matched with it false and with it true.
-    fn try_upward(&self, formula: &Occurrences<S>, matching: &mut Matching) -> Choice {
-        for variable in numbers(self.positive | self.negative) {
+    /// The first variable for which the clauses can be matched with it false and with it true: by how many of them name it, most
+    /// first, and of those that as many name the lower one first. They are not sorted, since often the first one tried is it.
+    fn try_busiest_first(&self, formula: &Occurrences<S>, matching: &mut Matching) -> Choice {
+        let mut untried = self.positive | self.negative;
+        let mut naming = [0; MAX_VARIABLES];
+        for variable in numbers(untried) {
+            naming[variable] = (formula.naming(variable) & self.clauses).count();
+        }
+        while untried != 0 {
+            let variable = busiest(untried, &naming);
             if self.try_value(formula, matching, variable, false)
                 && self.try_value(formula, matching, variable, true)
             {
                 return Choice::both_open(variable);
             }
+            untried &= !bit(variable);
         }
         unreachable!("the source's theorem 5.9: some variable passes its trial")
     }
@@ -210,6 +223,18 @@ impl<S: ClauseSet> Node<S> {
             .clauses()
             .any(|clause| formula.named[clause] & self.unassigned == bit(variable))
     }
+}
+
+/// The variable of the set, which is not empty, that most clauses name, the lowest such; `naming` says by variable how many do.
+#[inline]
+fn busiest(variables: u64, naming: &[u32; MAX_VARIABLES]) -> usize {
+    let mut busiest = lowest(variables);
+    for variable in numbers(variables) {
+        if naming[variable] > naming[busiest] {
+            busiest = variable;
+        }
+    }
+    busiest
 }
 
 /// What pure literal elimination leaves, and the noted variables.

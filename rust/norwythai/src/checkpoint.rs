@@ -9,6 +9,11 @@ use std::str::FromStr;
 /// Where a walk stands. It may be kept and sent as bytes or as a line of text; whatever comes back is tested, and refused if
 /// the walk of the formula never has it.
 ///
+/// It is judged by the walk of today alone, and has no byte for the version that made it. Walks of earlier versions took variables in
+/// another order. Their checkpoints are refused as [`ForeignCheckpoint`](crate::Refusal::ForeignCheckpoint), by 11, if the walk of today
+/// never has them; one that happens to fit is taken as a checkpoint of this walk, so that models may come again or be missed. Begin anew
+/// with [`start`](Checkpoint::start) instead.
+///
 /// ```
 /// use norwythai::Checkpoint;
 ///

@@ -224,7 +224,7 @@ impl fmt::Display for Refusal {
             ),
             Refusal::ForeignCheckpoint => write!(
                 f,
-                "the marker belongs to another sheet or to other fixed settings, or was changed: this walk never has it"
+                "the marker belongs to another sheet, to other fixed settings or to an earlier version, or was changed: this walk never has it"
             ),
             Refusal::StrayVariable { .. } => {
                 write!(f, "the set-up has a switch on that the kit doesn't have")

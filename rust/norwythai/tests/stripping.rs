@@ -1,5 +1,8 @@
 //! Formulas with more clauses than variables, of which stripping drops some.
 
+mod common;
+
+use common::walked;
 use norwythai::{
     check, judge, judge_into, list, walk, Answer, Assignment, Assumption, Checkpoint, Formula,
     JudgeError, Models, Refusal, Violator, DROPPED,
@@ -73,19 +76,6 @@ fn marks_are_those_of_the_left_clauses() {
     assert_eq!((checkpoint, models), (Checkpoint::start(), [7; 2]));
     assert!(Models::new(LEFT_UNMATCHED).eq([Err(refusal)]));
     assert_eq!(check(LEFT_UNMATCHED, Assignment::from_bits(2)), Ok(false));
-}
-
-/// The answers of walk calls with an ample budget, and their steps and expansions, up to the end.
-fn walked(input: &[u8], assumptions: &[Assumption]) -> Vec<(Answer, u32, u64)> {
-    let mut checkpoint = Checkpoint::start();
-    let mut calls = Vec::new();
-    loop {
-        let walked = walk(input, assumptions, &mut checkpoint, 96).unwrap();
-        calls.push((walked.answer, walked.steps, walked.expansions));
-        if walked.answer == Answer::Ended {
-            return calls;
-        }
-    }
 }
 
 #[test]

@@ -4,6 +4,7 @@ use crate::bits::{bit, highest, lowest, numbers};
 use crate::formula::{Clause, Formula, MAX_VARIABLES};
 use crate::matching::Matching;
 use crate::stripping::{survey, Clauses};
+use std::cmp::Reverse;
 
 /// The variable to assign next, and its open values: those that some model has, beside what is assigned.
 #[derive(Clone, Copy, Default)]
@@ -81,16 +82,24 @@ impl<'a> Chooser<'a> {
         if left.is_empty() {
             choose_last(remaining, &noted)
         } else {
-            try_upward(left)
+            try_busiest_first(left)
         }
     }
 }
 
-/// Something is left: the first of its variables, upward, for which the clauses can be matched with it false and with it true.
-fn try_upward(left: &[Clause]) -> Choice {
+/// Something is left: the first of its variables for which the clauses can be matched with it false and with it true. They are tried by
+/// how many of the clauses name them, most first, and of those that as many name the lower one first (request: busiest first).
+fn try_busiest_first(left: &[Clause]) -> Choice {
     let (positive, negative) = survey(left);
-    let mut matching = Matching::new();
+    let mut order = [(Reverse(0), 0); MAX_VARIABLES];
+    let mut count = 0;
     for variable in numbers(positive | negative) {
+        order[count] = (Reverse(naming(left, variable)), variable);
+        count += 1;
+    }
+    order[..count].sort_unstable();
+    let mut matching = Matching::new();
+    for (_, variable) in order[..count].iter().copied() {
         if try_value(left, variable, false, &mut matching)
             && try_value(left, variable, true, &mut matching)
         {
@@ -98,6 +107,12 @@ fn try_upward(left: &[Clause]) -> Choice {
         }
     }
     unreachable!("the source's theorem 5.9: some variable passes its trial")
+}
+
+/// How many clauses name the variable.
+fn naming(clauses: &[Clause], variable: usize) -> usize {
+    let names = |clause: &&Clause| clause.named() & bit(variable) != 0;
+    clauses.iter().filter(names).count()
 }
 
 /// One half of a trial: whether the clauses can be matched once the variable has the value. What stripping leaves at a node of a walk is

@@ -1,18 +1,17 @@
 //! Formulas of which stripping drops clauses: which are accepted, what judge writes, and their walks.
 
-use norwythai_reference::bits::numbers;
+mod clauses;
+
+use clauses::{clauses_of, names, strip};
 use norwythai_reference::{
-    check, decode, judge, list, print, start_checkpoint, walk, Answer, Assumption, Formula,
-    Refusal, Walker, LIST_BUDGET,
+    check, decode, judge, list, print, start_checkpoint, walk, Answer, Assumption, Refusal, Walker,
+    LIST_BUDGET,
 };
 use norwythai_samples::{
     encode, listed_models, some_accepted_formula, some_assumptions, some_checkpoint, some_input,
-    Random, Stop, Waits,
+    Clauses, Random, Stop, Waits,
 };
 use std::collections::BTreeMap;
-
-/// Clauses as literals.
-type Clauses = Vec<Vec<i8>>;
 
 fn is_accepted(input: &[u8]) -> bool {
     judge(input, &[], &mut [0; 96]).is_ok()
@@ -122,38 +121,6 @@ fn stripped_formulas_are_walked_and_printed() {
     assert_eq!(models[..2], [0b101, 0b011]);
     let most = encode(1, &vec![vec![1]; 96]);
     assert_eq!(print(&most), "switches 1 rules 96\n1 1 0\nend 1 0\n");
-}
-
-/// The clauses of a formula as literals.
-fn clauses_of(formula: &Formula) -> Clauses {
-    let literals = |mask, sign: i8| numbers(mask).map(move |v| sign * (v as i8 + 1));
-    formula
-        .clauses()
-        .iter()
-        .map(|c| {
-            literals(c.positive, 1)
-                .chain(literals(c.negative, -1))
-                .collect()
-        })
-        .collect()
-}
-
-fn names(clause: &[i8], variable: i8) -> bool {
-    clause.contains(&variable) || clause.contains(&-variable)
-}
-
-/// What stripping leaves of the clauses, by their indices, and the noted variables in order.
-fn strip(clauses: &Clauses) -> (Vec<usize>, Vec<i8>) {
-    let mut left: Vec<usize> = (0..clauses.len()).collect();
-    let mut noted = Vec::new();
-    loop {
-        let has = |literal: i8| left.iter().any(|i| clauses[*i].contains(&literal));
-        let Some(variable) = (1..=48).find(|v| has(*v) != has(-v)) else {
-            return (left, noted);
-        };
-        noted.push(variable);
-        left.retain(|i| !names(&clauses[*i], variable));
-    }
 }
 
 /// Gives the clause a variable, and those whose variable it takes another one, if that can be.

@@ -192,6 +192,7 @@ pub fn compare_walk(
         Ok(reference::Walked { progress, .. }) => {
             tally.answered(progress.answer);
             tally.with_trials += usize::from(progress.expansions > 0);
+            tally.order.walked(input, assumed, &returned);
             Some(returned)
         }
         Err(refusal) => {

@@ -6,6 +6,7 @@ mod acts;
 mod assumed;
 mod counts;
 mod deficiencies;
+mod order;
 mod pages;
 mod raw;
 mod tally;
@@ -60,6 +61,10 @@ fn compare_assuming(
             let given = random.pick(others);
             let taken = compare_walk(tally, input, assumed, &given, some_budget(random));
             tally.assuming.walked_on(assumed, &given, taken.is_some());
+        }
+        if let Some(given) = order::upward(input, assumed) {
+            let taken = compare_walk(tally, input, assumed, &given, 96).is_some();
+            tally.order.walked_upward(taken);
         }
         if let Some(given) = with_unnamed(random, input, &pool) {
             compare_walk(tally, input, assumed, &given, some_budget(random));

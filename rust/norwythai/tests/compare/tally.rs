@@ -4,6 +4,7 @@ use crate::assumed::Assumed;
 use crate::counts::{write_refusals, Outcomes, Refusals, Seen};
 use crate::deficiencies::Deficiencies;
 use crate::is_accepted;
+use crate::order::Order;
 use crate::pages::Pages;
 use crate::unnamed::Unnamed;
 use crate::weights::Weights;
@@ -362,6 +363,8 @@ pub struct Tally {
     refusals: Refusals,
     pub assuming: Assuming,
     pub unnamed: Unnamed,
+    /// Of walk calls that are not in chains.
+    pub order: Order,
     /// Without assumptions, and under some.
     stripped: [Stripped; 2],
     /// Readable inputs in which a literal comes again in its clause, and those that are longer than the printing program takes.
@@ -451,6 +454,7 @@ impl Tally {
         }
         self.assuming.require_enough();
         self.unnamed.require_enough();
+        self.order.require_enough();
         self.weights.require_enough();
         self.deficiencies.require_enough();
         self.pages.require_enough();
@@ -507,6 +511,7 @@ impl fmt::Display for Tally {
         write!(f, "\naccepted by stripping, without assumptions: {without}")?;
         write!(f, "\naccepted by stripping, under assumptions: {under}")?;
         write!(f, "\nwith unnamed variables: {}", self.unnamed)?;
+        write!(f, "\nwalks by what is left at the root: {}", self.order)?;
         write!(f, "\n{}", self.assuming)
     }
 }

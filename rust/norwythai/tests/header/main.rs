@@ -118,6 +118,10 @@ fn the_example_lists_models_in_batches() {
     assert!(output.status.success());
     assert_eq!(output.stdout, b"batch 1\n0-0-\n1-0-\nbatch 2\n1-1-\n");
 
+    let output = batches(repository("examples/busiest.bin"), "2");
+    assert!(output.status.success());
+    assert_eq!(output.stdout, b"batch 1\n000\n100\nbatch 2\n011\n");
+
     let output = batches(repository("examples/unmatched.bin"), "1");
     assert!(!output.status.success());
     assert_eq!(output.stderr, b"batches: refused 10 at 3\n");

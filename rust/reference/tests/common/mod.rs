@@ -1,4 +1,4 @@
-//! What the tests under assumptions and those of unnamed variables both need.
+//! What the tests under assumptions, those of unnamed variables and those of the order of trials need.
 
 use norwythai_reference::{judge, start_checkpoint, Assumption, Checkpoint};
 
