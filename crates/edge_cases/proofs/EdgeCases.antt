@@ -404,28 +404,17 @@ order-cases = record {
 
 -- ---- more cases
 
--- the first candidates fail: the expansions of their trials count too
+-- candidates fail at two nodes: the expansions of their trials count too
 pub failed-trials : walked (formula-bytes 4 ((off 1 ∷ off 2 ∷ off 3 ∷ []) ∷ (on 2 ∷ on 3 ∷ on 4 ∷ []) ∷ (on 1 ∷ on 4 ∷ []) ∷ (on 1 ∷ off 4 ∷ []) ∷ [])) 6
-    ≡ model-at (1 ∷ 0 ∷ 1 ∷ 0 ∷ []) 4 11
-    ∷ model-at (1 ∷ 0 ∷ 0 ∷ 1 ∷ []) 6 0
-    ∷ model-at (1 ∷ 0 ∷ 1 ∷ 1 ∷ []) 2 0
-    ∷ model-at (1 ∷ 1 ∷ 0 ∷ 0 ∷ []) 8 0
-    ∷ model-at (1 ∷ 1 ∷ 0 ∷ 1 ∷ []) 6 0
+    ≡ model-at (1 ∷ 0 ∷ 1 ∷ 0 ∷ []) 4 18
+    ∷ model-at (1 ∷ 1 ∷ 0 ∷ 0 ∷ []) 6 0
+    ∷ model-at (1 ∷ 0 ∷ 0 ∷ 1 ∷ []) 8 0
+    ∷ model-at (1 ∷ 1 ∷ 0 ∷ 1 ∷ []) 2 0
+    ∷ model-at (1 ∷ 0 ∷ 1 ∷ 1 ∷ []) 6 0
     ∷ end-at 4 0
     ∷ []
 unfolding walking
 failed-trials = walked-plain _ _ _ _ _ _ refl 6
-
--- and another such
-pub more-failed-trials : walked (formula-bytes 4 ((on 3 ∷ on 4 ∷ []) ∷ (on 2 ∷ off 3 ∷ off 4 ∷ []) ∷ (on 1 ∷ on 2 ∷ []) ∷ (off 2 ∷ off 3 ∷ []) ∷ [])) 5
-    ≡ model-at (1 ∷ 0 ∷ 0 ∷ 1 ∷ []) 4 7
-    ∷ model-at (1 ∷ 0 ∷ 1 ∷ 0 ∷ []) 6 0
-    ∷ model-at (0 ∷ 1 ∷ 0 ∷ 1 ∷ []) 8 0
-    ∷ model-at (1 ∷ 1 ∷ 0 ∷ 1 ∷ []) 2 0
-    ∷ end-at 4 0
-    ∷ []
-unfolding walking
-more-failed-trials = walked-plain _ _ _ _ _ _ refl 5
 
 -- S12.1: refusals as they are printed: the empty input, `refused 2 0`
 pub no-bytes-printed : printed [] ≡ refused-word ++ (blank ∷ 50 ∷ blank ∷ 48 ∷ line-feed ∷ [])
