@@ -56,6 +56,14 @@
  * end lines; they and blanks (20), tabs (09) and carriage returns (0D) stand between words. Lines without words may stand behind the p
  * line only. A text may be of any length, and no zero byte ends it.
  *
+ * THE ORDER of the listed models is that of the variables which the walk chooses: each takes false before true. Where stripping leaves
+ * clauses, variables are tried by how many of these name them, most first, and of equally many the lowest first. The set of the listed
+ * models does not depend on it.
+ *
+ * A CHECKPOINT is judged by the walk of this version alone, and no byte of it tells a version. One that an earlier version gave, whose
+ * walk had another order, is refused by 11 if this walk never has it; one that happens to fit is taken as a checkpoint of this walk. To
+ * see every model, start anew.
+ *
  * THE RESULTS are NORWYTHAI_RESULTS numbers:
  *
  *              check  judge        weigh            deficiency  walk         list                     page          from_dimacs, to_dimacs

@@ -1,6 +1,6 @@
 -- Trials over masks, and the masks of what is left to try.
 use Prim.Native.Nat.{ℕ, suc, _+_, _-_, _^_, _≤_, _<_}
-use mathlib.Core.Bool.{Bool, true, false, not}
+use mathlib.Core.Bool.{Bool, true, false, not, _&&_}
 use mathlib.Core.List.{List, [], _∷_}
 use mathlib.Core.Logic.{⊎-elim}
 use mathlib.Core.Path.{_≡_, refl, sym, ap, ap₂, _∙_}
@@ -14,7 +14,7 @@ use Rattle.lists.proofs.TabulatedLaws.{length-tabulated}
 use Rattle.lists.proofs.TestLaws.{and-left, bool-cases, bool-clash}
 use Rattle.masks.specs.Mask.{bit, members, size}
 use Rattle.masks.specs.InnerMask.{without, lowest}
-use Rattle.masks.proofs.BitLaws.{minus-lt, bit-none, bit-below, bit-without, bit-without-same, bit-without-other}
+use Rattle.masks.proofs.BitLaws.{minus-lt, bit-none, bit-below, bit-without, bit-without-same}
 use Rattle.masks.proofs.MembersLaws.{lowest-is, members-lowest}
 use Rattle.matching.specs.declared.Matching.{Matching}
 use Rattle.matching.specs.Search.{succeeds, expansions}
@@ -27,8 +27,8 @@ use Rattle.splitting.specs.Choosing.{both-open, by-count, among}
 use Rattle.splitting.specs.Terms.{Ordered}
 use Rattle.splitting.specs.InnerChoose.{set-to, node, clause-in, clauses-in, Small, matched-node, matching-at, tried, passing, occurrences-in, busiest-first, count-at, Busiest}
 use Rattle.splitting.proofs.CountLaws.{count-le, count-drop, size-count}
-use Rattle.splitting.proofs.SearchLaws.{among-here, among-other, among-cases, among-none}
-use Rattle.splitting.proofs.OrderLaws.{before-once, by-count-of, by-count-in, by-count-ordered, by-count-length, by-count-high, counted-to}
+use Rattle.splitting.proofs.SearchLaws.{among-here, among-cases, among-none}
+use Rattle.splitting.proofs.OrderLaws.{before-once, ordered-behind, by-count-of, by-count-in, by-count-ordered, by-count-length, by-count-high, counted-to}
 use Rattle.splitting.proofs.CounterLaws.{count-below, occurrences-few}
 use Rattle.splitting.proofs.NodeMatchingLaws.{node-cost}
 
@@ -118,15 +118,14 @@ lists-first f [] m v w b = among-none v (w .members v ∙ b .member)
 lists-first f (x ∷ vs) m v w b = go (ℕ-discrete x v)
   where
     go : Dec (x ≡ v) → (us : List ℕ) × (x ∷ vs ≡ v ∷ us) × Lists f us (without m v)
-    go (yes e) = (vs, ap (λ (y : ℕ). y ∷ vs) e, record { ordered = w .ordered .1; members = λ y. others y (ℕ-discrete y v) })
-      where
-        others : (y : ℕ) → Dec (y ≡ v) → among vs y ≡ bit (without m v) y
-        others y (yes q) =
-            ⊎-elim
-            (λ t. absurd (before-once f x x (rw (q ∙ sym e) at (w .ordered .0 y t)) (rw (q ∙ sym e) at (w .ordered .0 y t))))
-            (λ t. t ∙ sym (ap (bit (without m v)) q ∙ bit-without-same m v))
-            (bool-cases (among vs y))
-        others y (no q) = sym (among-other x y vs (λ k. q (sym k ∙ e))) ∙ w .members y ∙ sym (bit-without-other m v y q)
+    go (yes e) = (
+      vs,
+      ap (λ (y : ℕ). y ∷ vs) e,
+      record {
+        ordered = w .ordered .1;
+        members = λ y. ordered-behind f x vs (w .ordered) y ∙ ap₂ (λ (b : Bool) (z : ℕ). b && not (eqb y z)) (w .members y) e ∙ sym (bit-without m v y);
+      },
+    )
     go (no q) =
         absurd
         (before-once f x v

@@ -1,9 +1,10 @@
 -- The order in which variables are tried: lists by counts, and how many clauses name a variable.
 use Prim.Native.Nat.{ℕ, zero, suc, _+_, _≤_, _<_}
 use mathlib.Core.Path.{_≡_, refl, sym, ap, ap₂, _∙_}
-use mathlib.Core.Bool.{Bool, true, false, cond, _||_}
+use mathlib.Core.Bool.{Bool, true, false, not, cond, _&&_, _||_, and-true, and-false}
 use mathlib.Core.List.{List, [], _∷_, _++_, List·Memᴰ, List·Memᴰ·head, List·Memᴰ·tail, List·Memᴰ·cases-cons, List·Memᴰ·not-nil}
 use mathlib.Core.Logic.{_⊎_, inl, inr, ⊎-elim}
+use native.Mathlib.Decide.{ℕ-discrete}
 use native.Mathlib.Omega.{arith}
 use lib.Dec.{eqb}
 use lib.ListN.{length, length-append}
@@ -16,7 +17,7 @@ use Rattle.formula.proofs.ClauseLaws.{named-as}
 use Rattle.splitting.specs.Nodes.{named, upward-from, upward}
 use Rattle.splitting.specs.Choosing.{occurrences, by-count, among}
 use Rattle.splitting.specs.Terms.{Before, Ordered}
-use Rattle.splitting.proofs.SearchLaws.{among-here, among-more, among-none, mem-among, among-append, among-left, among-right, upward-of, upward-in, upward-length, upward-from-of, upward-none, upward-wide}
+use Rattle.splitting.proofs.SearchLaws.{among-here, among-more, among-other, among-none, mem-among, among-append, among-left, among-right, upward-of, upward-in, upward-length, upward-from-of, upward-none, upward-wide}
 use Rattle.splitting.proofs.ClauseLaws.{occurs-some, named-some, named-by}
 use Rattle.splitting.proofs.CountLaws.{count-none}
 
@@ -34,6 +35,35 @@ before-once f x y p q =
 pub ordered-once : (f : ℕ → ℕ) (l : List ℕ) → Ordered f l → Distinct l
 ordered-once f [] o = tt
 ordered-once f (x ∷ l) o = (λ m. let b = o .0 x (mem-among l x m) in before-once f x x b b, ordered-once f l (o .1))
+
+-- behind the first stand all others
+pub ordered-behind : (f : ℕ → ℕ) (x : ℕ) (l : List ℕ) → Ordered f (x ∷ l) → (v : ℕ) → among l v ≡ among (x ∷ l) v && not (eqb v x)
+ordered-behind f x l o v = go (ℕ-discrete v x)
+  where
+    go : Dec (v ≡ x) → among l v ≡ among (x ∷ l) v && not (eqb v x)
+    go (yes e) =
+        ⊎-elim
+        (λ t. let b : Before f x x = rw e at (o .0 v t) in absurd (before-once f x x b b))
+        (λ t. rw (eq-eqb v x e, and-false (among (x ∷ l) v)) t)
+        (bool-cases (among l v))
+    go (no q) = rw (ne-eqb v x q, and-true (among (x ∷ l) v)) (sym (among-other x v l (λ e. q (sym e))))
+
+-- two lists in order that have the same variables are equal
+pub ordered-one : (f : ℕ → ℕ) (l r : List ℕ) → Ordered f l → Ordered f r → ((v : ℕ) → among l v ≡ among r v) → l ≡ r
+ordered-one f [] [] o p h = refl
+ordered-one f [] (y ∷ r) o p h = among-none y (h y ∙ among-here y r)
+ordered-one f (x ∷ l) [] o p h = among-none x (sym (h x) ∙ among-here x l)
+ordered-one f (x ∷ l) (y ∷ r) o p h = go (ordered-one f l r (o .1) (p .1)) (ℕ-discrete x y)
+  where
+    go : (((v : ℕ) → among l v ≡ among r v) → l ≡ r) → Dec (x ≡ y) → x ∷ l ≡ y ∷ r
+    go rec (yes e) =
+        ap₂ (λ (z : ℕ) (k : List ℕ). z ∷ k) e
+        (rec (λ v. ordered-behind f x l o v ∙ ap₂ (λ (b : Bool) (z : ℕ). b && not (eqb v z)) (h v) e ∙ sym (ordered-behind f y r p v)))
+    go rec (no q) =
+        absurd
+        (before-once f x y
+        (o .0 y (sym (among-other x y l q) ∙ h y ∙ among-here y r))
+        (p .0 x (sym (among-other y x r (λ e. q (sym e))) ∙ sym (h x) ∙ among-here x l)))
 
 -- two ordered lists, each of the first before each of the second
 ordered-append : (f : ℕ → ℕ) (l r : List ℕ) → Ordered f l → Ordered f r → ((x y : ℕ) → among l x ≡ true → among r y ≡ true → Before f x y) → Ordered f (l ++ r)

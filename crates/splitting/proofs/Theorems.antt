@@ -98,6 +98,10 @@ candidates-once n left = orders.ordered-once (occurrences left) (candidates n le
 pub candidates-sorted : (n : ℕ) (left : List (List Literal)) → Ordered (occurrences left) (candidates n left)
 candidates-sorted n left = trials.candidates-ordered n left
 
+-- No other list has these variables so.
+pub sorted-one : (f : ℕ → ℕ) (l r : List ℕ) → Ordered f l → Ordered f r → ((v : ℕ) → among l v ≡ among r v) → l ≡ r
+sorted-one f l r o p same = orders.ordered-one f l r o p same
+
 -- They are at most as many as a mask has that has them all.
 pub candidates-few : (n scope : ℕ) (left : List (List Literal)) → n ≤ 64 → Covers scope left → length (candidates n left) ≤ size scope
 candidates-few n scope left fits covers = trials.candidates-length n scope left fits covers
