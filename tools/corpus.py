@@ -2,9 +2,9 @@
 """corpus.py VECTORS: write the corpus of the program cases, crates/cases/data/, and its expected output, crates/cases/stdout.
 
 VECTORS has one JSON object a line: "act", its input and the expected answer. Vectors of an act that has no coder below are left out. So
-is one that does not fit the format, and that is said. If all of them together don't fit, nothing is written. Every readable input among
-them is also written as a text, and that text read again; what each judge leaves in the buffer is weighed, and the deficiency of its
-input asked for; and the steps between the models of each chain, and before and behind them, are compared with their trails.
+is one that does not fit the format, and what is more than the files of an act hold, and both are said. Every readable input among them is
+also written as a text, and that text read again; what each judge leaves in the buffer is weighed, and the deficiency of its input asked
+for; and the steps between the models of each chain, and before and behind them, are compared with their trails.
 
 Format. A file holds vectors of one act, one after the other, and nothing else; it has at most 65,536 bytes, so an act has
 files NAMEa, NAMEb, .., at most 26; start has one, start, and the edge cases of an act have one, NAME_edges, and for judge, weigh and
@@ -1905,15 +1905,18 @@ def edge_vectors(first, cases, coder):
 
 
 def files_of(name, names, groups):
-    """The groups joined into as few files as the limit allows, in order, each whole in a file: by the files' names."""
-    files = [b'']
-    for group in map(b''.join, groups):
-        if LIMIT < len(files[-1]) + len(group):
+    """The groups joined into as few files as the limit allows, in order, each whole in a file, by the files' names; and how many vectors
+    these have. What the last file has no room for is left out."""
+    files, had = [b''], 0
+    for group in groups:
+        if LIMIT < len(files[-1]) + sum(map(len, group)):
+            if len(files) == len(names):
+                print(f'{name}: {sum(map(len, groups)) - had} vectors are left out: they take more than {len(names)} files')
+                break
             files.append(b'')
-        files[-1] += group
-    if len(names) < len(files):
-        sys.exit(f'{name}: {len(files)} files are needed, and {len(names)} may be written')
-    return dict(zip(names, files))
+        files[-1] += b''.join(group)
+        had += len(group)
+    return dict(zip(names, files)), had
 
 
 def written_again(number, given):
@@ -1941,7 +1944,8 @@ def groups_of(lines):
 
     for number, line in enumerate(lines, 1):
         if LINES < number:
-            sys.exit(f'there are more than {LINES:,} vectors')
+            print(f'the vectors behind line {LINES:,} are left out')
+            break
         v = json.loads(line)
         act = NAMES.get(v['act'], v['act'])
         if act in ACTS:
@@ -1974,11 +1978,15 @@ def main():
         names = [act] if act == 'start' else [act + letter for letter in LETTERS]
         sets.append((act, names, found, UNITS.get(act, 'vectors')))
         for name, *edges in EDGES.get(act, []):
-            sets.append((name, [name], [[v] for v in edge_vectors(*edges)], 'vectors'))
+            vectors = edge_vectors(*edges)
+            if LIMIT < sum(map(len, vectors)):
+                sys.exit(f'{name}: the edge cases take more than a file')
+            sets.append((name, [name], [[v] for v in vectors], 'vectors'))
     files, report = {}, ''
     for name, names, found, unit in sets:
-        files |= files_of(name, names, found)
-        report += f'{name}: {sum(map(len, found))} {unit}, 0 differences\n'
+        written, had = files_of(name, names, found)
+        files |= written
+        report += f'{name}: {had} {unit}, 0 differences\n'
     data = CASES / 'data'
     data.mkdir(parents=True, exist_ok=True)
     for old in data.iterdir():
