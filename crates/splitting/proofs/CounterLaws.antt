@@ -1,13 +1,13 @@
 -- A counter, which holds the counts of all variables at once, and the busiest member of a mask by it.
 use Prim.Native.Nat.{ℕ, suc, _+_, _*_, _^_, _≤_, _<_}
-use mathlib.Core.Path.{_≡_, refl, sym, ap, _∙_}
+use mathlib.Core.Path.{_≡_, refl, sym, _∙_}
 use mathlib.Core.Bool.{Bool, true, false, not, cond, xor, _&&_, _||_, or-assoc}
 use mathlib.Core.List.{List, [], _∷_, _++_}
 use mathlib.Core.Logic.{inl, inr, ⊎-elim}
 use native.Mathlib.Omega.{arith}
 use lib.Bits.{bitAnd, bitOr, bitXor}
 use native.Mathlib.Numerals.{add-one}
-use lib.Dec.{eqb, ltb}
+use lib.Dec.{ltb}
 use lib.ListN.{length}
 use borrow.Author.Tests.{eqb-true, eqb-false, not-true, not-false, ltb-true, ltb-false, lt-ltb, le-ltb}
 use Rattle.lists.specs.Tabulated.{tabulated}
@@ -20,7 +20,7 @@ use Rattle.matching.proofs.Counting.{lt-or-le}
 use Rattle.formula.specs.declared.Clause.{Clause}
 use Rattle.formula.specs.InnerFits.{clause-variables}
 use Rattle.splitting.specs.declared.Counts.{Counts}
-use Rattle.splitting.specs.InnerChoose.{clause-in, clauses-in, occurrences-in, digit, count-at, narrowed, Busiest}
+use Rattle.splitting.specs.InnerChoose.{clause-in, clauses-in, occurrences-in, digit, count-at, max-count, narrowed, Busiest}
 use Rattle.splitting.proofs.OrderLaws.{one-more-le}
 
 -- ── Digits ───────────────────────────────────────────────────────────────────────────────────────────────────────────
@@ -80,7 +80,7 @@ module _ (c : Counts) (mask : ℕ) where
   to-sixtyfours = bitAnd (c .thirtytwos) to-thirtytwos
 
   -- the last digit carries nothing
-  no-carry : (v : ℕ) → count-at c v < 127 → bit (bitAnd (c .sixtyfours) to-sixtyfours) v ≡ false
+  no-carry : (v : ℕ) → count-at c v < max-count → bit (bitAnd (c .sixtyfours) to-sixtyfours) v ≡ false
   no-carry v h =
       ⊎-elim
       (λ t.
@@ -96,7 +96,7 @@ module _ (c : Counts) (mask : ℕ) where
       (bool-cases (bit (bitAnd (c .sixtyfours) to-sixtyfours) v))
 
   -- the counter with one more for each member of the mask
-  pub counts-more : (v : ℕ) → count-at c v < 127
+  pub counts-more : (v : ℕ) → count-at c v < max-count
       → count-at
       (record {
         ones = bitXor (c .ones) mask;
@@ -121,7 +121,7 @@ pub counts-none : (v : ℕ) → count-at (record { ones = 0; twos = 0; fours = 0
 counts-none v = rw (bit-none v)
 
 -- a count has seven digits
-pub count-below : (c : Counts) (v : ℕ) → count-at c v ≤ 127
+pub count-below : (c : Counts) (v : ℕ) → count-at c v ≤ max-count
 count-below c v =
     within (bit (c .ones) v) _ 63
     (within (bit (c .twos) v) _ 31

@@ -25,7 +25,7 @@ use Rattle.splitting.specs.declared.Trial.{Trial}
 use Rattle.splitting.specs.declared.Counts.{Counts}
 use Rattle.splitting.specs.Choosing.{both-open, by-count, among}
 use Rattle.splitting.specs.Terms.{Ordered}
-use Rattle.splitting.specs.InnerChoose.{set-to, node, clause-in, clauses-in, Small, matched-node, matching-at, tried, passing, occurrences-in, busiest-first, count-at, Busiest}
+use Rattle.splitting.specs.InnerChoose.{set-to, node, clause-in, clauses-in, Small, matched-node, matching-at, tried, passing, occurrences-in, busiest-first, count-at, max-count, Busiest}
 use Rattle.splitting.proofs.CountLaws.{count-le, count-drop, size-count}
 use Rattle.splitting.proofs.SearchLaws.{among-here, among-cases, among-none}
 use Rattle.splitting.proofs.OrderLaws.{before-once, ordered-behind, by-count-of, by-count-in, by-count-ordered, by-count-length, by-count-high, counted-to}
@@ -138,31 +138,31 @@ lists-none f [] m w e = refl
 lists-none f (x ∷ l) m w e = bool-clash (among-here x l) (w .members x ∙ ap (λ (k : ℕ). bit k x) e ∙ bit-none x)
 
 -- all that are counted, and how many they are at most
-pub lists-counted : (c : Counts) (m : ℕ) → m < 2 ^ 64 → ((v : ℕ) → bit m v ≡ ltb 0 (count-at c v)) → Lists (count-at c) (by-count (count-at c) 64 127) m
+pub lists-counted : (c : Counts) (m : ℕ) → m < 2 ^ 64 → ((v : ℕ) → bit m v ≡ ltb 0 (count-at c v)) → Lists (count-at c) (by-count (count-at c) 64 max-count) m
 lists-counted c m l h = record {
-  ordered = by-count-ordered (count-at c) 64 127;
+  ordered = by-count-ordered (count-at c) 64 max-count;
   members = λ v.
       ⊎-elim
-      (λ t. t ∙ sym (h v ∙ lt-ltb 0 (count-at c v) (by-count-of (count-at c) 64 127 v t .1)))
+      (λ t. t ∙ sym (h v ∙ lt-ltb 0 (count-at c v) (by-count-of (count-at c) 64 max-count v t .1)))
       (λ t.
       ⊎-elim
-      (λ u. bool-clash (by-count-in (count-at c) 64 127 v (bit-below 64 v m l u) (ltb-true 0 (count-at c v) (sym (h v) ∙ u)) (count-below c v)) t)
+      (λ u. bool-clash (by-count-in (count-at c) 64 max-count v (bit-below 64 v m l u) (ltb-true 0 (count-at c v) (sym (h v) ∙ u)) (count-below c v)) t)
       (λ u. t ∙ sym u)
       (bool-cases (bit m v)))
-      (bool-cases (among (by-count (count-at c) 64 127) v));
+      (bool-cases (among (by-count (count-at c) 64 max-count) v));
 }
 
 -- counted of the clauses in arrays they are in the order of trials there
 pub counted-first : (c : Counts) (p q : List ℕ) (k : ℕ) → k ≤ max-clauses → ((v : ℕ) → count-at c v ≡ occurrences-in (clauses-in p q k) v)
-    → by-count (count-at c) 64 127 ≡ busiest-first (clauses-in p q k)
+    → by-count (count-at c) 64 max-count ≡ busiest-first (clauses-in p q k)
 counted-first c p q k few h =
     let cs = clauses-in p q k in
     let l = length-tabulated (clause-in p q) k in
-    let e : 127 ≡ 127 - length cs + length cs = omega arith in
-    ap₂ (λ (f : ℕ → ℕ) (j : ℕ). by-count f 64 j) (λ i v. h v i) e ∙ by-count-high (occurrences-in cs) 64 (length cs) (127 - length cs) (occurrences-few cs)
+    let e : max-count ≡ max-count - length cs + length cs = omega arith in
+    ap₂ (λ (f : ℕ → ℕ) (j : ℕ). by-count f 64 j) (λ i v. h v i) e ∙ by-count-high (occurrences-in cs) 64 (length cs) (max-count - length cs) (occurrences-few cs)
 
-pub counted-few : (c : Counts) → length (by-count (count-at c) 64 127) ≤ 64
-counted-few c = omega (arith, by-count-length (count-at c) 64 127, count-le (counted-to (count-at c) 64 127) 64)
+pub counted-few : (c : Counts) → length (by-count (count-at c) 64 max-count) ≤ 64
+counted-few c = omega (arith, by-count-length (count-at c) 64 max-count, count-le (counted-to (count-at c) 64 max-count) 64)
 
 -- a mask has more members than without one of them
 pub without-fewer : (m v : ℕ) → m < 2 ^ 64 → bit m v ≡ true → size (without m v) < size m

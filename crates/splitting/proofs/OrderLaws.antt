@@ -1,6 +1,6 @@
 -- The order in which variables are tried: lists by counts, and how many clauses name a variable.
 use Prim.Native.Nat.{ℕ, zero, suc, _+_, _≤_, _<_}
-use mathlib.Core.Path.{_≡_, refl, sym, ap, ap₂, _∙_}
+use mathlib.Core.Path.{_≡_, refl, sym, ap₂, _∙_}
 use mathlib.Core.Bool.{Bool, true, false, not, cond, _&&_, _||_, and-true, and-false}
 use mathlib.Core.List.{List, [], _∷_, _++_, List·Memᴰ, List·Memᴰ·head, List·Memᴰ·tail, List·Memᴰ·cases-cons, List·Memᴰ·not-nil}
 use mathlib.Core.Logic.{_⊎_, inl, inr, ⊎-elim}
@@ -10,7 +10,7 @@ use lib.Dec.{eqb}
 use lib.ListN.{length, length-append}
 use borrow.Author.Tests.{eqb-true, eq-eqb, ne-eqb}
 use Rattle.lists.specs.Distinct.{Distinct}
-use Rattle.lists.proofs.TestLaws.{or-cases, or-none, bool-cases, bool-clash}
+use Rattle.lists.proofs.TestLaws.{or-cases, bool-cases, bool-clash}
 use Rattle.matching.proofs.Counting.{lt-or-le, one-if, count}
 use Rattle.formula.specs.Format.{Literal, names}
 use Rattle.formula.proofs.ClauseLaws.{named-as}

@@ -46,8 +46,8 @@ first-passing cs [] e = both-open 0 e
 first-passing cs (v ∷ vs) e =
     elim (trial cs v .passes) [ true ↦ both-open v (e + trial cs v .cost) | false ↦ first-passing cs vs (e + trial cs v .cost) ]
 
--- S6.3: how many of the clauses name v, either way. Clauses that have become equal count each. A clause names a variable once (S1.2), so
--- this is a number of clauses and of literals alike.
+-- S6.3: how many of the clauses name v, either way. Clauses are counted, not literals (a clause names a variable once, S2.2), and those that
+-- have become equal count each.
 unfoldable pub occurrences : List (List Literal) → ℕ → ℕ
 occurrences [] v = 0
 occurrences (c ∷ cs) v = cond (names c v) (suc (occurrences cs v)) (occurrences cs v)

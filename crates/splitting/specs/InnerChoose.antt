@@ -191,6 +191,10 @@ count-at c v =
     (digit (bit (c .fours) v)
     (digit (bit (c .eights) v) (digit (bit (c .sixteens) v) (digit (bit (c .thirtytwos) v) (digit (bit (c .sixtyfours) v) 0))))))
 
+-- the greatest count that seven digits hold
+abbrev pub max-count : ℕ
+max-count = 127
+
 -- the members of a that are members of b, or all of a if none is
 abbrev pub narrowed : ℕ → ℕ → ℕ
 narrowed a b = cond (meets a b) (bitAnd a b) a

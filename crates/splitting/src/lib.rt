@@ -14,7 +14,7 @@ ghost use Rattle.lists.specs.Over.{over};
 ghost use Rattle.masks.specs.Mask.{bit};
 ghost use Rattle.formula.specs.InnerFits.{FormulaFits, clause-variables};
 ghost use Rattle.splitting.specs.Choosing.{both-open, by-count};
-ghost use Rattle.splitting.specs.InnerChoose.{set-to, satisfied-under, left-under, node, unnamed, survey-of, some-empty, matching-at, unassigned, clause-in, clauses-in, formula-in, formula-at, Small, reduce-from, stripping-at, tried, passing, occurrences-in, count-at, narrowed, Busiest, greatest, listed-last, all-satisfied, free-choice, mask-choice};
+ghost use Rattle.splitting.specs.InnerChoose.{set-to, satisfied-under, left-under, node, unnamed, survey-of, some-empty, matching-at, unassigned, clause-in, clauses-in, formula-in, formula-at, Small, reduce-from, stripping-at, tried, passing, occurrences-in, count-at, max-count, narrowed, Busiest, greatest, listed-last, all-satisfied, free-choice, mask-choice};
 use formula::Clause;
 use formula::Formula;
 use matching::Matching;
@@ -494,7 +494,7 @@ fn both_open(v: usize, expansions: u64) -> Choice
 
 // One more for each member of the mask: each digit passes on what it carries.
 fn count_members(c: Counts, mask: u64) -> Counts
-    requires { ⌜ ((v : ℕ) → count-at c v < 127) ⌝ }
+    requires { ⌜ ((v : ℕ) → count-at c v < max-count) ⌝ }
     ensures { λ r. ⌜ ((v : ℕ) → count-at r v ≡ cond (bit mask v) (suc (count-at c v)) (count-at c v)) ⌝ }
 {
     let to_twos = c.ones & mask;
@@ -580,7 +580,7 @@ fn first_passing(
     counts: Counts,
 ) -> Choice
     requires { ⌜ Small (formula-in (now positives) (now negatives) count) ⌝ }
-    ensures { λ r. ⌜ r ≡ passing (formula-in (now (positives .entry)) (now (negatives .entry)) count) unassigned (by-count (count-at counts) 64 127) 0 ⌝ }
+    ensures { λ r. ⌜ r ≡ passing (formula-in (now (positives .entry)) (now (negatives .entry)) count) unassigned (by-count (count-at counts) 64 max-count) 0 ⌝ }
 {
     let mut rest = counted(counts);
     let mut cost: u64 = 0;

@@ -6,7 +6,7 @@ use mathlib.Core.Path.{_≡_, ap, ap₂, _∙_}
 use borrow.Author.Needs.{needs}
 use Rattle.formula.specs.declared.Formula.{Formula}
 use Rattle.splitting.specs.Choosing.{by-count}
-use Rattle.splitting.specs.InnerChoose.{node, unassigned, formula-at, formula-in, Small, survey-of, reduce-from, passing, busiest-first, count-at, listed-last}
+use Rattle.splitting.specs.InnerChoose.{node, unassigned, formula-at, formula-in, Small, survey-of, reduce-from, passing, busiest-first, count-at, max-count, listed-last}
 use Rattle.splitting.proofs.MaskTrialLaws.{counted-first}
 use Rattle.splitting.proofs.NodeMatchingLaws.{small-at}
 use Rattle.splitting.proofs.ReduceLaws.{reduce-last}
@@ -72,7 +72,7 @@ abbrev counted-of : tie.After-count-names → tie.After-compact
 counted-of c = c .before .before .before
 
 tried-first : (c : tie.After-count-names)
-    → by-count (count-at (c .count-names .result)) 64 127
+    → by-count (count-at (c .count-names .result)) 64 max-count
     ≡ busiest-first (node (formula-at (whole (opened (named (stripped (counted-of c))))) (entry (opened (named (stripped (counted-of c)))) .args .a)) (stripped (counted-of c) .reduce .result .assignment))
 tried-first c =
     let d = counted-of c in

@@ -11,7 +11,7 @@ use Rattle.masks.specs.InnerMask.{without}
 use Rattle.masks.proofs.BitLaws.{minus-lt, bit-below}
 use Rattle.formula.specs.declared.Formula.{Formula}
 use Rattle.splitting.specs.Choosing.{by-count}
-use Rattle.splitting.specs.InnerChoose.{passing, unassigned, formula-in, count-at}
+use Rattle.splitting.specs.InnerChoose.{passing, unassigned, formula-in, count-at, max-count}
 use Rattle.splitting.proofs.MaskTrialLaws.{Lists, lists-first, lists-none, lists-counted, counted-few, without-fewer, passing-found, passing-more, passing-none, trial-cost}
 use Rattle.splitting.proofs.first_passing.Statement.{statement}
 use Rattle.splitting.proofs.first_passing.Tie as tie
@@ -21,7 +21,7 @@ Inv-loop positives negatives count counts rest₀ cost₀ rest cost =
     (rest < 2 ^ 64)
     × ((vs : List ℕ) × Lists (count-at counts) vs rest
     × (passing (formula-in positives negatives count) unassigned vs cost
-    ≡ passing (formula-in positives negatives count) unassigned (by-count (count-at counts) 64 127) 0)
+    ≡ passing (formula-in positives negatives count) unassigned (by-count (count-at counts) 64 max-count) 0)
     × (cost + 9312 * length vs ≤ 9312 * 64))
 
 abbrev μ-loop : tie.MeasureT-loop
@@ -61,7 +61,7 @@ counted-requires c κs = search needs
 loop-holds : tie.Need-loop-holds Inv-loop μ-loop
 loop-holds c =
     let n = c .before .args .counts in
-    (search needs, (by-count (count-at n) 64 127, lists-counted n (c .counted .result) (search needs) (c .counted .ensures), refl, omega (arith, counted-few n)))
+    (search needs, (by-count (count-at n) 64 max-count, lists-counted n (c .counted .result) (search needs) (c .counted .ensures), refl, omega (arith, counted-few n)))
 
 busiest-requires : tie.Need-busiest-requires Inv-loop μ-loop
 busiest-requires c κs = c .loop-test .taken
