@@ -34,7 +34,7 @@ use Rattle.splitting.specs.declared.Trial.{Trial}
 use Rattle.splitting.specs.Choosing.{both-open}
 use Rattle.splitting.specs.InnerChoose.{assigned, set-to, satisfied-under, left-under, open-clauses, node, unnamed, unassigned, formula-at, clauses-in, clause-in, formula-in, Small, surveys, survey-from, survey-of, matching-at, pure-of, reduce-from, reduced, tried, passing, occurrences-in, busiest-first, greatest, listed-last, mask-choice}
 use Rattle.splitting.proofs.NodeMatchingLaws.{small-at}
-use Rattle.splitting.proofs.ReduceLaws.{pure-lowest, next-of, reduce-done, reduce-turn}
+use Rattle.splitting.proofs.ReduceLaws.{pure-lowest, reduce-done, reduce-turn}
 use Rattle.splitting.proofs.LastMemberLaws.{greatest-member}
 use Rattle.splitting.proofs.SearchLaws.{every-among}
 use Rattle.splitting.proofs.OrderLaws.{by-count-of}
@@ -269,17 +269,6 @@ reduce-same g f small (suc k) b a noted v e =
         rw (reduce-turn g b noted v k (λ h. z (sym p ∙ h)), reduce-turn f a noted v k z, e)
         (ih (set-to b x way) (set-to a x way) (with noted x) x
         (node-more g f b a x way e (one-way-free g b x (ap (λ (m : ℕ). bit m x) p ∙ pure-lowest f small a z .set)) (pure-free f small a z)))
-
--- the survey is that of the clauses that are left
-reduce-survey : (k : ℕ) (f : Formula) (a : Assignment) (noted v : ℕ) → reduce-from k f a noted v .survey ≡ survey-of (node f (reduce-from k f a noted v .assignment))
-unfolding reduce-from
-reduce-survey zero f a noted v = refl
-reduce-survey (suc k) f a noted v = go (λ b m x. reduce-survey k f b m x) (ℕ-discrete (pure-of f a) 0)
-  where
-    go : ((b : Assignment) (m x : ℕ) → reduce-from k f b m x .survey ≡ survey-of (node f (reduce-from k f b m x .assignment))) → Dec (pure-of f a ≡ 0)
-        → reduce-from (suc k) f a noted v .survey ≡ survey-of (node f (reduce-from (suc k) f a noted v .assignment))
-    go ih (yes z) = rw (reduce-done f a noted v (suc k) z)
-    go ih (no z) = rw (reduce-turn f a noted v k z) (ih (next-of f a) (with noted (lowest (pure-of f a))) (lowest (pure-of f a)))
 
 -- a variable that is noted is not assigned before
 module _ (f : Formula) (small : Small f) where

@@ -25,10 +25,6 @@ use Rattle.splitting.proofs.OrderLaws.{one-more-le}
 
 -- ── Digits ───────────────────────────────────────────────────────────────────────────────────────────────────────────
 
-digit-least : (b : Bool) (x : ℕ) → 2 * x ≤ digit b x
-digit-least true x = omega arith
-digit-least false x = omega arith
-
 digit-most : (b : Bool) (x : ℕ) → digit b x ≤ suc (2 * x)
 digit-most true x = omega arith
 digit-most false x = omega arith
@@ -41,6 +37,7 @@ digit-more true false a = refl
 digit-more false true a = refl
 digit-more false false a = refl
 
+-- a number is not 0 if its last digit is 1 or the number before it is not 0
 digit-some : (x b : Bool) (a : ℕ) → b ≡ ltb 0 a → x || b ≡ ltb 0 (digit x a)
 digit-some true b a e = sym (lt-ltb 0 (suc (2 * a)) (omega arith))
 digit-some false b a e =
@@ -57,8 +54,8 @@ module _ (v : ℕ) where
   mask-more : (p k a b : ℕ) → b ≡ cond (bit (bitAnd p k) v) (suc a) a → digit (bit (bitXor p k) v) b ≡ cond (bit k v) (suc (digit (bit p v) a)) (digit (bit p v) a)
   mask-more p k a b e = rw (e, bit-and p k v, bit-xor p k v) (digit-more (bit p v) (bit k v) a)
 
-  carried : (p k : ℕ) → bit (bitAnd p k) v ≡ true → (bit p v ≡ true) × (bit k v ≡ true)
-  carried p k e = let w = sym (bit-and p k v) ∙ e in (and-left (bit p v) (bit k v) w, and-right (bit p v) (bit k v) w)
+  both-bits : (p k : ℕ) → bit (bitAnd p k) v ≡ true → (bit p v ≡ true) × (bit k v ≡ true)
+  both-bits p k e = let w = sym (bit-and p k v) ∙ e in (and-left (bit p v) (bit k v) w, and-right (bit p v) (bit k v) w)
 
 module _ (c : Counts) (mask : ℕ) where
   abbrev to-twos : ℕ
@@ -84,13 +81,13 @@ module _ (c : Counts) (mask : ℕ) where
   no-carry v h =
       ⊎-elim
       (λ t.
-      let g = carried v (c .sixtyfours) to-sixtyfours t in
-      let f = carried v (c .thirtytwos) to-thirtytwos (g .1) in
-      let e = carried v (c .sixteens) to-sixteens (f .1) in
-      let d = carried v (c .eights) to-eights (e .1) in
-      let b = carried v (c .fours) to-fours (d .1) in
-      let a = carried v (c .twos) to-twos (b .1) in
-      let o = carried v (c .ones) mask (a .1) in
+      let g = both-bits v (c .sixtyfours) to-sixtyfours t in
+      let f = both-bits v (c .thirtytwos) to-thirtytwos (g .1) in
+      let e = both-bits v (c .sixteens) to-sixteens (f .1) in
+      let d = both-bits v (c .eights) to-eights (e .1) in
+      let b = both-bits v (c .fours) to-fours (d .1) in
+      let a = both-bits v (c .twos) to-twos (b .1) in
+      let o = both-bits v (c .ones) mask (a .1) in
       absurd (omega (arith, (rw (o .0, a .0, b .0, d .0, e .0, f .0, g .0) at h))))
       (λ f. f)
       (bool-cases (bit (bitAnd (c .sixtyfours) to-sixtyfours) v))
@@ -188,19 +185,16 @@ greatest-all m z = record { some = z; within = λ v h. h; most = λ v w _ _. ome
 pub greatest-more : (f : ℕ → ℕ) (m k p next : ℕ) → next ≡ narrowed k p → Greatest f m k → Greatest (λ v. digit (bit p v) (f v)) m next
 greatest-more f m k p next n g = rw n (go (meets k p) refl)
   where
-    both : (v : ℕ) → bit (bitAnd k p) v ≡ true → (bit k v ≡ true) × (bit p v ≡ true)
-    both v e = let w = sym (bit-and k p v) ∙ e in (and-left (bit k v) (bit p v) w, and-right (bit k v) (bit p v) w)
-
     go : (b : Bool) → meets k p ≡ b → Greatest (λ v. digit (bit p v) (f v)) m (cond b (bitAnd k p) k)
     go true e = record {
       some = eqb-false (bitAnd k p) 0 (not-true _ e);
-      within = λ v h. g .within v (both v h .0);
+      within = λ v h. g .within v (both-bits v k p h .0);
       most = λ v w h i.
-          let b = both v h in
+          let b = both-bits v k p h in
           let l = g .most v w (b .0) i in
           rw (b .1) (omega (arith, digit-most (bit p w) (f w)));
       ties = λ v w h i l.
-          let b = both v h in
+          let b = both-bits v k p h in
           let q = g .most v w (b .0) i in
           let l′ : suc (2 * f v) ≤ digit (bit p w) (f w) = rw (b .1) at l in
           ⊎-elim
