@@ -52,7 +52,7 @@ unfoldable pub occurrences : List (List Literal) → ℕ → ℕ
 occurrences [] v = 0
 occurrences (c ∷ cs) v = cond (names c v) (suc (occurrences cs v)) (occurrences cs v)
 
--- the variables below n by the number f v of each: those with k, upward, then those with k - 1, and so down to 1
+-- S6.3: the variables v below n by f v, greatest first, ties lowest first: those with k, upward, then those with k - 1, and so down to 1
 unfoldable pub by-count : (ℕ → ℕ) → ℕ → ℕ → List ℕ
 by-count f n zero = []
 by-count f n (suc k) = upward (λ v. eqb (f v) (suc k)) n ++ by-count f n k

@@ -174,7 +174,7 @@ unfoldable pub occurrences-in : List Clause → ℕ → ℕ
 occurrences-in [] v = 0
 occurrences-in (c ∷ cs) v = cond (bit (clause-variables c) v) (suc (occurrences-in cs v)) (occurrences-in cs v)
 
--- the variables that clauses name, those that most of them name first, and the lowest of these
+-- the variables that clauses name, those that most of them name first, and of equally many the lowest first
 abbrev pub busiest-first : List Clause → List ℕ
 busiest-first cs = by-count (occurrences-in cs) 64 (length cs)
 

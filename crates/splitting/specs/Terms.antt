@@ -31,7 +31,7 @@ left-after (v ∷ vs) cs = left-after vs (not-naming v cs)
 abbrev pub Before : (ℕ → ℕ) → ℕ → ℕ → Type 0
 Before f x y = (f y < f x) ⊎ ((f x ≡ f y) × (x < y))
 
--- each of the list is to be tried before all behind it
+-- S6.3: a list in this order: each of it is tried before all behind it
 abbrev pub Ordered : (ℕ → ℕ) → List ℕ → Type 0
 Ordered f [] = Unit {0}
 Ordered f (x ∷ l) = ((y : ℕ) → among l y ≡ true → Before f x y) × Ordered f l

@@ -2,7 +2,8 @@
 //
 // It is made over a formula in masks and the assigned variables. A clause is gone if an assigned variable satisfies it; what is left of
 // another are its unassigned variables. Few clauses are open where a choice is made, so what is left of those is copied first, into an
-// array for each side, and all else goes over the arrays: stripping a pure literal drops the clauses that name it, in place.
+// array for each side, and all else goes over the arrays: stripping a pure literal drops the clauses that name it, in place, and what it
+// leaves is counted for all variables at once, to try the busiest first.
 ghost use mathlib.Core.Path.{_≡_};
 ghost use mathlib.Core.Bool.{true, cond};
 ghost use mathlib.Core.List.{map};
