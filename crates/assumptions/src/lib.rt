@@ -11,7 +11,7 @@ use limits::MAX_VARIABLES;
 use masks::{member, with};
 
 // S17.1: an assumption (request: fixing): a variable, from 1, that is taken as given, and its value.
-#[derive(Drop)]
+#[derive(Clone, Copy)]
 pub struct Assumption {
     pub variable: u8,
     pub value: bool,
@@ -19,7 +19,7 @@ pub struct Assumption {
 
 // What is read of a list: the variables that are assumed true and those assumed false; or bad, with the index of the first bad
 // assumption, and then the masks are 0.
-#[derive(Drop)]
+#[derive(Clone, Copy)]
 pub struct Assumptions {
     pub trues: u64,
     pub falses: u64,

@@ -35,7 +35,7 @@ const ASSUMPTION_SIZE: usize = 2;
 // The results of a call, in the order in which they are written. judge has the numbers of variables and clauses in place of the
 // steps and expansions, weigh those of marked clauses and of variables; in place of the steps deficiency has the deficiency, a conversion
 // the number of bytes, list that of models and a page that of lines.
-#[derive(Drop)]
+#[derive(Clone, Copy)]
 struct Results {
     answer: u64,
     model: u64,

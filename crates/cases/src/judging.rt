@@ -17,7 +17,7 @@ use vectors::corpus::{Vector, wide};
 use vectors::report;
 
 // What a call gives: its answer, and the array whose first bytes were lent as the buffer.
-#[derive(Drop)]
+#[derive(Clone, Copy)]
 pub struct Judged {
     pub answer: Answer,
     pub array: [u8; 256],

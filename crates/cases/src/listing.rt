@@ -55,7 +55,7 @@ pub fn listing_vector(bytes: &[u8], v: Vector, last: Checkpoint) -> Compared
 }
 
 // What a list gives: the last call's answer and checkpoint, the number of models, and the array whose first places were lent.
-#[derive(Drop)]
+#[derive(Clone, Copy)]
 pub struct Filled {
     pub told: Told,
     pub checkpoint: Checkpoint,

@@ -22,7 +22,7 @@ use vectors::corpus::{Framed, Vector, frame};
 use vectors::totals;
 use vectors::totals::Totals;
 
-#[derive(Drop)]
+#[derive(Clone, Copy)]
 pub enum Act {
     Check,
     Judge,
@@ -41,7 +41,7 @@ pub enum Act {
 }
 
 // Where a run over a file stopped: at the file's end, or at a vector that runs past it.
-#[derive(Drop)]
+#[derive(Clone, Copy)]
 pub struct Run {
     pub at: usize,
     pub totals: Totals,

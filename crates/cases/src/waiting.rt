@@ -15,7 +15,7 @@ use vectors::report;
 // What is known after some calls of a chain: whether a model came, the checkpoint that came back with the last one (the start checkpoint
 // before any), the steps since, how many waits are over, whether each was right, whether the end came, and the checkpoint that the last
 // call returned.
-#[derive(Drop)]
+#[derive(Clone, Copy)]
 pub struct Waits {
     pub came: bool,
     pub last: Checkpoint,

@@ -19,7 +19,7 @@ use vectors::report;
 pub const CHECKPOINT_SIZE: usize = 2 + limits::MAX_VARIABLES;
 
 // What a call gives beside its checkpoint: the answer, the model or 0, and the steps and expansions made.
-#[derive(Drop)]
+#[derive(Clone, Copy)]
 pub struct Told {
     pub answer: Answer,
     pub model: u64,
@@ -28,7 +28,7 @@ pub struct Told {
 }
 
 // Whether a vector agrees, and the checkpoint that the last call returned.
-#[derive(Drop)]
+#[derive(Clone, Copy)]
 pub struct Compared {
     pub agrees: bool,
     pub last: Checkpoint,

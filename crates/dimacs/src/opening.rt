@@ -6,7 +6,7 @@ ghost use Rattle.dimacs.specs.InnerScan.{words_at, words_from, opening_held, by_
 use crate::scan;
 
 // The numbers of a p line, at most the cap, and the offsets of its third and fourth words, which write them.
-#[derive(Drop)]
+#[derive(Clone, Copy)]
 pub struct Numbers {
     pub variables: usize,
     pub third: usize,
@@ -15,7 +15,7 @@ pub struct Numbers {
 }
 
 // A p line, or another.
-#[derive(Drop)]
+#[derive(Clone, Copy)]
 pub enum Opening {
     PLine(Numbers),
     Other,

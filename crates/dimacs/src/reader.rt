@@ -28,7 +28,7 @@ const MAX_BYTES: usize = 3 + MAX_CLAUSES * MAX_CLAUSE_BYTES;
 const KEPT_ROOM: usize = 2 + (MAX_CLAUSES + 1) * MAX_CLAUSE_BYTES;
 
 // Where reading stands: the number of variables, how many clauses have ended, what the current one names, and how many bytes are kept.
-#[derive(Drop)]
+#[derive(Clone, Copy)]
 struct Reader {
     variables: usize,
     count: usize,
@@ -37,7 +37,7 @@ struct Reader {
 }
 
 // What words give.
-#[derive(Drop)]
+#[derive(Clone, Copy)]
 enum Event {
     Next(Reader),
     Stopped(Refusal),

@@ -8,7 +8,7 @@ ghost use Rattle.dimacs.specs.InnerScan.{until, in_word, cap, capped, token_held
 const CAP: usize = 1000;
 
 // A word after the p line: it ends a clause, or names a variable (from 1) as true or as false, or neither.
-#[derive(Drop)]
+#[derive(Clone, Copy)]
 pub enum Token {
     Ends,
     Literal(bool, usize),

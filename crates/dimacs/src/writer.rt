@@ -18,14 +18,14 @@ use limits::{MAX_CLAUSES, MAX_VARIABLES};
 const TEXT_ROOM: usize = 12 + MAX_CLAUSES * (4 * MAX_VARIABLES + 2);
 
 // The variables that the line of a clause has so far, and the offset behind it.
-#[derive(Drop)]
+#[derive(Clone, Copy)]
 struct Line {
     seen: u64,
     at: usize,
 }
 
 // Where the next clause starts, and the offset behind the lines that are written.
-#[derive(Drop)]
+#[derive(Clone, Copy)]
 struct Offsets {
     from: usize,
     at: usize,

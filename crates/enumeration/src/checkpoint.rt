@@ -7,7 +7,7 @@ ghost use Rattle.enumeration.specs.Values.{checkpoint_values};
 ghost use Rattle.enumeration.specs.InnerRead.{FormTested};
 
 // A checkpoint (request: marker): its mode, its length, and a byte for each assigned variable in order.
-#[derive(Drop)]
+#[derive(Clone, Copy)]
 pub struct Checkpoint {
     pub mode: u8,
     pub length: u8,

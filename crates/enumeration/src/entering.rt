@@ -15,7 +15,7 @@ use crate::state::{State, root};
 use formula::{Formula, Outcome, Refusal};
 
 // Whether a call may go on, and the state to go on from; beside a refusal any state.
-#[derive(Drop)]
+#[derive(Clone, Copy)]
 pub struct Entered {
     pub outcome: Outcome,
     pub state: State,

@@ -16,7 +16,7 @@ use crate::steps::{pick, pick_by_clauses};
 use formula::Formula;
 
 // A checkpoint's answer: it is one that the walk has, and the state that it stands for.
-#[derive(Drop)]
+#[derive(Clone, Copy)]
 pub struct Tested {
     pub known: bool,
     pub state: State,

@@ -7,7 +7,7 @@ use formula::Formula;
 use splitting::Assignment;
 
 // The variables to assign, how many they are, and what is assigned before.
-#[derive(Drop)]
+#[derive(Clone, Copy)]
 pub struct Scope {
     pub mask: u64,
     pub size: usize,

@@ -15,7 +15,7 @@ use splitting::Assignment;
 // undone; 3 true was undone; 4 the end is behind. The trail is a checkpoint's: `length` bytes, then zeros. `open_true` has, for
 // each depth at which false stands or was undone last, whether true is open there; `variable` is the one undone last. `clear` has,
 // of the depths up to the trail's end, those at which it is known that no clause is left.
-#[derive(Drop)]
+#[derive(Clone, Copy)]
 pub struct State {
     pub place: u8,
     pub variable: usize,
@@ -28,7 +28,7 @@ pub struct State {
 
 // What a step makes of a state: all of the next one but the trail's bytes, and the one byte of these that it writes. A run writes it
 // in place, since to copy the bytes just after a byte was written is slow.
-#[derive(Drop)]
+#[derive(Clone, Copy)]
 pub struct Moved {
     pub place: u8,
     pub variable: usize,

@@ -12,14 +12,14 @@ ghost use Rattle.formula.specs.InnerReader.{count_event, variable_event, literal
 use limits::{MAX_CLAUSES, MAX_VARIABLES};
 
 // A clause (request: rule): the variables that it names as true (request: on) and those that it names as false.
-#[derive(Drop)]
+#[derive(Clone, Copy)]
 pub struct Clause {
     pub positive: u64,
     pub negative: u64,
 }
 
 // A formula (request: sheet): the first `count` clauses; the others are empty.
-#[derive(Drop)]
+#[derive(Clone, Copy)]
 pub struct Formula {
     pub variables: usize,
     pub count: usize,
@@ -27,7 +27,7 @@ pub struct Formula {
 }
 
 // S3.1: the refusals, in the order of their numbers; each holds its place.
-#[derive(Drop)]
+#[derive(Clone, Copy)]
 pub enum Refusal {
     ShortBuffer(usize),
     Truncated(usize),
@@ -50,21 +50,21 @@ pub enum Refusal {
 }
 
 // Accepted or refused: by the reader, and above it by acceptance and on entering a walk.
-#[derive(Drop)]
+#[derive(Clone, Copy)]
 pub enum Outcome {
     Accepted,
     Refused(Refusal),
 }
 
 // What reading gives: the formula, or the refusal beside an empty formula.
-#[derive(Drop)]
+#[derive(Clone, Copy)]
 pub struct Decoded {
     pub outcome: Outcome,
     pub formula: Formula,
 }
 
 // The answer of check.
-#[derive(Drop)]
+#[derive(Clone, Copy)]
 pub enum Verdict {
     Model,
     NotModel,
@@ -74,7 +74,7 @@ pub enum Verdict {
 // Where reading stands: the number of variables once kind 1 is read, the offset of the next record, how many clauses have
 // ended, and what the current clause names so far. The byte stands first, as a refusal's case does, so that in an event the two
 // share whole fields.
-#[derive(Drop)]
+#[derive(Clone, Copy)]
 struct Reader {
     variables: u8,
     at: usize,
@@ -83,7 +83,7 @@ struct Reader {
 }
 
 // What a record gives.
-#[derive(Drop)]
+#[derive(Clone, Copy)]
 enum Event {
     Next(Reader),
     Finished,

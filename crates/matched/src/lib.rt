@@ -30,7 +30,7 @@ use splitting::{Assignment, Stripping};
 // clause 0 if an assumption satisfies it, else its variable, from 1, or, if stripping dropped it, 128 plus the variable that dropped it;
 // or, where what stripping leaves can't be matched, 1 for a marked clause and 0 for another. Another refused input has no bytes. Zeros
 // follow.
-#[derive(Drop)]
+#[derive(Clone, Copy)]
 pub struct Row {
     pub outcome: Outcome,
     pub length: usize,
@@ -38,21 +38,21 @@ pub struct Row {
 }
 
 // The answer: the numbers of variables and of clauses, or the refusal.
-#[derive(Drop)]
+#[derive(Clone, Copy)]
 pub enum Judgement {
     Accepted(usize, usize),
     Refused(Refusal),
 }
 
 // How much marks weigh: the numbers of marked clauses and of the variables that they name, or the refusal.
-#[derive(Drop)]
+#[derive(Clone, Copy)]
 pub enum Weighed {
     Counted(usize, u32),
     Refused(Refusal),
 }
 
 // How far a formula is from being matched: its deficiency, or the refusal.
-#[derive(Drop)]
+#[derive(Clone, Copy)]
 pub enum Measured {
     Deficiency(usize),
     Refused(Refusal),

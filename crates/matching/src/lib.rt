@@ -14,7 +14,7 @@ use limits::MAX_CLAUSES;
 
 // If complete, the first bytes of `table` are the variables of the clauses and `marked` is 0; otherwise a marked clause has 1 there and
 // another 0, and `marked` clauses are marked. The bytes after those of the clauses are 0.
-#[derive(Drop)]
+#[derive(Clone, Copy)]
 pub struct Matching {
     pub complete: bool,
     pub expansions: u64,
@@ -24,7 +24,7 @@ pub struct Matching {
 
 // Where a search stands: the seen variables, how many clauses are taken off the queue and how many joined it, and the unmatched
 // variable that was found (64: none).
-#[derive(Drop)]
+#[derive(Clone, Copy)]
 struct Front {
     seen: u64,
     head: usize,

@@ -12,7 +12,7 @@ use enumeration::{Ending, Scope, State};
 use formula::Formula;
 
 // How many lines are filled, and where the walk stands behind them.
-#[derive(Drop)]
+#[derive(Clone, Copy)]
 pub struct Lines {
     count: usize,
     state: State,

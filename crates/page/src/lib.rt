@@ -18,14 +18,14 @@ pub use lines::{LINE_SIZE, PAGE_LINES, PAGE_SIZE};
 pub const MAX_SERIAL: u32 = 999950;
 
 // How many lines are filled, or the refusal.
-#[derive(Drop)]
+#[derive(Clone, Copy)]
 pub enum PageAnswer {
     Filled(usize),
     Refused(Refusal),
 }
 
 // What the act gives: the answer, and the checkpoint for the next page.
-#[derive(Drop)]
+#[derive(Clone, Copy)]
 pub struct Paged {
     pub answer: PageAnswer,
     pub checkpoint: Checkpoint,

@@ -16,14 +16,14 @@ use formula::{Clause, Formula};
 use matching::Matching;
 
 // The assigned variables, by their values.
-#[derive(Drop)]
+#[derive(Clone, Copy)]
 pub struct Assignment {
     pub trues: u64,
     pub falses: u64,
 }
 
 // The chosen variable, which of its values are open, and the expansions of the trials made in choosing it.
-#[derive(Drop)]
+#[derive(Clone, Copy)]
 pub struct Choice {
     pub variable: usize,
     pub false_open: bool,
@@ -32,7 +32,7 @@ pub struct Choice {
 }
 
 // The variables that clauses name as true and as false, and whether there is a clause.
-#[derive(Drop)]
+#[derive(Clone, Copy)]
 struct Survey {
     positive: u64,
     negative: u64,
@@ -40,7 +40,7 @@ struct Survey {
 }
 
 // What stripping leaves: the assignment with the noted variables, those and the last of them, and the clauses' survey.
-#[derive(Drop)]
+#[derive(Clone, Copy)]
 struct Reduced {
     assignment: Assignment,
     noted: u64,
@@ -49,7 +49,7 @@ struct Reduced {
 }
 
 // Stripping at a node: the assignment with the noted variables, each the way that it is named, and these in order, zeros behind them.
-#[derive(Drop)]
+#[derive(Clone, Copy)]
 pub struct Stripping {
     pub assignment: Assignment,
     pub count: usize,
@@ -57,7 +57,7 @@ pub struct Stripping {
 }
 
 // How many clauses name each variable, for all variables at once: the binary digits of the counts, a mask for each digit.
-#[derive(Drop)]
+#[derive(Clone, Copy)]
 struct Counts {
     ones: u64,
     twos: u64,
@@ -69,7 +69,7 @@ struct Counts {
 }
 
 // Both matchings succeeded, and the expansions.
-#[derive(Drop)]
+#[derive(Clone, Copy)]
 struct Trial {
     passes: bool,
     cost: u64,

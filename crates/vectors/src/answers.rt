@@ -8,7 +8,7 @@ use formula::Refusal;
 
 // What an answer says: 0 no, 1 yes, 2 refused, 3 accepted, 4 model, 5 spent, 6 ended, of a comparison 7 to 9, 10 written, 11 filled,
 // 12 counted; the refusal's number and place, else zeros; and the numbers of variables and of clauses if accepted or counted, else zeros.
-#[derive(Drop)]
+#[derive(Clone, Copy)]
 pub struct Answer {
     pub says: u64,
     pub number: u64,

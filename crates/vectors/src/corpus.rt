@@ -3,7 +3,7 @@ ghost use Rattle.std.specs.Prelude.{◌+◌, ◌≤◌, ◌≡◌, length};
 ghost use Rattle.vectors.specs.Corpus.{two_bytes, four_bytes, eight_bytes, Read, framed};
 
 // A vector: its number, and where its parts start: its input, its assumptions, the bytes that it expects, and its fields.
-#[derive(Drop)]
+#[derive(Clone, Copy)]
 pub struct Vector {
     pub number: u64,
     pub start: usize,
@@ -13,7 +13,7 @@ pub struct Vector {
 }
 
 // What stands at an offset: a whole vector, or one that runs past the end.
-#[derive(Drop)]
+#[derive(Clone, Copy)]
 pub enum Framed {
     Whole(Vector),
     Broken,
