@@ -1,6 +1,8 @@
 // Lists of assumptions, each read into two masks or refused at its first bad one (S17.1).
 //
 // A list is lent as structs (`read_assumptions`, proved by hand) or as bytes, two for each (`read_pairs`); both are read by `take`.
+#![tactic(auto)]
+
 ghost use Rattle.std.specs.Prelude.{◌≡◌, ◌+◌, ◌*◌, ◌<◌, ◌≤◌, length};
 ghost use Rattle.limits.specs.Limits.{max_variables};
 ghost use Rattle.assumptions.specs.Assumed.{assumed};

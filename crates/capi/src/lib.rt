@@ -1,6 +1,8 @@
 // The functions exported to C and Rust, each over slices of numbers (S13.1).
 //
 // A slice is lent as a pointer and a length. Results go out as six numbers, a checkpoint as 50 bytes.
+#![tactic(auto)]
+
 ghost use Rattle.std.specs.Prelude.{◌≡◌, length, drop};
 ghost use Rattle.formula.specs.Check as check;
 ghost use Rattle.formula.specs.Refusals.{table_row};
@@ -178,7 +180,7 @@ fn trail_in(checkpoint: &[u8]) -> [u8; limits::MAX_VARIABLES]
     ensures { result ≡ drop 2 checkpoint.now }
 {
     let mut trail = [0u8; limits::MAX_VARIABLES];
-    bytes::copy(&checkpoint[2..], &mut trail);
+    trail.copy_from_slice(&checkpoint[2..]);
     trail
 }
 
@@ -202,7 +204,7 @@ fn put_checkpoint(c: Checkpoint, checkpoint: &mut [u8])
     checkpoint[0] = c.mode;
     checkpoint[1] = c.length;
     let trail = c.bytes;
-    bytes::copy(&trail, &mut checkpoint[2..]);
+    checkpoint[2..].copy_from_slice(&trail);
 }
 
 // What the bytes of a list of assumptions say beside an input.

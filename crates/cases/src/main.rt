@@ -37,6 +37,8 @@
 // - formulas: none. The answer says that the walk was not compared with a trial of all assignments (7), or that both have the same
 //   models (8), with their number as the place.
 // tools/corpus.py writes the files.
+#![tactic(auto)]
+
 mod assuming;
 mod converting;
 mod judging;
@@ -83,7 +85,8 @@ fn run_files(name: &[u8], act: Act, unit: &[u8])
     requires { length name.now < 16 }
 {
     let mut path = [0u8; 16];
-    let end = bytes::copy(name, &mut path);
+    let end = name.len();
+    path[..end].copy_from_slice(name);
     let mut t = totals::none();
     let mut i: u8 = 0;
     while i < 26 {

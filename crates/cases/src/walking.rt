@@ -106,7 +106,7 @@ fn trail_at(bytes: &[u8], at: usize) -> [u8; limits::MAX_VARIABLES]
 {
     let mut trail = [0u8; limits::MAX_VARIABLES];
     let end = at + limits::MAX_VARIABLES;
-    bytes::copy(&bytes[at..end], &mut trail);
+    trail.copy_from_slice(&bytes[at..end]);
     trail
 }
 

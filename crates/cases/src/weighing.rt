@@ -36,7 +36,7 @@ fn lent_array(bytes: &[u8], at: usize, fill: u8) -> [u8; 256]
 {
     let end = at + limits::MAX_CLAUSES;
     let mut array = filled(fill);
-    bytes::copy(&bytes[at..end], &mut array);
+    array[..limits::MAX_CLAUSES].copy_from_slice(&bytes[at..end]);
     array
 }
 

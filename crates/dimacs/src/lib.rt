@@ -1,4 +1,6 @@
 // DIMACS CNF text: read into an encoded formula, and written from one (S15, S16).
+#![tactic(auto)]
+
 mod answers;
 mod opening;
 mod reader;

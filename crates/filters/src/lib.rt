@@ -1,4 +1,6 @@
 // What the programs that convert write: the bytes on standard output, or the line of a refusal on standard error.
+#![tactic(auto)]
+
 ghost use Rattle.std.specs.Prelude.{◌≤◌, length};
 ghost use Rattle.dimacs.specs.Convert.{converted_values};
 

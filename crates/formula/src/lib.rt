@@ -1,4 +1,6 @@
 // Encoded formulas: the reader, its refusals, and the act check.
+#![tactic(auto)]
+
 ghost use Rattle.std.specs.Prelude.{◌≡◌, ◌+◌, ◌<◌, ◌≤◌, ◌^◌, eqb, length, get_or, not, []};
 ghost use Rattle.limits.specs.Limits.{max_variables, max_clauses};
 ghost use Rattle.formula.specs.Check.{verdict_values, checked};

@@ -2,6 +2,8 @@
 //
 // It reads at most 65,536 bytes, and takes these for the whole text. The buffer for the formula, which has at most 9,315 bytes, is as
 // large as the input that list_models takes.
+#![tactic(auto)]
+
 fn main() {
     let mut text = io::large_buffer();
     let n = io::read_full(0, &mut text);

@@ -2,6 +2,8 @@
 //
 // `accept` says what comes of an input (`acceptance`) to judge, walk, list, page and print, which have read it; judge writes it into a
 // lent buffer. `weigh_marks` counts the clauses that a buffer marks and the variables that they name. `deficiency` asks nothing of these.
+#![tactic(auto)]
+
 ghost use Rattle.std.specs.Prelude.{List, map, ◌≡◌, ℕ, ◌+◌, ◌<◌, ◌≤◌, length, get_or, take};
 ghost use Rattle.limits.specs.Limits.{max_clauses};
 ghost use Rattle.lists.specs.Over.{over};

@@ -1,6 +1,8 @@
 // Matching clauses to variables by breadth-first augmenting search, over masks (S5, S22).
 //
 // It knows no signs and no bytes: a clause is the mask of its variables, and clauses and variables count from 0.
+#![tactic(auto)]
+
 ghost use Rattle.std.specs.Prelude.{◌≡◌, false, ℕ, ◌<◌, ◌≤◌, length, take};
 ghost use Rattle.limits.specs.Limits.{max_clauses};
 ghost use Rattle.masks.specs.Mask.{bit, members};

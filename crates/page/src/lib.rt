@@ -1,4 +1,6 @@
 // The act page: the next models of a walk as 50 lines of 60 bytes in a lent page (S19).
+#![tactic(auto)]
+
 ghost use Rattle.std.specs.Prelude.{List, ◌≡◌, ℕ};
 ghost use Rattle.assumptions.specs.declared.Assumption.{Assumption};
 ghost use Rattle.assumptions.specs.InnerAssumed.{MasksOf};

@@ -1,6 +1,8 @@
 // Program: prints the pages of the walk of the encoded formula on standard input, or its refusal (S19.6).
 //
 // It reads at most 16,384 bytes, as list_models does, and takes these for the whole input.
+#![tactic(auto)]
+
 ghost use Rattle.std.specs.Prelude.{[], ◌+◌, ◌*◌, ◌≤◌, length};
 ghost use Rattle.writing.specs.Text.{blanks};
 ghost use Rattle.writing.specs.Placed.{Wrote};

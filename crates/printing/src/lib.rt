@@ -1,4 +1,6 @@
 // The printed walk: its lines as bytes, written into a lent buffer (S12).
+#![tactic(auto)]
+
 ghost use Rattle.std.specs.Prelude.{◌≡◌, List, [], ℕ, ◌≤◌};
 ghost use Rattle.writing.specs.Placed.{Room, Wrote};
 ghost use Rattle.matched.specs.InnerAccept.{Takes};

@@ -4,6 +4,8 @@
 // another are its unassigned variables. Few clauses are open where a choice is made, so what is left of those is copied first, into an
 // array for each side, and all else goes over the arrays: stripping a pure literal drops the clauses that name it, in place, and what it
 // leaves is counted for all variables at once, to try the busiest first.
+#![tactic(auto)]
+
 ghost use Rattle.std.specs.Prelude.{◌≡◌, true, cond, map, ℕ, suc, ◌<◌, ◌≤◌, ltb, length};
 ghost use Rattle.limits.specs.Limits.{max_clauses};
 ghost use Rattle.lists.specs.Over.{over};

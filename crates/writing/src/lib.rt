@@ -2,6 +2,8 @@
 //
 // A writer is given the offset at which it starts, and answers with the one behind what it wrote. Its callers show that the buffer has
 // room.
+#![tactic(auto)]
+
 ghost use Rattle.std.specs.Prelude.{◌≡◌, [], ◌∷◌, ◌+◌, ◌<◌, ◌≤◌, length};
 ghost use Rattle.writing.specs.Placed.{Room, Wrote};
 ghost use Rattle.writing.specs.Text.{decimal, digit, column, columns, line_of, blanks, right};

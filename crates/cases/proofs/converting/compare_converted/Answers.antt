@@ -1,0 +1,28 @@
+-- `compare_converted`: the comparison is that of `converts`, since each side is what its function ensures.
+use mathlib.Core.Path.{◌≡◌, sym, ◌∙◌}
+use Rattle.cases.specs.Converting.{converts}
+use Rattle.cases.proofs.ConvertingLaws.{compared}
+use Rattle.cases.proofs.converting.compare_converted.Goals.{After-agree}
+use Rattle.cases.proofs.converting.compare_converted.Goals as goal
+
+-- what the comparison gives
+told :
+    (c : After-agree) →
+    let a = c.args in
+    c.agree.result ≡ converts a.reads a.bytes.now a.v a.fill a.buffer.now
+told c =
+    c.agree.ensures
+    ∙ compared _ _ _ _ _ _ _ _ _
+    c.expected_at-wanted.ensures
+    c.convert-got.ensures
+    c.first_wrong-wrong.ensures.place
+    c.convert-got.auto.1.1.0
+
+pub returns-then-agree : goal.returns-then-agree
+returns-then-agree c = sym c.if-agree.true ∙ told c.before
+
+pub returns-then-wrong-buffer : goal.returns-then-wrong-buffer
+returns-then-wrong-buffer c = sym c.if-agree.false ∙ told e.before
+
+pub returns-else-wrong-buffer : goal.returns-else-wrong-buffer
+returns-else-wrong-buffer c = sym c.if-agree.false ∙ told e.before

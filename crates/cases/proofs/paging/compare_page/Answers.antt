@@ -1,0 +1,44 @@
+-- `compare_page`: the comparison is that of `pages`, since each side is what its function ensures.
+use mathlib.Core.Path.{◌≡◌, sym, ◌∙◌}
+use native.Mathlib.Omega.{arith}
+use Rattle.enumeration.specs.Values.{checkpoint_values}
+use Rattle.cases.specs.Paging.{paged, pages}
+use Rattle.cases.proofs.PagingLaws.{compared, returned}
+use Rattle.cases.proofs.paging.compare_page.Goals.{After-page_agree}
+use Rattle.cases.proofs.paging.compare_page.Goals as goal
+
+-- what the comparison gives
+told : (c : After-page_agree)
+    → let a = c.args in
+    c.page_agree.result ≡ pages a.bytes.now a.v (checkpoint_values a.last) a.fill a.page.now
+told c =
+    c.page_agree.ensures
+    ∙ compared _ _ _ _ _ _ c.page_of-told.result _ _ _ _ _
+    c.expected_at-wanted.ensures
+    c.written_size-size.ensures
+    c.page_of-told.ensures
+    c.answer_of-got.ensures
+    c.checkpoint_wrong-other.ensures
+    c.first_amiss-wrong.ensures.place
+    c.page_of-told.auto.1.1.1.0
+
+-- the checkpoint that the call returned
+left : (c : After-page_agree)
+    → let a = c.args in
+    checkpoint_values c.page_of-told.result.checkpoint ≡ (paged a.bytes.now a.v (checkpoint_values a.last) a.page.now).checkpoint
+left c = returned _ _ _ _ _ c.page_of-told.result c.page_of-told.ensures
+
+pub returns-then-page_agree : goal.returns-then-page_agree
+returns-then-page_agree c = record { agrees = sym c.if-page_agree.true ∙ told (goal.at.returns-then-page_agree c).After-page_agree; leaves = left (goal.at.returns-then-page_agree c).After-page_agree }
+
+pub report_byte-requires : goal.report_byte-requires
+report_byte-requires c = omega (arith, c.requires.whole)
+
+pub page_byte-requires : goal.page_byte-requires
+page_byte-requires c = let l = c.requires in omega (arith, l.bytes, l.whole)
+
+pub returns-then-wrong-page : goal.returns-then-wrong-page
+returns-then-wrong-page c = record { agrees = sym c.if-page_agree.false ∙ told (goal.at.returns-then-wrong-page c).After-page_agree; leaves = left (goal.at.returns-then-wrong-page c).After-page_agree }
+
+pub returns-else-wrong-page : goal.returns-else-wrong-page
+returns-else-wrong-page c = record { agrees = sym c.if-page_agree.false ∙ told (goal.at.returns-else-wrong-page c).After-page_agree; leaves = left (goal.at.returns-else-wrong-page c).After-page_agree }

@@ -1,0 +1,123 @@
+-- `read_numbers`: a word more, and a run of digits, or not.
+use Prim.Native.Nat.{ℕ}
+use mathlib.Core.Bool.{true}
+use mathlib.Core.List.{List, ◌∷◌}
+use mathlib.Core.Path.{◌≡◌, refl, sym, ap, ◌∙◌}
+use native.Mathlib.Omega.{arith}
+use borrow.Author.Tests.{not-true, not-false}
+use Rattle.dimacs.specs.Text.{Piece, run}
+use Rattle.dimacs.specs.InnerScan.{words_from, opening_held, by_numbers}
+use Rattle.dimacs.proofs.TextLaws.{start_le}
+use Rattle.dimacs.proofs.OpeningLaws.{span, Next, next_word, InLine, in_line, more_words, no_words, passes, fails, numbers-first, numbers_second, numbers_both}
+use Rattle.dimacs.proofs.opening.read_numbers.Goals.{After-word_end-c_end, After-word_end-d_end, Else-not-is_run, Else-not-is_run-2}
+use Rattle.dimacs.proofs.opening.read_numbers.Goals as goal
+
+-- `read_numbers`: a word more, and a run of digits, or not.
+-- the first word
+module _ (d : After-word_end-c_end) where
+  abbrev line : List ℕ
+  line = d.args.line.now
+
+  abbrev at : ℕ
+  at = d.args.at
+
+  abbrev start : ℕ
+  start = d.word_start-c.result
+
+  abbrev end : ℕ
+  end = d.word_end-c_end.result
+
+  within : InLine line start end
+  within = in_line at line d.args.from start end d.requires.0 d.word_start-c.ensures d.word_end-c_end.ensures
+
+  next : Next at line d.args.from start end
+  next = next_word at line d.args.from start end d.word_start-c.ensures d.word_end-c_end.ensures
+
+-- the second
+module _ (d : After-word_end-d_end) where
+  abbrev start2 : ℕ
+  start2 = d.word_start-d.result
+
+  abbrev end2 : ℕ
+  end2 = d.word_end-d_end.result
+
+  within2 : InLine (line (goal.at.After-word_end-d_end d).After-word_end-c_end) start2 end2
+  within2 = in_line (at (goal.at.After-word_end-d_end d).After-word_end-c_end) (line (goal.at.After-word_end-d_end d).After-word_end-c_end) (end (goal.at.After-word_end-d_end d).After-word_end-c_end) start2 end2 (within (goal.at.After-word_end-d_end d).After-word_end-c_end).ends d.word_start-d.ensures d.word_end-d_end.ensures
+
+  next2 : Next (at (goal.at.After-word_end-d_end d).After-word_end-c_end) (line (goal.at.After-word_end-d_end d).After-word_end-c_end) (end (goal.at.After-word_end-d_end d).After-word_end-c_end) start2 end2
+  next2 = next_word (at (goal.at.After-word_end-d_end d).After-word_end-c_end) (line (goal.at.After-word_end-d_end d).After-word_end-c_end) (end (goal.at.After-word_end-d_end d).After-word_end-c_end) start2 end2 d.word_start-d.ensures d.word_end-d_end.ensures
+
+abbrev word : Else-not-is_run-2 → Piece
+word e = span (at (goal.at.Else-not-is_run-2 e).After-word_end-c_end) (line (goal.at.Else-not-is_run-2 e).After-word_end-c_end) (start (goal.at.Else-not-is_run-2 e).After-word_end-c_end) (end (goal.at.Else-not-is_run-2 e).After-word_end-c_end)
+
+abbrev word2 : Else-not-is_run-2 → Piece
+word2 e = span (at (goal.at.Else-not-is_run-2 e).After-word_end-c_end) (line (goal.at.Else-not-is_run-2 e).After-word_end-c_end) (start2 (goal.at.Else-not-is_run-2 e).After-word_end-d_end) (end2 (goal.at.Else-not-is_run-2 e).After-word_end-d_end)
+
+runs : (e : Else-not-is_run) → run ((span (at (goal.at.Else-not-is_run e).After-word_end-c_end) (line (goal.at.Else-not-is_run e).After-word_end-c_end) (start (goal.at.Else-not-is_run e).After-word_end-c_end) (end (goal.at.Else-not-is_run e).After-word_end-c_end)).bytes) ≡ true
+runs e = sym e.is_run.ensures ∙ not-false _ e.if-not-is_run.false-raw
+
+taken : (e : Else-not-is_run) → (words_from (at (goal.at.Else-not-is_run e).After-word_end-c_end) (line (goal.at.Else-not-is_run e).After-word_end-c_end) e.args.from ≡ span (at (goal.at.Else-not-is_run e).After-word_end-c_end) (line (goal.at.Else-not-is_run e).After-word_end-c_end) (start (goal.at.Else-not-is_run e).After-word_end-c_end) (end (goal.at.Else-not-is_run e).After-word_end-c_end) ∷ words_from (at (goal.at.Else-not-is_run e).After-word_end-c_end) (line (goal.at.Else-not-is_run e).After-word_end-c_end) (end (goal.at.Else-not-is_run e).After-word_end-c_end))
+taken e = passes (at (goal.at.Else-not-is_run e).After-word_end-c_end) (line (goal.at.Else-not-is_run e).After-word_end-c_end) _ (start (goal.at.Else-not-is_run e).After-word_end-c_end) (end (goal.at.Else-not-is_run e).After-word_end-c_end) run refl (next (goal.at.Else-not-is_run e).After-word_end-c_end) (runs e)
+
+runs2 : (e : Else-not-is_run-2) → run (word2 e).bytes ≡ true
+runs2 e = sym e.is_run-2.ensures ∙ not-false _ e.if-not-is_run-2.false-raw
+
+both : (e : Else-not-is_run-2) → (words_from (at (goal.at.Else-not-is_run-2 e).After-word_end-c_end) (line (goal.at.Else-not-is_run-2 e).After-word_end-c_end) e.args.from ≡ word e ∷ word2 e ∷ words_from (at (goal.at.Else-not-is_run-2 e).After-word_end-c_end) (line (goal.at.Else-not-is_run-2 e).After-word_end-c_end) (end2 (goal.at.Else-not-is_run-2 e).After-word_end-d_end))
+both e =
+    taken (goal.at.Else-not-is_run-2 e).Else-not-is_run
+    ∙ ap (λ (ws : List Piece). word e ∷ ws)
+    (passes (at (goal.at.Else-not-is_run-2 e).After-word_end-c_end) (line (goal.at.Else-not-is_run-2 e).After-word_end-c_end) (end (goal.at.Else-not-is_run-2 e).After-word_end-c_end) (start2 (goal.at.Else-not-is_run-2 e).After-word_end-d_end) (end2 (goal.at.Else-not-is_run-2 e).After-word_end-d_end) run refl (next2 (goal.at.Else-not-is_run-2 e).After-word_end-d_end) (runs2 e))
+
+pub word_start-c-requires : goal.word_start-c-requires
+word_start-c-requires c = c.requires.0
+
+pub word_end-c_end-requires : goal.word_end-c_end-requires
+word_end-c_end-requires c = omega (arith, c.word_start-c.ensures, start_le c.args.at c.args.line.now c.args.from c.requires.0)
+
+pub slice_bounds-is_run-count : goal.slice_bounds-is_run-count
+slice_bounds-is_run-count c = (within c).forward
+
+pub returns-then-not-is_run : goal.returns-then-not-is_run
+returns-then-not-is_run c =
+    ap opening_held (sym (fails (at (goal.at.returns-then-not-is_run c).After-word_end-c_end) (line (goal.at.returns-then-not-is_run c).After-word_end-c_end) _ (start (goal.at.returns-then-not-is_run c).After-word_end-c_end) (end (goal.at.returns-then-not-is_run c).After-word_end-c_end) run refl by_numbers refl numbers-first (next (goal.at.returns-then-not-is_run c).After-word_end-c_end) (sym c.is_run.ensures ∙ not-true _ c.if-not-is_run.true-raw)))
+
+pub word_start-d-requires : goal.word_start-d-requires
+word_start-d-requires c = (within (goal.at.word_start-d-requires c).After-word_end-c_end).ends
+
+pub word_end-d_end-requires : goal.word_end-d_end-requires
+word_end-d_end-requires c = omega (arith, c.word_start-d.ensures, start_le (at (goal.at.word_end-d_end-requires c).After-word_end-c_end) (line (goal.at.word_end-d_end-requires c).After-word_end-c_end) (end (goal.at.word_end-d_end-requires c).After-word_end-c_end) (within (goal.at.word_end-d_end-requires c).After-word_end-c_end).ends)
+
+pub slice_bounds-is_run-count-2 : goal.slice_bounds-is_run-count-2
+slice_bounds-is_run-count-2 c = (within2 c).forward
+
+pub returns-then-not-is_run-2 : goal.returns-then-not-is_run-2
+returns-then-not-is_run-2 c =
+    let w = span (at (goal.at.returns-then-not-is_run-2 c).After-word_end-c_end) (line (goal.at.returns-then-not-is_run-2 c).After-word_end-c_end) (start (goal.at.returns-then-not-is_run-2 c).After-word_end-c_end) (end (goal.at.returns-then-not-is_run-2 c).After-word_end-c_end) in
+    ap opening_held
+    (sym (ap by_numbers (taken (goal.at.returns-then-not-is_run-2 c).Else-not-is_run) ∙ fails (at (goal.at.returns-then-not-is_run-2 c).After-word_end-c_end) (line (goal.at.returns-then-not-is_run-2 c).After-word_end-c_end) (end (goal.at.returns-then-not-is_run-2 c).After-word_end-c_end) (start2 (goal.at.returns-then-not-is_run-2 c).After-word_end-d_end) (end2 (goal.at.returns-then-not-is_run-2 c).After-word_end-d_end) run refl (λ ws. by_numbers (w ∷ ws)) refl (numbers_second w) (next2 (goal.at.returns-then-not-is_run-2 c).After-word_end-d_end) (sym c.is_run-2.ensures ∙ not-true _ c.if-not-is_run-2.true-raw)))
+
+pub word_start-requires : goal.word_start-requires
+word_start-requires c = (within2 (goal.at.word_start-requires c).After-word_end-d_end).ends
+
+pub returns-then-word_start-line : goal.returns-then-word_start-line
+returns-then-word_start-line c =
+    let m = more_words (at (goal.at.returns-then-word_start-line c).After-word_end-c_end) (line (goal.at.returns-then-word_start-line c).After-word_end-c_end) (end2 (goal.at.returns-then-word_start-line c).After-word_end-d_end) _ c.word_start.ensures c.if-word_start-line.true in
+    ap opening_held (sym (ap by_numbers (both (goal.at.returns-then-word_start-line c).Else-not-is_run-2 ∙ ap (λ (ws : List Piece). word (goal.at.returns-then-word_start-line c).Else-not-is_run-2 ∷ word2 (goal.at.returns-then-word_start-line c).Else-not-is_run-2 ∷ ws) m.2)))
+
+pub slice_bounds-capped_value-count : goal.slice_bounds-capped_value-count
+slice_bounds-capped_value-count c = (within (goal.at.slice_bounds-capped_value-count c).After-word_end-c_end).forward
+
+pub overflow_add-result : goal.overflow_add-result
+overflow_add-result c = omega (arith, (within (goal.at.overflow_add-result c).After-word_end-c_end).starts, c.requires.1)
+
+pub slice_bounds-capped_value-count-2 : goal.slice_bounds-capped_value-count-2
+slice_bounds-capped_value-count-2 c = (within2 (goal.at.slice_bounds-capped_value-count-2 c).After-word_end-d_end).forward
+
+pub overflow_add-result-2 : goal.overflow_add-result-2
+overflow_add-result-2 c = omega (arith, (within2 (goal.at.overflow_add-result-2 c).After-word_end-d_end).starts, c.requires.1)
+
+pub returns : goal.returns
+returns c =
+    let n = no_words (at (goal.at.returns c).After-word_end-c_end) (line (goal.at.returns c).After-word_end-c_end) (end2 (goal.at.returns c).After-word_end-d_end) _ c.word_start.ensures (omega (arith, c.if-word_start-line.false)) in
+    let q = ap by_numbers (both (goal.at.returns c).Else-not-is_run-2 ∙ ap (λ (ws : List Piece). word (goal.at.returns c).Else-not-is_run-2 ∷ word2 (goal.at.returns c).Else-not-is_run-2 ∷ ws) n) ∙ numbers_both (word (goal.at.returns c).Else-not-is_run-2) (word2 (goal.at.returns c).Else-not-is_run-2) (runs (goal.at.returns c).Else-not-is_run) (runs2 (goal.at.returns c).Else-not-is_run-2) in
+    rw (c.capped_value.ensures, c.capped_value-2.ensures) (ap opening_held (sym q))

@@ -1,0 +1,42 @@
+-- `take_literal`: by the three tests.
+use Prim.Native.Nat.{◌-◌, ◌≤◌}
+use mathlib.Core.Bool.{Bool, true, false, not}
+use mathlib.Core.Path.{◌≡◌, sym, ◌∙◌}
+use native.Mathlib.Omega.{arith}
+use Rattle.masks.specs.Mask.{bit}
+use Rattle.formula.specs.InnerFits.{side, clause_variables}
+use Rattle.dimacs.proofs.KeepLaws.{literal_above, literal_complement, literal_repeat, literal_room, literal_kept}
+use Rattle.dimacs.proofs.reader.take_literal.Goals.{After-member, After-member-2}
+use Rattle.dimacs.proofs.reader.take_literal.Goals as goal
+
+-- `take_literal`: by the three tests.
+-- behind the first test: the variable is below
+below : (d : After-member) → (let a = d.args in a.k ≤ a.r.variables)
+below d = omega (arith, d.if-r-k.false)
+
+-- the second test is that of the complement
+complement : (d : After-member) (x : Bool) → d.member.result ≡ x → (let a = d.args in bit (side a.r.current (not a.sign)) (a.k - 1) ≡ x)
+complement d x e = rw d.other_side.ensures at (sym d.member.ensures ∙ e)
+
+-- the third is that of the variable
+named : (d : After-member-2) (x : Bool) → d.member-2.result ≡ x → (let a = d.args in bit (clause_variables a.r.current) (a.k - 1) ≡ x)
+named d x e = sym d.member-2.ensures ∙ e
+
+pub returns-then-r-k : goal.returns-then-r-k
+returns-then-r-k c = λ s k. let a = c.args in literal_above k a.at a.sign a.k c.if-r-k.true
+
+pub returns-then-member : goal.returns-then-member
+returns-then-member c = λ s k. let a = c.args in literal_complement k a.at a.sign a.k (below (goal.at.returns-then-member c).After-member) (complement (goal.at.returns-then-member c).After-member true c.if-member.true)
+
+pub returns-then-member-2 : goal.returns-then-member-2
+returns-then-member-2 c = λ s k. let a = c.args in literal_repeat k a.at a.sign a.k (below (goal.at.returns-then-member-2 c).After-member) (complement (goal.at.returns-then-member-2 c).After-member false c.if-member.false) (named (goal.at.returns-then-member-2 c).After-member-2 true c.if-member-2.true)
+
+pub keep_literal-requires : goal.keep_literal-requires
+keep_literal-requires c =
+    let k = c.requires.1.keeps in
+    (c.requires.0, omega (arith, below (goal.at.keep_literal-requires c).After-member, k.sized.most), literal_room k 0 c.args.sign c.args.k (below (goal.at.keep_literal-requires c).After-member) (complement (goal.at.keep_literal-requires c).After-member false c.if-member.false) c.requires.0 (named (goal.at.keep_literal-requires c).After-member-2 false c.if-member-2.false))
+
+pub returns : goal.returns
+returns c = λ s k.
+    let a = c.args in
+    literal_kept k a.at a.sign a.k (below (goal.at.returns c).After-member) (complement (goal.at.returns c).After-member false c.if-member.false) c.requires.0 (named (goal.at.returns c).After-member-2 false c.if-member-2.false) _ _ c.keep_literal.ensures.0 c.keep_literal.ensures.1

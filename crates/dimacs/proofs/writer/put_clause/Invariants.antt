@@ -1,0 +1,16 @@
+-- `put_clause`: the invariant is that the line is written up to the literals that are left. The measure is the number of bytes that are left.
+use Prim.Native.Nat.{ℕ, ◌-◌}
+use mathlib.Core.List.{List, ◌++◌}
+use mathlib.Core.Path.{◌≡◌}
+use lib.ListN.{length, drop}
+use Rattle.limits.specs.Limits.{max_variables}
+use Rattle.formula.specs.Format.{Literal, clause_bytes, WrittenOver}
+use Rattle.dimacs.proofs.LineLaws.{Lining}
+use Rattle.dimacs.proofs.writer.put_clause.Given as goal
+
+abbrev pub invariant-loop-i : goal.invariant-loop-i
+invariant-loop-i l = (w : List Literal) (rest : List ℕ) → drop l.from l.input ≡ clause_bytes w ++ rest → WrittenOver max_variables w
+    → Lining l.input rest w l.at l.initial.buffer l.buffer l.seen l.i l.next
+
+abbrev pub decreases-loop-i : goal.decreases-loop-i
+decreases-loop-i l = length l.input - l.i

@@ -1,0 +1,45 @@
+-- `enter` meets its contract: by what comes of the input, then by the checkpoint's test.
+use Prim.Native.Nat.{ℕ}
+use mathlib.Core.Path.{◌≡◌, ap, ◌∙◌}
+use native.Mathlib.Omega.{arith}
+use borrow.Author.Rules.{rules}
+use lib.ListN.{length}
+use Rattle.limits.specs.Limits.{max_variables}
+use Rattle.formula.specs.declared.Refusal.{Refusal}
+use Rattle.walk.specs.Results.{refusing}
+use Rattle.walk.specs.InnerStack.{tree}
+use Rattle.enumeration.specs.Values.{checkpoint_values}
+use Rattle.enumeration.proofs.EnterLaws.{walked_follows, entered_begun, entered_foreign}
+use Rattle.enumeration.proofs.entering.enter.Goals.{Start}
+use Rattle.enumeration.proofs.entering.enter.Goals as goal
+
+-- `enter` meets its contract: by what comes of the input, then by the checkpoint's test.
+-- a checkpoint's array has 48 bytes
+all_bytes : (b : Start) → length b.args.c.bytes ≡ max_variables
+all_bytes b = search (rules, b.well-formed.1.1.1)
+
+pub enter_formula-requires : goal.enter_formula-requires
+enter_formula-requires c =
+    let p = c.requires in
+    let w = p.2.walked c.in-Accepted.is in
+    (w.fits, record { tree = tree w.task; follows = walked_follows p.0 p.1 _ _ w })
+
+pub returns-in-Refused : goal.returns-in-Refused
+returns-in-Refused c =
+    let x = c.in-Refused.refusal in
+    record {
+      begun = λ q. let z : ◌≡◌ {A = ℕ} 0 1 = cc q in absurd (omega arith);
+      refused = λ e q b.
+          let t : x ≡ e = cc q in
+          d.declined x c.in-Refused.is _ b ∙ ap (λ (y : Refusal). refusing y (checkpoint_values c.args.c)) t;
+    }
+
+pub returns-in-Accepted : goal.returns-in-Accepted
+returns-in-Accepted c =
+    let w = d.walked c.in-Accepted.is in
+    let full = all_bytes (goal.at.returns-in-Accepted c).Start in
+    let S = c.enter_formula.ensures (tree w.task) (walked_follows s us _ _ w) in
+    record {
+      begun = λ o. let p = S.passed o in entered_begun s us _ _ w (checkpoint_values c.args.c) full _ p.0 p.1 p.2;
+      refused = λ e o m. let p = S.foreign e o in rw p.0 (entered_foreign s us _ _ w (checkpoint_values c.args.c) full p.1 m);
+    }

@@ -1,0 +1,35 @@
+-- `equal`: each return by the tests that led to it.
+use borrow.Author.Tests.{eq-eqb, ne_eqb}
+use Rattle.vectors.proofs.answers.equal.Goals as goal
+
+pub returns-then-a-b : goal.returns-then-a-b
+returns-then-a-b c = rw (ne_eqb _ _ c.if-a-b.true)
+
+pub returns-then-a-b-2 : goal.returns-then-a-b-2
+returns-then-a-b-2 c = rw (eq-eqb _ _ c.if-a-b.false, ne_eqb _ _ c.if-a-b-2.true)
+
+pub returns-then-a-b-3 : goal.returns-then-a-b-3
+returns-then-a-b-3 c =
+    rw (
+      eq-eqb _ _ c.if-a-b.false,
+      eq-eqb _ _ c.if-a-b-2.false,
+      ne_eqb _ _ c.if-a-b-3.true,
+    )
+
+pub returns-then-a-b-4 : goal.returns-then-a-b-4
+returns-then-a-b-4 c =
+    rw (
+      eq-eqb _ _ c.if-a-b.false,
+      eq-eqb _ _ c.if-a-b-2.false,
+      eq-eqb _ _ c.if-a-b-3.false,
+      ne_eqb _ _ c.if-a-b-4.true,
+    )
+
+pub returns : goal.returns
+returns c =
+    rw (
+      eq-eqb _ _ c.if-a-b.false,
+      eq-eqb _ _ c.if-a-b-2.false,
+      eq-eqb _ _ c.if-a-b-3.false,
+      eq-eqb _ _ c.if-a-b-4.false,
+    )
