@@ -1,4 +1,4 @@
--- `all_satisfied`: the invariant is that the first i clauses are satisfied.
+-- `all_satisfied` tells whether each clause is satisfied.
 use Prim.Native.Nat.{◌-◌}
 use native.Mathlib.Omega.{arith}
 use mathlib.Core.Bool.{true}

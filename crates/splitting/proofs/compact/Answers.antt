@@ -1,5 +1,4 @@
--- `compact` keeps what is left of the open clauses. The invariant: of the first i clauses it is written, and those from i on stand as
--- they were.
+-- `compact` keeps what is left of the open clauses.
 use Prim.Native.Nat.{◌-◌}
 use native.Mathlib.Omega.{arith}
 use mathlib.Core.Path.{◌≡◌, refl, sym, ◌∙◌}

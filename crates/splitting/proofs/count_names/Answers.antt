@@ -1,4 +1,4 @@
--- `count_names` counts how many clauses name each variable. The invariant: those of the first i clauses are counted.
+-- `count_names` counts how many clauses name each variable.
 use Prim.Native.Nat.{◌-◌}
 use native.Mathlib.Omega.{arith}
 use mathlib.Core.Path.{◌≡◌, sym, ◌∙◌}

@@ -1,5 +1,4 @@
--- `drop_named` keeps the clauses that do not name v. The invariant: those of the first i are written, and the clauses from i on stand
--- as they were.
+-- `drop_named` keeps the clauses that do not name v.
 use Prim.Native.Nat.{◌-◌}
 use native.Mathlib.Omega.{arith}
 use mathlib.Core.Path.{◌≡◌, refl, sym, ◌∙◌}

@@ -1,4 +1,4 @@
--- `first_named` passes the clauses that do not name v. The invariant: the first i are such.
+-- `first_named` passes the clauses that do not name v.
 use Prim.Native.Nat.{◌-◌}
 use native.Mathlib.Omega.{arith}
 use mathlib.Core.Path.{refl, sym, ap, ◌∙◌}

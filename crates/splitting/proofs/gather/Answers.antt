@@ -1,4 +1,4 @@
--- `gather` writes what each clause of the node names. The invariant: it is written of the first i clauses.
+-- `gather` writes what each clause of the node names.
 use Prim.Native.Nat.{◌-◌}
 use native.Mathlib.Omega.{arith}
 use mathlib.Core.Path.{◌≡◌, refl, sym, ◌∙◌}

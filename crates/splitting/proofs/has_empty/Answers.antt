@@ -1,4 +1,4 @@
--- `has_empty` tells whether a clause of the node is empty. The invariant: none of the first i is.
+-- `has_empty` tells whether a clause of the node is empty.
 use Prim.Native.Nat.{◌-◌}
 use native.Mathlib.Omega.{arith}
 use mathlib.Core.Path.{◌≡◌, refl, sym, ap, ◌∙◌}

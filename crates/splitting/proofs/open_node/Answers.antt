@@ -1,4 +1,4 @@
--- `open_node` writes what is left of the open clauses. The invariant: it is written of the first i clauses.
+-- `open_node` writes what is left of the open clauses.
 use Prim.Native.Nat.{◌-◌}
 use native.Mathlib.Omega.{arith}
 use mathlib.Core.Path.{◌≡◌, refl, sym, ◌∙◌}

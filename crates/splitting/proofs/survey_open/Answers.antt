@@ -1,4 +1,4 @@
--- `survey_open` is the survey of the node. The invariant: the survey so far is that of what is left of the first i clauses.
+-- `survey_open` is the survey of the node.
 use Prim.Native.Nat.{◌-◌}
 use native.Mathlib.Omega.{arith}
 use mathlib.Core.Path.{◌≡◌, refl, sym, ◌∙◌}
