@@ -77,6 +77,9 @@ word_end-c_end-requires c = omega (arith, c.word_start-c.ensures, start_le c.arg
 pub slice_bounds-is_run-count : goal.slice_bounds-is_run-count
 slice_bounds-is_run-count c = (within c).forward
 
+pub slice_bounds-is_run-end : goal.slice_bounds-is_run-end
+slice_bounds-is_run-end c = (within c).ends
+
 pub returns-then-not-is_run : goal.returns-then-not-is_run
 returns-then-not-is_run c =
     ap opening_held (sym (fails (at (goal.at.returns-then-not-is_run c).After-word_end-c_end) (line (goal.at.returns-then-not-is_run c).After-word_end-c_end) _ (start (goal.at.returns-then-not-is_run c).After-word_end-c_end) (end (goal.at.returns-then-not-is_run c).After-word_end-c_end) run refl by_numbers refl numbers-first (next (goal.at.returns-then-not-is_run c).After-word_end-c_end) (sym c.is_run.ensures ∙ not-true _ c.if-not-is_run.true-raw)))
@@ -89,6 +92,9 @@ word_end-d_end-requires c = omega (arith, c.word_start-d.ensures, start_le (at (
 
 pub slice_bounds-is_run-count-2 : goal.slice_bounds-is_run-count-2
 slice_bounds-is_run-count-2 c = (within2 c).forward
+
+pub slice_bounds-is_run-end-2 : goal.slice_bounds-is_run-end-2
+slice_bounds-is_run-end-2 c = (within2 c).ends
 
 pub returns-then-not-is_run-2 : goal.returns-then-not-is_run-2
 returns-then-not-is_run-2 c =

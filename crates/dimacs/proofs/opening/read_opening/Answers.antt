@@ -63,6 +63,9 @@ word_end-a_end-requires c = omega (arith, c.word_start-a.ensures, start_le c.arg
 pub slice_bounds-same-count : goal.slice_bounds-same-count
 slice_bounds-same-count c = (within c).forward
 
+pub slice_bounds-same-end : goal.slice_bounds-same-end
+slice_bounds-same-end c = (within c).ends
+
 pub returns-then-not-same : goal.returns-then-not-same
 returns-then-not-same c =
     ap opening_held
@@ -76,6 +79,9 @@ word_end-b_end-requires c = omega (arith, c.word_start-b.ensures, start_le (at (
 
 pub slice_bounds-same-count-2 : goal.slice_bounds-same-count-2
 slice_bounds-same-count-2 c = (within2 c).forward
+
+pub slice_bounds-same-end-3 : goal.slice_bounds-same-end-3
+slice_bounds-same-end-3 c = (within2 c).ends
 
 pub returns-then-not-same-2 : goal.returns-then-not-same-2
 returns-then-not-same-2 c =

@@ -23,6 +23,9 @@ line_end-end-requires c = c.first_other-first.ensures.inside
 pub slice_bounds-read_opening-count : goal.slice_bounds-read_opening-count
 slice_bounds-read_opening-count c = omega (arith, c.line_end-end.ensures)
 
+pub slice_bounds-read_opening-end : goal.slice_bounds-read_opening-end
+slice_bounds-read_opening-end c = inside c
+
 pub read_opening-requires : goal.read_opening-requires
 read_opening-requires c =
     let a = c.args in

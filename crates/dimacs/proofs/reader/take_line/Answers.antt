@@ -33,17 +33,17 @@ module _ (d : After-take_word) where
   ends = d.word_end-end.ensures
 
   inside : end ≤ length line
-  inside = omega (arith, ends, end_in_le at line from d.loop-from.inv.1)
+  inside = omega (arith, ends, end_in_le at line from d.loop-from.invariant.1)
 
   here : from < length line
   here = d.loop-from-test.true
 
   parts : words_from at line from ≡ (word ∷ []) ++ words_from at line end
-  parts = words_next at line from end here (d.loop-from.inv.2 here) ends
+  parts = words_next at line from end here (d.loop-from.invariant.2 here) ends
 
   -- the word is one of a byte or more
   forward : from < end
-  forward = omega (arith, ends, word_some at line from here (d.loop-from.inv.2 here))
+  forward = omega (arith, ends, word_some at line from here (d.loop-from.invariant.2 here))
 
 pub loop-from-init : goal.loop-from-init
 loop-from-init c =
@@ -57,6 +57,9 @@ word_end-end-requires c = c.loop-from.invariant.1
 pub slice_bounds-take_word-count : goal.slice_bounds-take_word-count
 slice_bounds-take_word-count c = omega (arith, c.word_end-end.ensures)
 
+pub slice_bounds-take_word-end : goal.slice_bounds-take_word-end
+slice_bounds-take_word-end c = omega (arith, c.word_end-end.ensures, end_in_le c.args.at c.args.line.now c.loop-from.from c.loop-from.invariant.1)
+
 pub overflow_add-at : goal.overflow_add-at
 overflow_add-at c = omega (arith, c.requires.0, c.loop-from.invariant.1)
 
@@ -64,7 +67,7 @@ pub take_word-requires : goal.take_word-requires
 take_word-requires c = let r = c.requires.1 in keeps_ready (c.loop-from.invariant.3 r.progress r.keeps).keeps
 
 pub shape_of-kept-in-Stopped : goal.shape_of-kept-in-Stopped
-shape_of-kept-in-Stopped c = c.kept-1.given ∙ c.loop-from.invariant.0
+shape_of-kept-in-Stopped c = c.take_word.auto.kept ∙ c.loop-from.invariant.0
 
 pub returns-in-Stopped : goal.returns-in-Stopped
 returns-in-Stopped c = λ s k.
@@ -81,7 +84,7 @@ loop-from-smaller c = omega (arith, c.word_start-from-in-loop-from.ensures, forw
 pub loop-from-preserved : goal.loop-from-preserved
 loop-from-preserved c =
     rw c.word_start-from-in-loop-from.ensures (
-      c.kept-1.given ∙ c.loop-from.invariant.0,
+      c.take_word.auto.kept ∙ c.loop-from.invariant.0,
       start_le (at (goal.at.loop-from-preserved c).After-take_word) (line (goal.at.loop-from-preserved c).After-take_word) (end (goal.at.loop-from-preserved c).After-take_word) (inside (goal.at.loop-from-preserved c).After-take_word),
       start_stops (at (goal.at.loop-from-preserved c).After-take_word) (line (goal.at.loop-from-preserved c).After-take_word) (end (goal.at.loop-from-preserved c).After-take_word),
       λ s k.
