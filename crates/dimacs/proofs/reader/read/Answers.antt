@@ -10,7 +10,6 @@ use Rattle.dimacs.proofs.ReadLaws.{encoded_short, encoded_refused, IsRead, is_re
 use Rattle.dimacs.proofs.reader.read.Goals.{In-Written}
 use Rattle.dimacs.proofs.reader.read.Goals as goal
 
--- `read`: a short buffer, a refusal, or the bytes that were kept.
 -- what was read
 module _ (d : In-Written) where
   long : max_bytes ≤ length d.args.buffer.now
@@ -32,16 +31,21 @@ pub slice_bounds-kept-end : goal.slice_bounds-kept-end
 slice_bounds-kept-end c = inside (goal.at.slice_bounds-kept-end c).In-Written
 
 pub slice_bounds-put_word-end : goal.slice_bounds-put_word-end
-slice_bounds-put_word-end c = sym (length-take-le c.in-Written.n (kept (goal.at.slice_bounds-put_word-end c).In-Written) (inside (goal.at.slice_bounds-put_word-end c).In-Written))
+slice_bounds-put_word-end c =
+    let d = (goal.at.slice_bounds-put_word-end c).In-Written in
+    sym (length-take-le c.in-Written.n (kept d) (inside d))
 
 pub put_word-requires : goal.put_word-requires
 put_word-requires c =
-    let h = got (goal.at.put_word-requires c).In-Written in
-    let l = length-take-le c.in-Written.n (kept (goal.at.put_word-requires c).In-Written) (inside (goal.at.put_word-requires c).In-Written) in
-    omega (arith, l, h.all, h.fits, long (goal.at.put_word-requires c).In-Written)
+    let d = (goal.at.put_word-requires c).In-Written in
+    let h = got d in
+    let l = length-take-le c.in-Written.n (kept d) (inside d) in
+    omega (arith, l, h.all, h.fits, long d)
 
 pub returns-in-Written : goal.returns-in-Written
-returns-in-Written c = encoded_written _ _ (long (goal.at.returns-in-Written c).In-Written) (kept (goal.at.returns-in-Written c).In-Written) _ _ _ (got (goal.at.returns-in-Written c).In-Written) c.put_word.ensures
+returns-in-Written c =
+    let d = (goal.at.returns-in-Written c).In-Written in
+    encoded_written _ _ (long d) (kept d) _ _ _ (got d) c.put_word.ensures
 
 pub returns-in-Refused : goal.returns-in-Refused
 returns-in-Refused c = let s = c.args in encoded_refused s.text.now s.buffer.now (omega (arith, c.if-buffer-lt-MAX_BYTES.false)) _ _ _ c.in-Refused.is c.read_text.ensures

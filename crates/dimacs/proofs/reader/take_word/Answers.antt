@@ -5,7 +5,6 @@ use Rattle.dimacs.proofs.GoesLaws.{Named, held_ends, held_bad, held_literal, nam
 use Rattle.dimacs.proofs.reader.take_word.Goals.{In-Literal}
 use Rattle.dimacs.proofs.reader.take_word.Goals as goal
 
--- `take_word`: by the token.
 -- the token of a word that names a variable
 literal : (c : In-Literal) → Named (token c.args.word.now) c.in-Literal.sign c.in-Literal.k
 literal c = held_literal _ _ _ (sym c.read_token.ensures ∙ c.in-Literal.is)
