@@ -1,7 +1,8 @@
 #!/usr/bin/env python3
 """checks.py: prove every crate from nothing, one after the other, and print the time and the memory of each check.
 
-Removes target/ of this repository. Needs `rt` on the path. The memory is the most that a process of the check held at once.
+Removes the folders out/ of this repository's crates. Needs `rt` on the path. The memory is the most that a process of the check held at
+once. A check begins with what other copies on the machine have kept, if there are any.
 """
 import os
 import pathlib
@@ -15,13 +16,13 @@ ROOT = pathlib.Path(__file__).resolve().parent.parent
 def crates():
     for line in (ROOT / 'crates.txt').read_text().splitlines():
         if line and not line.startswith('#'):
-            yield line.split(':')[0]
+            yield line.split(':')[0].split()[0]
 
 
 def measure(crate):
     """Seconds and MiB of one check; the crates below are proved already."""
     start = time.monotonic()
-    check = subprocess.Popen(['rt', 'check', crate], cwd=ROOT, stdout=subprocess.DEVNULL, stderr=subprocess.STDOUT)
+    check = subprocess.Popen(['rt', 'check'], cwd=ROOT / 'crates' / crate, stdout=subprocess.DEVNULL, stderr=subprocess.STDOUT)
     _, status, usage = os.wait4(check.pid, 0)
     if status != 0:
         raise SystemExit(f'{crate} is not proved')
@@ -29,7 +30,8 @@ def measure(crate):
 
 
 def main():
-    shutil.rmtree(ROOT / 'target', ignore_errors=True)
+    for kept in ROOT.glob('crates/*/out'):
+        shutil.rmtree(kept)
     print('| crate | seconds | MiB |')
     print('|---|---:|---:|')
     total = 0.0

@@ -23,7 +23,7 @@ def read_uses():
     for line in (ROOT / 'crates.txt').read_text(encoding='utf-8').splitlines():
         name, colon, used = line.split('#')[0].partition(':')
         if colon:
-            uses[name.strip()] = used.split()
+            uses[name.split()[0]] = used.split()  # without the word staticlib
     return {name: [used for used in names if used in uses] for name, names in uses.items()}
 
 

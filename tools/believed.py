@@ -34,7 +34,7 @@ STATEMENTS = ('Demands', 'Theorems', 'ListTheorems', 'AssumedCases', 'MarkedCase
 APART = ('exhaustive', 'vectors')  # for tests: no statement rests on them
 OURS = ('assumptions::none_assumed', 'assumptions::stated', 'enumeration::root', 'enumeration::visible_in', 'formula::decode', 'formula::empty_clause', 'formula::other_side', 'masks::lowest', 'masks::meets', 'masks::minus', 'masks::size', 'matched::assigned_by', 'splitting::choose_free', 'splitting::is_satisfied', 'splitting::no_assignment')  # ask nothing, and are for our own crates all the same
 
-USE = re.compile(r'Rattle·(\w+?)(?:·\w+)?\.(specs|proofs)\.([\w.-]+?)(?:\.\{(.*)\}|\s+as\s+(\S+?))?;?$')
+USE = re.compile(r'Rattle\.(\w+)\.(specs|proofs)\.([\w.-]+?)(?:\.\{(.*)\}|\s+as\s+(\S+?))?;?$')
 MODIFIERS = ('pub', 'abbrev', 'unfoldable')
 
 
@@ -61,7 +61,7 @@ def blocks(lines):
 
 
 def words_of(lines):
-    """The words of a text that may name a definition: no field behind a point, no label before an equals sign."""
+    """The words of a text that may name a definition: no label before an equals sign; a field behind a point is left out by `find`."""
     text = re.sub(r'[^\s(){}\[\];,|]+\s+=(?=\s)', ' ', '\n'.join(lines))
     return [word for word in re.findall(r'[^\s(){}\[\];,|]+', text) if not word.startswith('.')]
 
@@ -77,8 +77,10 @@ class Scope:
         if not found:
             return
         crate, folder, module, names, short = found.groups()
+        if not (CRATES / crate).is_dir():  # the kit's
+            return
         if module.startswith('declared.'):  # a type of the code
-            path = '::'.join([crate] + module.replace('.the-variants', '').split('.')[1:])
+            path = '::'.join([crate] + module.replace('.TheVariants', '').split('.')[1:])
         else:
             path = CRATES / crate / folder / f'{module}.antt'
         for name in (names or '').split(','):
@@ -89,8 +91,9 @@ class Scope:
 
     def find(self, word):
         """The file and the name there that a word stands for, if it stands for one."""
-        short, _, name = word.rstrip('.').partition('.')
-        return (self.files[short], name) if name and short in self.files else self.names.get(word.rstrip('.'))
+        word = word.rstrip('.')
+        short, _, name = word.partition('.')
+        return (self.files[short], name) if name and short in self.files else self.names.get(word) or self.names.get(short)
 
 
 class Definition:
@@ -222,7 +225,11 @@ def contracts(asking):
     """The contracts of the public functions, of those with a `requires` or of those without."""
     for lib in sorted(CRATES.glob('*/src/lib.rt')):
         crate = lib.parent.parent.name
-        handed_on = re.findall(r'^pub use (\w+)::(\w+);', lib.read_text(encoding='utf-8'), re.M)
+        handed_on = [
+            (module, name.strip())
+            for module, names in re.findall(r'^pub use (\w+)::\{?([\w,\s]+)\}?;', lib.read_text(encoding='utf-8'), re.M)
+            for name in names.split(',')
+        ]
         for path in [] if crate in APART else sorted({lib} | {lib.parent / f'{module}.rt' for module, _ in handed_on}):
             lines, scope = code_lines(path, '//'), Scope()
             for line in lines:

@@ -1,9 +1,9 @@
 /* batches FILE SIZE: prints the models of the formula in FILE, in batches of SIZE models: a digit for each variable, or a dash if no
  * clause names it. The file has DIMACS text if its name ends in .cnf, else the encoded formula.
  *
- * In this folder, once `rt staticlib capi` has built the library:
+ * In this folder, once `rt lib` in crates/capi has built the library:
  *
- *     cc -std=c99 -o batches batches.c ../../target/staticlib/libcapi.a
+ *     cc -std=c99 -o batches batches.c ../../crates/capi/out/libcapi.a
  *     ./batches ../velodrome.cnf 10
  */
 #include <stdint.h>

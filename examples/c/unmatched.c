@@ -1,9 +1,9 @@
 /* unmatched FILE: says which clauses of the formula in FILE, encoded, can't be matched, and how many variables they name; and how
  * far the formula as a whole is from being matched.
  *
- * In this folder, once `rt staticlib capi` has built the library:
+ * In this folder, once `rt lib` in crates/capi has built the library:
  *
- *     cc -std=c99 -o unmatched unmatched.c ../../target/staticlib/libcapi.a
+ *     cc -std=c99 -o unmatched unmatched.c ../../crates/capi/out/libcapi.a
  *     ./unmatched ../unmatched.bin
  */
 #include <stdint.h>

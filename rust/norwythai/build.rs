@@ -1,5 +1,5 @@
-//! Links the proved library libcapi.a: from the folder in NORWYTHAI_LIB_DIR, or, if that is not set, as `rt staticlib capi`
-//! proves and builds it. The tests of the C header get its path as NORWYTHAI_LIBRARY.
+//! Links the proved library libcapi.a: from the folder in NORWYTHAI_LIB_DIR, or, if that is not set, as `rt lib` in
+//! crates/capi proves and builds it. The tests of the C header get its path as NORWYTHAI_LIBRARY.
 
 use std::env;
 use std::path::{Path, PathBuf};
@@ -41,24 +41,40 @@ fn repository() -> PathBuf {
     }
 }
 
+/// The folders of the crates.
+fn crate_folders(root: &Path) -> Vec<PathBuf> {
+    match std::fs::read_dir(root.join("crates")) {
+        Ok(entries) => entries.filter_map(|entry| Some(entry.ok()?.path())).collect(),
+        Err(error) => fail(&format!("the crates could not be read: {error}")),
+    }
+}
+
 /// Proves and builds the library, and gives its folder.
 fn prove(root: &Path) -> PathBuf {
-    for source in ["crates", "crates.txt"] {
-        println!("cargo:rerun-if-changed={}", root.join(source).display());
+    let crate_folder = root.join("crates").join("capi");
+    println!("cargo:rerun-if-changed={}", root.join("crates.txt").display());
+    // src/, specs/ and proofs/ of every crate; beside them stands out/, which each check writes
+    for source in ["src", "specs", "proofs"] {
+        for folder in crate_folders(root) {
+            let folder = folder.join(source);
+            if folder.is_dir() {
+                println!("cargo:rerun-if-changed={}", folder.display());
+            }
+        }
     }
     match Command::new("rt")
-        .args(["staticlib", "capi"])
-        .current_dir(root)
+        .arg("lib")
+        .current_dir(&crate_folder)
         .output()
     {
-        Err(error) => fail(&format!("`rt staticlib capi` could not be run: {error}")),
+        Err(error) => fail(&format!("`rt lib` could not be run: {error}")),
         Ok(output) if !output.status.success() => fail(&format!(
-            "`rt staticlib capi` failed in {}:\n{}{}",
-            root.display(),
+            "`rt lib` failed in {}:\n{}{}",
+            crate_folder.display(),
             String::from_utf8_lossy(&output.stdout),
             String::from_utf8_lossy(&output.stderr),
         )),
-        Ok(_) => root.join("target").join("staticlib"),
+        Ok(_) => crate_folder.join("out"),
     }
 }
 

@@ -1,9 +1,6 @@
 -- `formula::all_hold` meets its contract. The loop's invariant: the clauses below i hold.
-use Prim.Native.Nat.{◌-◌}
 use native.Mathlib.Omega.{arith}
-use mathlib.Core.Bool.{true}
 use mathlib.Core.Path.{◌≡◌, refl, sym, ◌∙◌}
-use borrow.Author.Tests.{not-true, not-false}
 use Rattle.formula.specs.InnerCheck.{all_first}
 use Rattle.formula.proofs.CheckLaws.{all_more, all_fails}
 use borrow.Author.Rules.{rules}
@@ -14,10 +11,10 @@ unfolding all_first
 loop-i-init c = (search rules, refl)
 
 pub returns-then-not-holds : goal.returns-then-not-holds
-returns-then-not-holds c = sym (all_fails _ _ c.loop-i.i _ c.loop-i-test.true (sym c.holds.ensures ∙ not-true _ c.if-not-holds.true-raw))
+returns-then-not-holds c = sym (all_fails _ _ c.loop-i.i _ c.loop-i-test.true (sym c.holds.ensures ∙ c.if-not-holds.true))
 
 pub loop-i-preserved : goal.loop-i-preserved
-loop-i-preserved c = (search rules, all_more _ _ c.loop-i.i c.loop-i.invariant.1 (sym c.holds.ensures ∙ not-false _ c.if-not-holds.false-raw))
+loop-i-preserved c = (search rules, all_more _ _ c.loop-i.i c.loop-i.invariant.1 (sym c.holds.ensures ∙ c.if-not-holds.false))
 
 pub returns : goal.returns
 returns c = let e : c.loop-i.i ≡ c.args.f.count = omega arith in sym (rw e at c.loop-i.invariant.1)

@@ -1,5 +1,4 @@
 -- `read_literals`: the invariant is that reading has passed from r to the reader. The measure is the number of bytes that are left.
-use Prim.Native.Nat.{◌-◌}
 use mathlib.Core.Bool.{true}
 use mathlib.Core.Path.{◌≡◌, sym, ◌∙◌}
 use native.Mathlib.Omega.{arith}

@@ -1,6 +1,9 @@
 -- `formula::read_record` meets its contract: each arm by the kind that it matched.
 use borrow.Author.Tests.{le-ltb, lt-ltb}
-use mathlib.Core.Path.{◌∙◌}
+use mathlib.Core.Path.{◌≡◌, ◌∙◌}
+use native.Mathlib.Omega.{arith}
+use lib.ListN.{get_or}
+use Rattle.formula.specs.InnerDecode.{kind_of, unknown}
 use Rattle.formula.specs.InnerReader.{record_event}
 use Rattle.formula.proofs.KindLaws.{kind_of_other}
 use Rattle.formula.proofs.read_record.Goals as goal
@@ -31,8 +34,12 @@ returns-in-5 c = c.read_finish.ensures ∙ simp (lt-ltb _ _ c.if-input-at.false,
 
 pub returns-in-0 : goal.returns-in-0
 unfolding record_event
-returns-in-0 c = simp (lt-ltb _ _ c.if-input-at.false, c.in-0.keys6)
+returns-in-0 c = let a = c.args in let z : get_or a.input.now a.r.at 0 ≡ 0 = omega arith in simp (lt-ltb _ _ c.if-input-at.false, z)
 
 pub returns-in-0-2 : goal.returns-in-0-2
 unfolding record_event
-returns-in-0-2 c = let r = c.in-0.rest in simp (lt-ltb _ _ c.if-input-at.false, kind_of_other _ r.0.0.0.0.0.1 r.0.0.0.0.1 r.0.0.0.1 r.0.0.1 r.0.1)
+returns-in-0-2 c =
+    let a = c.args in
+    let k = get_or a.input.now a.r.at 0 in
+    let e : kind_of k ≡ unknown = kind_of_other k (λ e. omega arith) (λ e. omega arith) (λ e. omega arith) (λ e. omega arith) (λ e. omega arith) in
+    simp (lt-ltb _ _ c.if-input-at.false, e)

@@ -1,4 +1,5 @@
 -- `mark` marks the first clauses of the queue.
+use borrow.Author.Rules.{rules}
 use native.Mathlib.Omega.{arith}
 use Rattle.limits.specs.Limits.{max_clauses}
 use Rattle.matching.proofs.WholeLaws.{marks_next}
@@ -6,6 +7,10 @@ use Prim.Native.Nat.{◌-◌}
 use mathlib.Core.Path.{◌≡◌}
 use Rattle.matching.specs.Search.{marks}
 use Rattle.matching.proofs.mark.Goals as goal
+
+pub loop-i-init : goal.loop-i-init
+unfolding marks
+loop-i-init c = search rules
 
 pub bounds-table-clause : goal.bounds-table-clause
 bounds-table-clause c =

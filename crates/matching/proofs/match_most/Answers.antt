@@ -1,9 +1,9 @@
 -- `match_most` gives the most clauses that can be matched together. The invariant: of the first i clauses k are kept, in the arrays.
 use Prim.Native.Nat.{◌-◌}
-use mathlib.Core.Logic.{⊎_elim}
 use mathlib.Core.Path.{◌≡◌}
 use native.Mathlib.Omega.{arith}
 use Rattle.matching.proofs.MostLoopLaws.{holding_begin, more_words, more_tables, holding_leave, holding_more, holding_done}
+use Rattle.matching.proofs.match_most.Goals.{then-front-ne64, else-front-ne64}
 use Rattle.matching.proofs.match_most.Goals as goal
 
 pub loop-i-init : goal.loop-i-init
@@ -45,14 +45,14 @@ pub loop-i-preserved : goal.loop-i-preserved
 loop-i-preserved c =
     let h = c.loop-i-test.true in (
       omega (arith, h),
-      ⊎_elim
-          (λ w. rw w.1
-          (holding_more c.args.sets.now c.args.count c.requires c.loop-i.i c.loop-i.k c.loop-i.kept c.loop-i.table c.loop-i.owners c.loop-i.queue c.loop-i.invariant.1 h
-          c.augment-front.result c.augment-front.new.queue c.augment-front.new.table c.augment-front.new.owners c.augment-front.ensures w.0.taken))
-          (λ w. rw w.1
-          (holding_leave c.args.sets.now c.args.count c.requires c.loop-i.i c.loop-i.k c.loop-i.kept c.loop-i.table c.loop-i.owners c.loop-i.queue c.loop-i.invariant.1 h
-          c.augment-front.result c.augment-front.new.queue c.augment-front.new.table c.augment-front.new.owners c.augment-front.ensures w.0.left))
-          c.if-front-ne64.branch,
+      elim c.if-front-ne64.branch [
+        | then-front-ne64 w ↦ rw w.k-is
+            (holding_more c.args.sets.now c.args.count c.requires c.loop-i.i c.loop-i.k c.loop-i.kept c.loop-i.table c.loop-i.owners c.loop-i.queue c.loop-i.invariant.1 h
+            c.augment-front.result c.augment-front.new.queue c.augment-front.new.table c.augment-front.new.owners c.augment-front.ensures w.if-front-ne64.true)
+        | else-front-ne64 w ↦ rw w.k-is
+            (holding_leave c.args.sets.now c.args.count c.requires c.loop-i.i c.loop-i.k c.loop-i.kept c.loop-i.table c.loop-i.owners c.loop-i.queue c.loop-i.invariant.1 h
+            c.augment-front.result c.augment-front.new.queue c.augment-front.new.table c.augment-front.new.owners c.augment-front.ensures w.if-front-ne64.false)
+      ],
     )
 
 pub returns : goal.returns
