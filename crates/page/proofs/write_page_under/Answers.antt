@@ -45,15 +45,15 @@ abbrev begun : (c : In-Accepted) (us : List Assumption) → under (goal.at.In-Ac
 begun c us g = (entered (goal.at.In-Accepted c).After-enter-e us g).begun c.in-Accepted.is
 
 pub returns-then-page-lt-PAGE_SIZE : goal.returns-then-page-lt-PAGE_SIZE
-returns-then-page-lt-PAGE_SIZE c =
+returns-then-page-lt-PAGE_SIZE c us g =
     short_refused _ us (checkpoint_values c.args.checkpoint) c.args.serial c.args.page.now c.if-page-lt-PAGE_SIZE.true ∙ sym (c.refuse.ensures _)
 
 pub returns-then-serial-eq0 : goal.returns-then-serial-eq0
-returns-then-serial-eq0 c =
+returns-then-serial-eq0 c us g =
     bad_refused _ us (checkpoint_values c.args.checkpoint) c.args.serial c.args.page.now (omega (arith, c.if-page-lt-PAGE_SIZE.false)) (inl c.if-serial-eq0.true) ∙ sym (c.refuse-then-serial-eq0.ensures _)
 
 pub returns-then-serial-gt-MAX_SERIAL : goal.returns-then-serial-gt-MAX_SERIAL
-returns-then-serial-gt-MAX_SERIAL c =
+returns-then-serial-gt-MAX_SERIAL c us g =
     bad_refused _ us (checkpoint_values c.args.checkpoint) c.args.serial c.args.page.now (omega (arith, c.if-page-lt-PAGE_SIZE.false)) (inr c.if-serial-gt-MAX_SERIAL.true) ∙ sym (c.refuse-then-serial-gt-MAX_SERIAL.ensures _)
 
 pub accept-row-requires : goal.accept-row-requires
@@ -72,14 +72,14 @@ fill_page-requires c =
     record { fits = b.fits; valid = record { tree = b.tree; follows = b.follows; holds = b.holds }; serials = (fit (goal.at.fill_page-requires c).After-decode-d).2; room = (fit (goal.at.fill_page-requires c).After-decode-d).0 }
 
 pub returns-in-Refused : goal.returns-in-Refused
-returns-in-Refused c =
+returns-in-Refused c us g =
     let x = c.in-Refused.refusal in
     entered_refused _ us (checkpoint_values c.args.checkpoint) c.args.serial c.args.page.now x (fit (goal.at.returns-in-Refused c).After-decode-d).0 (fit (goal.at.returns-in-Refused c).After-decode-d).1 (fit (goal.at.returns-in-Refused c).After-decode-d).2
     ((entered (goal.at.returns-in-Refused c).After-enter-e us g).refused x c.in-Refused.is ample_budget)
     ∙ sym (c.refuse-in-Refused.ensures _)
 
 pub returns-in-Accepted : goal.returns-in-Accepted
-returns-in-Accepted c =
+returns-in-Accepted c us g =
     let x = begun (goal.at.returns-in-Accepted c).In-Accepted us g in
     page_entered _ us _ _ (checkpoint_values c.args.checkpoint) _ x c.args.serial c.args.page.now (fit (goal.at.returns-in-Accepted c).After-decode-d).0 (fit (goal.at.returns-in-Accepted c).After-decode-d).1 (fit (goal.at.returns-in-Accepted c).After-decode-d).2 c.fill_page.result _
     (c.fill_page.ensures x.tree x.follows x.holds)

@@ -28,22 +28,22 @@ node_small : (o : After-open_node-count) → Small (formula_at (whole o) o.args.
 node_small o = small_at (whole o) (small o) o.args.a
 
 held_small : (o : After-open_node-count) → Small (held o)
-held_small o = rw o.open_node-count.ensures.result_after (node_small o)
+held_small o = rw o.open_node-count.ensures.kept (node_small o)
 
 surveyed : (c : After-survey_clauses-names) → c.survey_clauses-names.result ≡ survey_of (node (whole (goal.at.After-survey_clauses-names c).After-open_node-count) c.args.a)
-surveyed c = c.survey_clauses-names.ensures ∙ ap (λ (g : Formula). survey_of g.clauses) c.open_node-count.ensures.result_after
+surveyed c = c.survey_clauses-names.ensures ∙ ap (λ (g : Formula). survey_of g.clauses) c.open_node-count.ensures.kept
 
 reduced : (c : After-reduce-r)
     → c.reduce-r.result ≡ reduce_from (whole (goal.at.After-reduce-r c).After-open_node-count).variables (formula_at (whole (goal.at.After-reduce-r c).After-open_node-count) c.args.a) unassigned 0 0
 reduced c =
-    c.reduce-r.ensures ∙ ap (λ (g : Formula). reduce_from (whole (goal.at.After-reduce-r c).After-open_node-count).variables g unassigned 0 0) c.open_node-count.ensures.result_after
+    c.reduce-r.ensures ∙ ap (λ (g : Formula). reduce_from (whole (goal.at.After-reduce-r c).After-open_node-count).variables g unassigned 0 0) c.open_node-count.ensures.kept
 
 left : (c : After-compact-stripped)
     → formula_in c.compact-stripped.new.positives c.compact-stripped.new.negatives c.compact-stripped.result
     ≡ formula_at (formula_at (whole (goal.at.After-compact-stripped c).After-open_node-count) c.args.a) c.reduce-r.result.assignment
 left c =
-    c.compact-stripped.ensures.result_after
-    ∙ ap (λ (g : Formula). formula_at g c.reduce-r.result.assignment) c.open_node-count.ensures.result_after
+    c.compact-stripped.ensures.kept
+    ∙ ap (λ (g : Formula). formula_at g c.reduce-r.result.assignment) c.open_node-count.ensures.kept
 
 left_small : (c : After-compact-stripped) → Small (formula_in c.compact-stripped.new.positives c.compact-stripped.new.negatives c.compact-stripped.result)
 left_small c =
@@ -53,7 +53,7 @@ tried_first : (c : After-count_names-counts)
     → by_count (count_at c.count_names-counts.result) 64 max_count
     ≡ busiest_first (node (formula_at (whole (goal.at.After-count_names-counts c).After-open_node-count) c.args.a) c.reduce-r.result.assignment)
 tried_first c =
-    counted-first c.count_names-counts.result c.compact-stripped.last.0 c.compact-stripped.last.1.0 c.compact-stripped.result (left_small (goal.at.After-count_names-counts c).After-compact-stripped).few c.count_names-counts.ensures
+    counted-first c.count_names-counts.result c.compact-stripped.new.positives c.compact-stripped.new.negatives c.compact-stripped.result (left_small (goal.at.After-count_names-counts c).After-compact-stripped).few c.count_names-counts.ensures
     ∙ ap (λ (g : Formula). busiest_first g.clauses) (left (goal.at.After-count_names-counts c).After-compact-stripped)
 
 last_below : (c : After-reduce-r) → c.reduce-r.result.last < 64
@@ -69,11 +69,11 @@ survey_clauses-names-requires c = (held_small (goal.at.survey_clauses-names-requ
 
 pub reduce-r-requires : goal.reduce-r-requires
 reduce-r-requires c =
-    (held_small (goal.at.reduce-r-requires c).After-open_node-count, c.open_node-count.ensures.positives_len.0, c.open_node-count.ensures.positives_len.1)
+    (held_small (goal.at.reduce-r-requires c).After-open_node-count, c.open_node-count.ensures.lengths.0, c.open_node-count.ensures.lengths.1)
 
 pub compact-stripped-requires : goal.compact-stripped-requires
 compact-stripped-requires c =
-    ((held_small (goal.at.compact-stripped-requires c).After-open_node-count).few, c.open_node-count.ensures.positives_len.0, c.open_node-count.ensures.positives_len.1)
+    ((held_small (goal.at.compact-stripped-requires c).After-open_node-count).few, c.open_node-count.ensures.lengths.0, c.open_node-count.ensures.lengths.1)
 
 pub count_names-counts-requires : goal.count_names-counts-requires
 count_names-counts-requires c = (left_small (goal.at.count_names-counts-requires c).After-compact-stripped).few
@@ -82,7 +82,7 @@ pub first_passing-requires : goal.first_passing-requires
 first_passing-requires c = left_small (goal.at.first_passing-requires c).After-compact-stripped
 
 pub returns-then-s : goal.returns-then-s
-returns-then-s c =
+returns-then-s c scope =
     c.first_passing.ensures
     ∙ ap₂ (λ (g : Formula) (vs : List ℕ). passing g unassigned vs 0) (left (goal.at.returns-then-s c).After-compact-stripped) (tried_first (goal.at.returns-then-s c).After-count_names-counts)
     ∙ choice_passing (whole (goal.at.returns-then-s c).After-open_node-count) (small (goal.at.returns-then-s c).After-open_node-count) scope c.args.a c.survey_clauses-names.result (surveyed (goal.at.returns-then-s c).After-survey_clauses-names)
@@ -93,9 +93,9 @@ last_listed-requires c =
     ((held_small (goal.at.last_listed-requires c).After-open_node-count).few, last_below (goal.at.last_listed-requires c).After-reduce-r)
 
 pub returns-then-others-eq0 : goal.returns-then-others-eq0
-returns-then-others-eq0 c =
+returns-then-others-eq0 c scope =
     c.last_listed.ensures
-    ∙ ap (λ (g : Formula). listed_last g unassigned c.reduce-r.result.last) c.open_node-count.ensures.result_after
+    ∙ ap (λ (g : Formula). listed_last g unassigned c.reduce-r.result.last) c.open_node-count.ensures.kept
     ∙ choice_noted (whole (goal.at.returns-then-others-eq0 c).After-open_node-count) (small (goal.at.returns-then-others-eq0 c).After-open_node-count) scope c.args.a c.survey_clauses-names.result (surveyed (goal.at.returns-then-others-eq0 c).After-survey_clauses-names)
     (rw (surveyed (goal.at.returns-then-others-eq0 c).After-survey_clauses-names) c.requires.1) c.reduce-r.result (reduced (goal.at.returns-then-others-eq0 c).After-reduce-r) c.if-s.false c.minus-others.result c.minus-others.ensures c.if-others-eq0.true
 
@@ -104,8 +104,8 @@ last_listed-requires-2 c =
     ((held_small (goal.at.last_listed-requires-2 c).After-open_node-count).few, rw c.highest.ensures (greatest_below c.minus-others.result))
 
 pub returns : goal.returns
-returns c =
-    rw (c.last_listed-2.ensures, c.highest.ensures, c.open_node-count.ensures.result_after)
+returns c scope =
+    rw (c.last_listed-2.ensures, c.highest.ensures, c.open_node-count.ensures.kept)
     (choice_other (whole (goal.at.returns c).After-open_node-count) (small (goal.at.returns c).After-open_node-count) scope c.args.a c.survey_clauses-names.result (surveyed (goal.at.returns c).After-survey_clauses-names)
     (rw (surveyed (goal.at.returns c).After-survey_clauses-names) c.requires.1) c.reduce-r.result (reduced (goal.at.returns c).After-reduce-r) c.if-s.false c.minus-others.result c.minus-others.ensures
-    (omega (arith, c.minus-others.type-inv)) c.if-others-eq0.false)
+    (omega (arith, c.minus-others.type_inv)) c.if-others-eq0.false)

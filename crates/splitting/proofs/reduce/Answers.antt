@@ -20,8 +20,8 @@ use Rattle.splitting.proofs.reduce.Goals as goal
 abbrev held : At-loop-k → Formula
 held l = formula_in l.args.positives.now l.args.negatives.now l.args.count
 
-few : (l : At-loop-k) → l.loop-k.left-count ≤ max_clauses
-few l = few_in (held l) l.requires.0 l.loop-k.assignment l.loop-k.left-positives l.loop-k.left-negatives l.loop-k.left-count l.loop-k.invariant.3
+few : (l : At-loop-k) → l.loop-k.left_count ≤ max_clauses
+few l = few_in (held l) l.requires.0 l.loop-k.assignment l.loop-k.left_positives l.loop-k.left_negatives l.loop-k.left_count l.loop-k.invariant.3
 
 -- the survey of a turn, and its pure variables
 surveyed : (c : After-survey_clauses-s)
@@ -63,29 +63,29 @@ assign-assignment-requires c = low (goal.at.assign-assignment-requires c).After-
 
 pub drop_named-left_count-requires : goal.drop_named-left_count-requires
 drop_named-left_count-requires c =
-    (few (goal.at.drop_named-left_count-requires c).At-loop-k, low (goal.at.drop_named-left_count-requires c).After-lowest-v, c.loop-k.inv.1, c.loop-k.inv.2)
+    (few (goal.at.drop_named-left_count-requires c).At-loop-k, low (goal.at.drop_named-left_count-requires c).After-lowest-v, c.loop-k.invariant.1, c.loop-k.invariant.2)
 
 pub with-noted-requires : goal.with-noted-requires
 with-noted-requires c = low (goal.at.with-noted-requires c).After-lowest-v
 
 pub overflow_add-k : goal.overflow_add-k
 overflow_add-k c =
-    omega (arith, c.loop-k-test.true, c.fits.variables)
+    omega (arith, c.loop-k-test.true, c.ranges.variables.fits)
 
 pub loop-k-preserved : goal.loop-k-preserved
 loop-k-preserved c =
     let v = c.lowest-v.result in
     let way = c.member.result in (
       omega (arith, c.loop-k-test.true),
-      c.drop_named-left_count.ensures.positives_len.0,
-      c.drop_named-left_count.ensures.positives_len.1,
-      c.drop_named-left_count.ensures.result_after
-          ∙ strip_more (held (goal.at.loop-k-preserved c).At-loop-k) c.requires.0 c.loop-k.assignment c.loop-k.left-positives c.loop-k.left-negatives c.loop-k.left-count c.loop-k.inv.3
+      c.drop_named-left_count.ensures.lengths.0,
+      c.drop_named-left_count.ensures.lengths.1,
+      c.drop_named-left_count.ensures.kept
+          ∙ strip_more (held (goal.at.loop-k-preserved c).At-loop-k) c.requires.0 c.loop-k.assignment c.loop-k.left_positives c.loop-k.left_negatives c.loop-k.left_count c.loop-k.invariant.3
           (λ e. c.if-pure-eq0.false (pure (goal.at.loop-k-preserved c).After-survey_clauses-s ∙ e)) v (c.lowest-v.ensures ∙ ap lowest (pure (goal.at.loop-k-preserved c).After-survey_clauses-s)) way (c.member.ensures ∙ ap (λ (t : Survey). bit t.positive v) (surveyed (goal.at.loop-k-preserved c).After-survey_clauses-s))
           ∙ ap (node (held (goal.at.loop-k-preserved c).At-loop-k)) (sym c.assign-assignment.ensures),
       sym (reduce_more (held (goal.at.loop-k-preserved c).At-loop-k) c.loop-k.assignment c.loop-k.noted c.loop-k.last c.args.variables c.loop-k.k c.survey_clauses-s.result v way c.assign-assignment.result
           c.with-noted.result c.loop-k-test.true (surveyed (goal.at.loop-k-preserved c).After-survey_clauses-s) c.if-pure-eq0.false c.lowest-v.ensures c.member.ensures c.assign-assignment.ensures c.with-noted.ensures)
-          ∙ c.loop-k.inv.4,
+          ∙ c.loop-k.invariant.4,
     )
 
 pub survey_clauses-requires : goal.survey_clauses-requires

@@ -1,6 +1,5 @@
 -- `fill_lines` writes the lines of the next models. The invariant: i lines are written, and the others go on from s.
 use Prim.Native.Nat.{ℕ, ◌-◌, ◌<◌}
-use mathlib.Core.Logic.{⊎_elim}
 use mathlib.Core.Path.{◌≡◌, refl, ◌∙◌}
 use native.Mathlib.Omega.{arith}
 use Rattle.walk.specs.Gaps.{ample_budget}
@@ -25,7 +24,7 @@ few g =
     run_steps _ _ _ (ran g v.tree v.follows v.holds)
 
 brings_none : (c : In_default) (m : ℕ) → c.go_on-r.result.ending ≡ Model m → ⊥
-brings_none c m e = ⊎_elim (λ x. omega arith) (λ x. omega arith) (rw e at c.in_default.keys2)
+brings_none c m e = c.in_default.not-Model m e
 
 pub loop-i-init : goal.loop-i-init
 loop-i-init c =
@@ -46,19 +45,19 @@ returns-in_default c =
     c.go_on-r.result (ran (goal.at.returns-in_default c).After-go_on-r K F h) (omega arith) (brings_none c)
 
 pub overflow_add-serial : goal.overflow_add-serial
-overflow_add-serial c = omega (arith, c.requires.serials, c.loop-i.inv.0)
+overflow_add-serial c = omega (arith, c.requires.serials, c.loop-i.invariant.0)
 
 pub put_line_at-requires : goal.put_line_at-requires
 put_line_at-requires c =
     let p = c.requires in
-    (omega arith, omega (arith, p.room, c.loop-i.inv.1), omega (arith, p.serials), p.fits.most, omega (arith, few (goal.at.put_line_at-requires c).After-go_on-r))
+    (omega arith, omega (arith, p.room, c.loop-i.invariant.1), omega (arith, p.serials), p.fits.most, omega (arith, few (goal.at.put_line_at-requires c).After-go_on-r))
 
 pub loop-i-preserved : goal.loop-i-preserved
 loop-i-preserved c = (
   omega arith,
-  c.put_line_at.auto.1.1.1.1.1.0 ∙ c.loop-i.inv.1,
+  c.put_line_at.auto.page ∙ c.loop-i.invariant.1,
   λ K F h.
-      going_more K c.args.f.variables c.args.mask c.args.serial (position_in c.args.start) c.args.page.now c.loop-i.page c.loop-i.s c.loop-i.i (c.loop-i.inv.2 K F h)
+      going_more K c.args.f.variables c.args.mask c.args.serial (position_in c.args.start) c.args.page.now c.loop-i.page c.loop-i.s c.loop-i.i (c.loop-i.invariant.2 K F h)
       c.go_on-r.result (ran (goal.at.loop-i-preserved c).After-go_on-r K F h) (omega arith) _ c.in-Model.is _ c.requires.fits.most c.requires.serials c.put_line_at.ensures,
 )
 

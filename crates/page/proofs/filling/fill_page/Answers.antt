@@ -23,7 +23,7 @@ filled_some l = let v = l.requires.valid in filled l v.tree v.follows v.holds
 
 pub blank_rest-requires : goal.blank_rest-requires
 blank_rest-requires c =
-    (filled_most _ _ _ _ _ _ _ _ (filled_some (goal.at.blank_rest-requires c).After-fill_lines-lines), omega (arith, c.requires.room, c.fill_lines-lines.auto.1.1.1.1.1.0))
+    (filled_most _ _ _ _ _ _ _ _ (filled_some (goal.at.blank_rest-requires c).After-fill_lines-lines), omega (arith, c.requires.room, c.fill_lines-lines.auto.page))
 
 pub checkpoint_of-requires : goal.checkpoint_of-requires
 checkpoint_of-requires c =
