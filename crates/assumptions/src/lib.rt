@@ -1,6 +1,6 @@
 // Lists of assumptions, each read into two masks or refused at its first bad one (S17.1).
 //
-// A list is lent as structs (`read_assumptions`, proved by hand) or as bytes, two for each (`read_pairs`); both are read by `take`.
+// A list is lent as structs (`read_assumptions`) or as bytes, two for each (`read_pairs`); both are read by `take`.
 #![tactic(auto)]
 
 ghost use Rattle.std.specs.Prelude.{◌≡◌, ◌+◌, ◌*◌, ◌<◌, ◌≤◌, length};
@@ -118,7 +118,7 @@ fn take(r: Assumptions, n: usize, i: usize, u: Assumption) -> Assumptions
     assume(r, s - 1, u.value)
 }
 
-// The whole list. A slice of structs: proved by hand, with as few calls as can be.
+// The whole list.
 pub fn read_assumptions(list: &[Assumption], n: usize) -> Assumptions
     requires { n ≤ max_variables }
     ensures { result ≡ masks_of (assumed n list.now) }

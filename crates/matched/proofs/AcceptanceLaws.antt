@@ -119,10 +119,14 @@ module _ (s : List ℕ) (us : List Assumption) where
           let c : r ≡ row = cc in
           rw (← a, ← b, ← c, ← d) (record { reads = reads; assumes = assumes; sized = accepted_fits s k ds reads; over = literals_over k us u assumes; vs = ws; pairs = w })
 
+      of : (k : ℕ) (u : List Literal) (ds : List (List Literal)) → decode s ≡ readable k ds → assumed k us ≡ literals u → {a : Acceptance} → FormulaComes k u ds a
+          → a ≡ accepted n t cs row → AcceptedInput s us n t cs row
+      of k u ds reads assumes (paired vs w) q = let x = pairs_left k u ds vs w in is k u ds _ x.0 reads assumes x.1 q
+      of k u ds reads assumes (strips vs none w) q = is k u ds _ vs reads assumes w q
+      of k u ds reads assumes (unpaired ms v none) q = let z : ◌≡◌ {A = ℕ} 0 1 = cc in absurd (omega arith)
+
       by : {a : Acceptance} → Comes s us a → a ≡ accepted n t cs row → AcceptedInput s us n t cs row
-      by (of_formula k u ds reads assumes (paired vs w)) q = let x = pairs_left k u ds vs w in is k u ds _ x.0 reads assumes x.1 q
-      by (of_formula k u ds reads assumes (strips vs none w)) q = is k u ds _ vs reads assumes w q
-      by (of_formula k u ds reads assumes (unpaired ms v none)) q = let z : ◌≡◌ {A = ℕ} 0 1 = cc in absurd (omega arith)
+      by (of_formula k u ds reads assumes f) q = of k u ds reads assumes f q
       by (bad_assumed k ds i reads assumes) q = let z : ◌≡◌ {A = ℕ} 0 1 = cc in absurd (omega arith)
       by (unreadable r e) q = let z : ◌≡◌ {A = ℕ} 0 1 = cc in absurd (omega arith)
 
@@ -215,10 +219,14 @@ module _ (s : List ℕ) (us : List Assumption) where
   pub declined_number : (r : Refusal) (row : List ℕ) → acceptance s us ≡ declined r row → (2 ≤ (table_row r).number) × ((table_row r).number ≤ 16)
   declined_number r row = by comes
     where
+      of : (n : ℕ) (t : List Literal) (cs : List (List Literal)) {a : Acceptance} → FormulaComes n t cs a → a ≡ declined r row
+          → (2 ≤ (table_row r).number) × ((table_row r).number ≤ 16)
+      of n t cs (paired vs w) q = let z : ◌≡◌ {A = ℕ} 0 1 = cc in absurd (omega arith)
+      of n t cs (strips vs none w) q = let z : ◌≡◌ {A = ℕ} 0 1 = cc in absurd (omega arith)
+      of n t cs (unpaired ms v none) q = let e : Unmatched (length (marked ms cs)) ≡ r = cc in rw (← e) (omega arith)
+
       by : {a : Acceptance} → Comes s us a → a ≡ declined r row → (2 ≤ (table_row r).number) × ((table_row r).number ≤ 16)
-      by (of_formula n t cs reads assumes (paired vs w)) q = let z : ◌≡◌ {A = ℕ} 0 1 = cc in absurd (omega arith)
-      by (of_formula n t cs reads assumes (strips vs none w)) q = let z : ◌≡◌ {A = ℕ} 0 1 = cc in absurd (omega arith)
-      by (of_formula n t cs reads assumes (unpaired ms v none)) q = let e : Unmatched (length (marked ms cs)) ≡ r = cc in rw (← e) (omega arith)
+      by (of_formula n t cs reads assumes f) q = of n t cs f q
       by (bad_assumed n cs i reads assumes) q = let e : BadAssumption i ≡ r = cc in rw (← e) (omega arith)
       by (unreadable t reads) q = let e : t ≡ r = cc in rw (← e) (omega (arith, numbers s t reads))
 
@@ -227,12 +235,17 @@ module _ (s : List ℕ) (us : List Assumption) where
       → (n : ℕ) × (cs : List (List Literal)) × Encodes s n cs × NoneBad n us × ((vs : List ℕ) → Pairs (left_of n (map literal_of us) cs) vs → ⊥)
   declined_unmatched r row e q = by comes e
     where
+      of : (n : ℕ) (t : List Literal) (cs : List (List Literal)) → decode s ≡ readable n cs → assumed n us ≡ literals t → {a : Acceptance} → FormulaComes n t cs a
+          → a ≡ declined r row
+          → (n : ℕ) × (cs : List (List Literal)) × Encodes s n cs × NoneBad n us × ((vs : List ℕ) → Pairs (left_of n (map literal_of us) cs) vs → ⊥)
+      of n t cs reads assumes (paired vs w) e = let z : ◌≡◌ {A = ℕ} 0 1 = cc in absurd (omega arith)
+      of n t cs reads assumes (strips vs none w) e = let z : ◌≡◌ {A = ℕ} 0 1 = cc in absurd (omega arith)
+      of n t cs reads assumes (unpaired ms v none) e =
+          (n, cs, accepted_only s n cs reads, (literals_exactly n us).0 (t, assumes), rw (literals_are n us t assumes) at none)
+
       by : {a : Acceptance} → Comes s us a → a ≡ declined r row
           → (n : ℕ) × (cs : List (List Literal)) × Encodes s n cs × NoneBad n us × ((vs : List ℕ) → Pairs (left_of n (map literal_of us) cs) vs → ⊥)
-      by (of_formula n t cs reads assumes (paired vs w)) e = let z : ◌≡◌ {A = ℕ} 0 1 = cc in absurd (omega arith)
-      by (of_formula n t cs reads assumes (strips vs none w)) e = let z : ◌≡◌ {A = ℕ} 0 1 = cc in absurd (omega arith)
-      by (of_formula n t cs reads assumes (unpaired ms v none)) e =
-          (n, cs, accepted_only s n cs reads, (literals_exactly n us).0 (t, assumes), rw (literals_are n us t assumes) at none)
+      by (of_formula n t cs reads assumes f) e = of n t cs reads assumes f e
       by (bad_assumed n cs i reads assumes) e = let z : BadAssumption i ≡ r = cc in absurd (omega (arith, rw (← z) at q))
       by (unreadable k reads) e = let z : k ≡ r = cc in absurd (omega (arith, (numbers s k reads).1, rw (← z) at q))
 
@@ -241,11 +254,15 @@ module _ (s : List ℕ) (us : List Assumption) where
       → (n : ℕ) × (cs : List (List Literal)) × Encodes s n cs × FirstBad n us i
   declined_bad r row i e q p = by comes e
     where
-      by : {a : Acceptance} → Comes s us a → a ≡ declined r row → (n : ℕ) × (cs : List (List Literal)) × Encodes s n cs × FirstBad n us i
-      by (of_formula n t cs reads assumes (paired vs w)) e = let z : ◌≡◌ {A = ℕ} 0 1 = cc in absurd (omega arith)
-      by (of_formula n t cs reads assumes (strips vs none w)) e = let z : ◌≡◌ {A = ℕ} 0 1 = cc in absurd (omega arith)
-      by (of_formula n t cs reads assumes (unpaired ms v none)) e =
+      of : (n : ℕ) (t : List Literal) (cs : List (List Literal)) {a : Acceptance} → FormulaComes n t cs a → a ≡ declined r row
+          → (n : ℕ) × (cs : List (List Literal)) × Encodes s n cs × FirstBad n us i
+      of n t cs (paired vs w) e = let z : ◌≡◌ {A = ℕ} 0 1 = cc in absurd (omega arith)
+      of n t cs (strips vs none w) e = let z : ◌≡◌ {A = ℕ} 0 1 = cc in absurd (omega arith)
+      of n t cs (unpaired ms v none) e =
           let z : Unmatched (length (marked ms cs)) ≡ r = cc in absurd (omega (arith, rw (← z) at q))
+
+      by : {a : Acceptance} → Comes s us a → a ≡ declined r row → (n : ℕ) × (cs : List (List Literal)) × Encodes s n cs × FirstBad n us i
+      by (of_formula n t cs reads assumes f) e = of n t cs f e
       by (bad_assumed n cs j reads assumes) e =
           let z : BadAssumption j ≡ r = cc in (n, cs, accepted_only s n cs reads, (bad_exactly n us i).0 (assumes ∙ ap bad (rw (← z) at p)))
       by (unreadable k reads) e = let z : k ≡ r = cc in absurd (omega (arith, (numbers s k reads).1, rw (← z) at q))
@@ -254,11 +271,14 @@ module _ (s : List ℕ) (us : List Assumption) where
   pub row_few : length (row_of (acceptance s us)) ≤ max_clauses
   row_few = by comes
     where
-      by : {a : Acceptance} → Comes s us a → length (row_of a) ≤ max_clauses
-      by (of_formula n t cs reads assumes (paired vs w)) = omega (arith, spread_length (whole_byte t) cs (map suc vs), (accepted_fits s n cs reads).few)
-      by (of_formula n t cs reads assumes (strips vs none w)) =
+      of : (n : ℕ) (t : List Literal) (cs : List (List Literal)) → decode s ≡ readable n cs → {a : Acceptance} → FormulaComes n t cs a → length (row_of a) ≤ max_clauses
+      of n t cs reads (paired vs w) = omega (arith, spread_length (whole_byte t) cs (map suc vs), (accepted_fits s n cs reads).few)
+      of n t cs reads (strips vs none w) =
           omega (arith, spread_length (stripped_byte t (noted_of n t cs)) cs (map suc vs), (accepted_fits s n cs reads).few)
-      by (of_formula n t cs reads assumes (unpaired ms v none)) =
+      of n t cs reads (unpaired ms v none) =
           omega (arith, v.one_each, (accepted_fits s n cs reads).few)
+
+      by : {a : Acceptance} → Comes s us a → length (row_of a) ≤ max_clauses
+      by (of_formula n t cs reads assumes f) = of n t cs reads f
       by (bad_assumed n cs i reads assumes) = omega arith
       by (unreadable r e) = omega arith

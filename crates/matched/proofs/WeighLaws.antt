@@ -41,7 +41,7 @@ use Rattle.matched.specs.Judge.{Judged, judge}
 use Rattle.matched.specs.Pairing.{marked, named_but, Violator}
 use Rattle.matched.specs.Weigh.{counted_values, unweighed_values, weighed_under, weighed_read, weighed}
 use Rattle.matched.proofs.AcceptLaws.{given_literals, given_bad}
-use Rattle.matched.proofs.AcceptanceLaws.{paired, strips, unpaired, Comes, of_formula, bad_assumed, unreadable, comes}
+use Rattle.matched.proofs.AcceptanceLaws.{FormulaComes, paired, strips, unpaired, Comes, of_formula, bad_assumed, unreadable, comes}
 use Rattle.matched.proofs.JudgeLaws.{judge_short, judge_accepted, judge_declined}
 use Rattle.matched.proofs.PairingLaws.{array_masks}
 
@@ -165,10 +165,14 @@ module _ (s : List ℕ) (us : List Assumption) (b : List ℕ) where
     alike_accepted : (n : ℕ) (t : List Literal) (cs : List (List Literal)) (row : List ℕ) → acceptance s us ≡ accepted n t cs row → weighed s us b ≡ weighed_under t cs b → Alike
     alike_accepted n t cs row e w = rw (judge_accepted s us b l n t cs row e, w) (refl, refl)
 
+    alike_formula : (n : ℕ) (t : List Literal) (cs : List (List Literal)) → decode s ≡ readable n cs → assumed n us ≡ literals t → {a : Acceptance} → FormulaComes n t cs a
+        → acceptance s us ≡ a → ((judge s us b).answer.number ≡ 10 → ⊥) → Alike
+    alike_formula n t cs reads assumes (paired vs w) e ne = alike_accepted n t cs _ e (weigh_under s us b l n cs reads t assumes)
+    alike_formula n t cs reads assumes (strips vs none w) e ne = alike_accepted n t cs _ e (weigh_under s us b l n cs reads t assumes)
+    alike_formula n t cs reads assumes (unpaired ms v none) e ne = absurd (ne (ap (λ (j : Judged). j.answer.number) (judge_declined s us b l _ ms e)))
+
     alike_long : {a : Acceptance} → Comes s us a → acceptance s us ≡ a → ((judge s us b).answer.number ≡ 10 → ⊥) → Alike
-    alike_long (of_formula n t cs reads assumes (paired vs w)) e ne = alike_accepted n t cs _ e (weigh_under s us b l n cs reads t assumes)
-    alike_long (of_formula n t cs reads assumes (strips vs none w)) e ne = alike_accepted n t cs _ e (weigh_under s us b l n cs reads t assumes)
-    alike_long (of_formula n t cs reads assumes (unpaired ms v none)) e ne = absurd (ne (ap (λ (j : Judged). j.answer.number) (judge_declined s us b l _ ms e)))
+    alike_long (of_formula n t cs reads assumes f) e ne = alike_formula n t cs reads assumes f e ne
     alike_long (bad_assumed n cs i reads assumes) e ne = alike_declined (BadAssumption i) [] e (weigh_bad s us b l n cs reads i assumes)
     alike_long (unreadable r reads) e ne = alike_declined r [] e (weigh_refused s us b l r reads)
 

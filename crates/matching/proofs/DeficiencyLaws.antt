@@ -64,7 +64,7 @@ element_included l s m x t = let p = element_place l s 0 m in union_in l x p.0 p
 
 -- ── Any clauses, and any that can be matched ──────────────────────────────────────────────────────────────────────────
 
--- what two sub_lists have in common, by place
+-- what two sub-lists have in common, by place
 record Common (xs ys sets : List ℕ) : Type 0 where
   list : List ℕ
   left : Sublistᴰ list xs

@@ -148,7 +148,7 @@ module _ (sets kept m : List ℕ) (W : Words sets) (K : Keeping sets kept m) whe
   excess_most : {xs : List ℕ} → Sublistᴰ xs sets → length xs ≤ length K.aside + size (union xs)
   excess_most s = omega (arith, any_with_matched W s (parts_kept K.parts) kept_matched, parts_length K.parts)
 
--- ── The largest over all sub_lists ────────────────────────────────────────────────────────────────────────────────────
+-- ── The largest over all sub-lists ────────────────────────────────────────────────────────────────────────────────────
 
 sub_listed : (l : List ℕ) {k : List ℕ} → Sublistᴰ k l → Memᴰ k (sub_lists l)
 unfolding sub_lists
@@ -193,7 +193,7 @@ largest_least (y ∷ l) b f = by (ltb y (largest l)) (largest_least l b (λ x m.
     by true h k = h
     by false h k = k
 
--- over the sub_lists: a bound that one of them attains
+-- over the sub-lists: a bound that one of them attains
 largest_over : (f : List ℕ → ℕ) (l k : List ℕ) (b : ℕ) → Sublistᴰ k l → b ≤ f k → ((j : List ℕ) → Sublistᴰ j l → f j ≤ b) → largest (map f (sub_lists l)) ≡ b
 largest_over f l k b s a h =
     let x = largest_bound (map f (sub_lists l)) (f k) (Memᴰ.map f (sub_listed l s)) in

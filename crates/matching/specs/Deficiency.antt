@@ -4,7 +4,7 @@ use Rattle.masks.specs.Mask.{size}
 use Rattle.matching.specs.Sets.{union}
 use Rattle.matching.specs.Search.{outcome, succeeds}
 
--- all sub_lists of a list, the empty one first: any set of clauses, in which equal clauses are two
+-- all sub-lists of a list, the empty one first: any set of clauses, in which equal clauses are two
 unfoldable pub sub_lists : List ℕ → List (List ℕ)
 sub_lists [] = [] ∷ []
 sub_lists (x ∷ l) = sub_lists l ++ map (λ k. x ∷ k) (sub_lists l)

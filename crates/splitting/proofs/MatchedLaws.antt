@@ -1,4 +1,4 @@
--- Laws of matched lists of clauses: sub_lists, how many they are, assignments, the splitting theorem, and the model that a matching gives.
+-- Laws of matched lists of clauses: sub-lists, how many they are, assignments, the splitting theorem, and the model that a matching gives.
 use Prim.Native.Nat.{ℕ, ◌≤◌, ◌<◌}
 use mathlib.Core.Path.{◌≡◌, refl, sym, ◌∙◌, ap, subst}
 use mathlib.Core.Bool.{Bool, true, false, not, cond}

@@ -169,8 +169,8 @@ fn open_node(
     negatives: &mut [u64; limits::MAX_CLAUSES],
 ) -> usize
     requires { Small f × (length positives.old ≡ max_clauses) × (length negatives.old ≡ max_clauses) }
-    ensures result_after { formula_in positives.new negatives.new result ≡ formula_at f a }
-    ensures positives_len { (length positives.new ≡ max_clauses) × (length negatives.new ≡ max_clauses) }
+    ensures kept { formula_in positives.new negatives.new result ≡ formula_at f a }
+    ensures lengths { (length positives.new ≡ max_clauses) × (length negatives.new ≡ max_clauses) }
 {
     let mut count: usize = 0;
     let mut i: usize = 0;
@@ -195,8 +195,8 @@ fn compact(
     a: Assignment,
 ) -> usize
     requires { (count ≤ max_clauses) × (length positives.old ≡ max_clauses) × (length negatives.old ≡ max_clauses) }
-    ensures result_after { formula_in positives.new negatives.new result ≡ formula_at (formula_in positives.old negatives.old count) a }
-    ensures positives_len { (length positives.new ≡ max_clauses) × (length negatives.new ≡ max_clauses) }
+    ensures kept { formula_in positives.new negatives.new result ≡ formula_at (formula_in positives.old negatives.old count) a }
+    ensures lengths { (length positives.new ≡ max_clauses) × (length negatives.new ≡ max_clauses) }
 {
     let mut kept: usize = 0;
     let mut i: usize = 0;
@@ -221,8 +221,8 @@ fn first_named(
     v: usize,
 ) -> usize
     requires { (count ≤ max_clauses) × (v < 64) }
-    ensures upper_bound { (result ≤ count) × (unnamed (clauses_in positives.now negatives.now count) v result ≡ clauses_in positives.now negatives.now result) }
-    ensures v_value { result < count → bit (clause_variables (clause_in positives.now negatives.now result)) v ≡ true }
+    ensures passed { (result ≤ count) × (unnamed (clauses_in positives.now negatives.now count) v result ≡ clauses_in positives.now negatives.now result) }
+    ensures named { result < count → bit (clause_variables (clause_in positives.now negatives.now result)) v ≡ true }
 {
     let mut i: usize = 0;
     while i < count {
@@ -243,8 +243,8 @@ fn drop_named(
     v: usize,
 ) -> usize
     requires { (count ≤ max_clauses) × (v < 64) × (length positives.old ≡ max_clauses) × (length negatives.old ≡ max_clauses) }
-    ensures result_after { clauses_in positives.new negatives.new result ≡ unnamed (clauses_in positives.old negatives.old count) v count }
-    ensures positives_len { (length positives.new ≡ max_clauses) × (length negatives.new ≡ max_clauses) }
+    ensures kept { clauses_in positives.new negatives.new result ≡ unnamed (clauses_in positives.old negatives.old count) v count }
+    ensures lengths { (length positives.new ≡ max_clauses) × (length negatives.new ≡ max_clauses) }
 {
     let mut kept = first_named(positives, negatives, count, v);
     let mut i = kept;
@@ -317,8 +317,8 @@ fn gather(
     sets: &mut [u64; limits::MAX_CLAUSES],
 ) -> usize
     requires { (count ≤ max_clauses) × (length sets.old ≡ max_clauses) }
-    ensures value { result ≡ length (node (formula_in positives.now negatives.now count) a) }
-    ensures sets_after { sets.new ≡ over (map clause_variables (node (formula_in positives.now negatives.now count) a)) sets.old }
+    ensures number { result ≡ length (node (formula_in positives.now negatives.now count) a) }
+    ensures variables { sets.new ≡ over (map clause_variables (node (formula_in positives.now negatives.now count) a)) sets.old }
 {
     let mut written: usize = 0;
     let mut i: usize = 0;

@@ -1,10 +1,9 @@
 -- `read_pairs`: the loop has read the first i pairs.
-use Prim.Native.Nat.{◌-◌, ◌<◌}
+use Prim.Native.Nat.{◌<◌}
 use mathlib.Core.Path.{sym, ◌∙◌}
 use native.Mathlib.Omega.{arith}
-use lib.ListN.{length, take}
+use lib.ListN.{length}
 use borrow.Author.Rules.{rules}
-use Rattle.assumptions.specs.Assumed.{assumed}
 use Rattle.assumptions.specs.Bytes.{of_bytes}
 use Rattle.assumptions.proofs.PairsLaws.{pairs_length, pairs_next}
 use Rattle.assumptions.proofs.TakenLaws.{taken_none, taken_all}

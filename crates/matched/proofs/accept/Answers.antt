@@ -7,7 +7,7 @@ use Rattle.matched.proofs.accept.Goals as goal
 
 -- an assumption is bad
 pub returns-then-u : goal.returns-then-u
-returns-then-u c =
+returns-then-u c s us e g =
     let w = decoded_accepted s _ e c.in-Accepted.is in
     rw c.no_row-then-u.ensures (bad_represents s us _ _ _ w.reads (given_bad s us _ g _ _ w.reads c.if-u.true) _)
 
@@ -17,11 +17,11 @@ match_row-requires c =
 
 -- the reader refused
 pub returns-in-Refused : goal.returns-in-Refused
-returns-in-Refused c = rw c.no_row.ensures (refused_represents s us _ (decoded_refused s _ _ e c.in-Refused.is) _)
+returns-in-Refused c s us e g = rw c.no_row.ensures (refused_represents s us _ (decoded_refused s _ _ e c.in-Refused.is) _)
 
 -- what remains is matched
 pub returns-else-u : goal.returns-else-u
-returns-else-u c =
+returns-else-u c s us e g =
     let w = decoded_accepted s _ e c.in-Accepted.is in
     let l = given_literals s us _ g _ _ w.reads c.if-u.false in
     read_represents s us _ l.0 _ w.reads l.1 _ _

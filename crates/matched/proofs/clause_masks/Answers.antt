@@ -13,7 +13,7 @@ use Rattle.matched.proofs.clause_masks.Goals as goal
 
 -- the array of the clauses has all its places, as the formula that is owned tells
 places : (l : At-loop-i) → length l.args.f.clauses ≡ max_clauses
-places l = sym (length-map l.args.f.clauses _) ∙ l.well-formed.0.1.1.1.1.0.1.0.1
+places l = search rules
 
 pub loop-i-init : goal.loop-i-init
 unfolding padded

@@ -2,12 +2,12 @@
 use borrow.Author.Rules.{rules}
 use Prim.Native.Nat.{◌<◌, ◌-◌}
 use native.Mathlib.Omega.{arith}
-use mathlib.Core.Logic.{⊎_elim}
 use mathlib.Core.Path.{◌≡◌, ◌∙◌}
 use lib.ListN.{length, take}
 use Rattle.matching.specs.Sets.{selected}
 use Rattle.matching.proofs.SelectedLaws.{selected_empty}
 use Rattle.matched.proofs.WeighLaws.{counted_marked, counted_unmarked}
+use Rattle.matched.proofs.count_marked.Goals.{then-marks-k-ne0, else-marks-k-ne0}
 use Rattle.matched.proofs.count_marked.Goals as goal
 
 pub loop-k-init : goal.loop-k-init
@@ -17,10 +17,10 @@ pub loop-k-preserved : goal.loop-k-preserved
 loop-k-preserved c =
     let marks = c.args.marks.now in
     let h : c.loop-k.k < length marks = omega (arith, c.requires) in
-    ⊎_elim
-    (λ w. (omega arith, omega arith, w.1 ∙ counted_marked marks c.loop-k.k c.loop-k.marked h c.loop-k.invariant.2 w.0.taken))
-    (λ w. (omega arith, omega arith, w.1 ∙ counted_unmarked marks c.loop-k.k c.loop-k.marked h c.loop-k.invariant.2 w.0.left))
-    c.if-marks-k-ne0.branch
+    elim c.if-marks-k-ne0.branch [
+      then-marks-k-ne0 w ↦ (omega arith, omega arith, w.marked-is ∙ counted_marked marks c.loop-k.k c.loop-k.marked h c.loop-k.invariant.2 w.if-marks-k-ne0.true)
+    | else-marks-k-ne0 w ↦ (omega arith, omega arith, w.marked-is ∙ counted_unmarked marks c.loop-k.k c.loop-k.marked h c.loop-k.invariant.2 w.if-marks-k-ne0.false)
+    ]
 
 pub returns : goal.returns
 returns c = let e : c.loop-k.k ≡ c.args.count = omega arith in rw e at c.loop-k.invariant.2

@@ -19,7 +19,7 @@ returns-in-Accepted c =
     sym (counted_deficiency _ _ (read (goal.at.returns-in-Accepted c).In-Accepted) _ c.clause_masks-sets.ensures _ c.match_most-k.ensures)
 
 pub clause_masks-sets-requires : goal.clause_masks-sets-requires
-clause_masks-sets-requires c = (read c).ranges.few
+clause_masks-sets-requires c = (read (goal.at.clause_masks-sets-requires c).In-Accepted).fits.few
 
 pub match_most-k-requires : goal.match_most-k-requires
 match_most-k-requires c = masks_clauses _ _ (read (goal.at.match_most-k-requires c).In-Accepted) _ c.clause_masks-sets.ensures

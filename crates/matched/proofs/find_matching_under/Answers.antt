@@ -19,14 +19,14 @@ represented a us g = a.accept-row.ensures _ us a.decode-d.ensures g
 
 -- ---- what is answered
 pub returns-then-buffer-lt-MAX_CLAUSES : goal.returns-then-buffer-lt-MAX_CLAUSES
-returns-then-buffer-lt-MAX_CLAUSES c = told (judge_short c.args.input.now us c.args.buffer.now (omega arith)) refl
+returns-then-buffer-lt-MAX_CLAUSES c us g = told (judge_short c.args.input.now us c.args.buffer.now (omega arith)) refl
 
 pub returns-in-Refused : goal.returns-in-Refused
-returns-in-Refused c =
+returns-in-Refused c us g =
     told (refused_judged _ us _ c.if-buffer-lt-MAX_CLAUSES.false _ _ _ (represented (goal.at.returns-in-Refused c).After-accept-row us g) c.in-Refused.is) c.write.ensures
 
 pub returns-in-Accepted : goal.returns-in-Accepted
-returns-in-Accepted c =
+returns-in-Accepted c us g =
     told (accepted_judged _ us _ c.if-buffer-lt-MAX_CLAUSES.false _ _ (represented (goal.at.returns-in-Accepted c).After-accept-row us g) c.in-Accepted.is) c.write.ensures
 
 pub accept-row-requires : goal.accept-row-requires

@@ -12,7 +12,7 @@ tell_dropped-requires c =
     (c.requires.few, notes_fit _ c.requires _ c.strip-s.result c.strip-s.ensures)
 
 pub returns-then-m : goal.returns-then-m
-returns-then-m c =
+returns-then-m c n t cs z over q d =
     left_represents z over q d c.strip-s.ensures c.match_open-m.ensures c.if-m.true
     c.spread-table.result c.tell_dropped.result c.spread-table.ensures c.tell_dropped.ensures
 
@@ -21,5 +21,5 @@ spread-requires c =
     answers_fit _ c.requires _ c.match_open-m.result c.match_open-m.ensures 0 (omega arith)
 
 pub returns : goal.returns
-returns c =
+returns c n t cs z over q d =
     unmatched_represents z over q d c.strip-s.ensures c.match_open-m.ensures c.if-m.false c.spread.result c.spread.ensures

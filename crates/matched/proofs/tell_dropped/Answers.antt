@@ -15,7 +15,7 @@ loop-i-init c = (search rules, refl)
 pub loop-i-preserved : goal.loop-i-preserved
 loop-i-preserved c =
     let b = c.args in
-    (omega arith, told_more b.t1.clauses b.a b.s b.t4 c.loop-i.i _ c.loop-i.told c.loop-i.invariant.1 (omega (arith, c.requires.0)) c.tell.ensures)
+    (omega arith, told_more b.f.clauses b.a b.s b.table c.loop-i.i _ c.loop-i.told c.loop-i.invariant.1 (omega (arith, c.requires.0)) c.tell.ensures)
 
 pub returns : goal.returns
 returns c = let e : c.loop-i.i ≡ c.args.f.count = omega arith in rw e at c.loop-i.invariant.1

@@ -1,4 +1,4 @@
--- `find_path` is the definition's search. The invariant: what is left to do gives the result; the queue has at most as many clauses as the bound.
+-- `find_path` is the definition's search.
 use Prim.Native.Nat.{◌-◌}
 use native.Mathlib.Omega.{arith}
 use Rattle.matching.specs.Search.{begin}

@@ -1,4 +1,4 @@
--- `match_most` gives the most clauses that can be matched together. The invariant: of the first i clauses k are kept, in the arrays.
+-- `match_most` gives the most clauses that can be matched together.
 use Prim.Native.Nat.{◌-◌}
 use mathlib.Core.Path.{◌≡◌}
 use native.Mathlib.Omega.{arith}

@@ -1,9 +1,8 @@
--- `all_satisfied`: the invariant is that the first i clauses are satisfied.
+-- `all_satisfied` tells whether each clause is satisfied.
 use Prim.Native.Nat.{◌-◌}
 use native.Mathlib.Omega.{arith}
 use mathlib.Core.Bool.{true}
 use mathlib.Core.Path.{◌≡◌, refl, sym, ◌∙◌}
-use borrow.Author.Tests.{not-true, not-false}
 use Rattle.formula.specs.InnerCheck.{all_first}
 use Rattle.formula.proofs.CheckLaws.{all_more, all_fails}
 use borrow.Author.Rules.{rules}
@@ -14,10 +13,10 @@ unfolding all_first
 loop-i-init c = (search rules, refl)
 
 pub returns-then-not-is_satisfied : goal.returns-then-not-is_satisfied
-returns-then-not-is_satisfied c = sym (all_fails _ _ c.loop-i.i _ c.loop-i-test.true (sym c.is_satisfied.ensures ∙ not-true _ c.if-not-is_satisfied.true-raw))
+returns-then-not-is_satisfied c = sym (all_fails _ _ c.loop-i.i _ c.loop-i-test.true (sym c.is_satisfied.ensures ∙ c.if-not-is_satisfied.true))
 
 pub loop-i-preserved : goal.loop-i-preserved
-loop-i-preserved c = (search rules, all_more _ _ c.loop-i.i c.loop-i.invariant.1 (sym c.is_satisfied.ensures ∙ not-false _ c.if-not-is_satisfied.false-raw))
+loop-i-preserved c = (search rules, all_more _ _ c.loop-i.i c.loop-i.invariant.1 (sym c.is_satisfied.ensures ∙ c.if-not-is_satisfied.false))
 
 pub returns : goal.returns
 returns c = let e : c.loop-i.i ≡ c.args.f.count = omega arith in sym (rw e at c.loop-i.invariant.1)

@@ -1,15 +1,13 @@
--- `compact` keeps what is left of the open clauses. The invariant: of the first i clauses it is written, and those from i on stand as
--- they were.
+-- `compact` keeps what is left of the open clauses.
 use Prim.Native.Nat.{◌-◌}
 use native.Mathlib.Omega.{arith}
-use mathlib.Core.Logic.{⊎_elim}
 use mathlib.Core.Path.{◌≡◌, refl, sym, ◌∙◌}
 use borrow.Author.Rules.{rules}
-use borrow.Author.Tests.{not-true, not-false}
 use lib.ListN.{length, length-set}
 use Rattle.lists.specs.Tabulated.{tabulated}
 use Rattle.splitting.specs.InnerChoose.{clauses_in, open_clauses}
 use Rattle.splitting.proofs.OpenClauseLaws.{clause_read, clause_kept, formula_held, open_gone, keep_more}
+use Rattle.splitting.proofs.compact.Goals.{then-not-is_satisfied, else-not-is_satisfied}
 use Rattle.splitting.proofs.compact.Goals as goal
 
 pub loop-i-init : goal.loop-i-init
@@ -23,29 +21,31 @@ loop-i-preserved c =
     let cs = clauses_in p q c.args.count in
     let a = c.args.a in
     let at = clause_read p q c.args.count c.loop-i.i (omega arith) ∙ sym (c.loop-i.invariant.5 c.loop-i.i (omega arith)) ∙ sym c.clause_at-c.ensures in
-    ⊎_elim
-    (λ w.
-    let y = w.1.ensures in (
-      omega arith,
-      omega arith,
-      rw (w.2, length-set) c.loop-i.invariant.2,
-      rw (w.3, length-set) c.loop-i.invariant.3,
-      rw (w.2, w.3, w.4, y)
-          (keep_more cs a c.loop-i.i c.clause_at-c.result at c.loop-i.positives c.loop-i.negatives c.loop-i.kept (sym c.is_satisfied.ensures ∙ not-true _ w.0.taken)
-          (omega arith) (omega arith) c.loop-i.invariant.4),
-      λ j m. rw (w.2, w.3) (clause_kept c.loop-i.positives c.loop-i.negatives c.loop-i.kept _ _ j (omega arith) ∙ c.loop-i.invariant.5 j (omega arith)),
-    ))
-    (λ w. (
-      omega arith,
-      omega arith,
-      rw w.1 c.loop-i.invariant.2,
-      rw w.2 c.loop-i.invariant.3,
-      rw (w.1, w.2, w.3, open_gone cs a c.loop-i.i c.clause_at-c.result at (sym c.is_satisfied.ensures ∙ not-false _ w.0.left)) c.loop-i.invariant.4,
-      λ j m. rw (w.1, w.2) (c.loop-i.invariant.5 j (omega arith)),
-    ))
-    c.if-not-is_satisfied.branch
+    elim c.if-not-is_satisfied.branch [
+      | then-not-is_satisfied w ↦ (
+        omega arith,
+        omega arith,
+        rw (w.positives-is, length-set) c.loop-i.invariant.2,
+        rw (w.negatives-is, length-set) c.loop-i.invariant.3,
+        rw (w.positives-is, w.negatives-is, w.kept-is, w.left-l.ensures)
+            (keep_more cs a c.loop-i.i c.clause_at-c.result at c.loop-i.positives c.loop-i.negatives c.loop-i.kept (sym c.is_satisfied.ensures ∙ w.if-not-is_satisfied.true)
+            (omega arith) (omega arith) c.loop-i.invariant.4),
+        λ j m. rw (w.positives-is, w.negatives-is) (clause_kept c.loop-i.positives c.loop-i.negatives c.loop-i.kept _ _ j (omega arith) ∙ c.loop-i.invariant.5 j (omega arith)),
+      )
+      | else-not-is_satisfied w ↦ (
+        omega arith,
+        omega arith,
+        rw w.positives-is c.loop-i.invariant.2,
+        rw w.negatives-is c.loop-i.invariant.3,
+        rw (w.positives-is, w.negatives-is, w.kept-is, open_gone cs a c.loop-i.i c.clause_at-c.result at (sym c.is_satisfied.ensures ∙ w.if-not-is_satisfied.false)) c.loop-i.invariant.4,
+        λ j m. rw (w.positives-is, w.negatives-is) (c.loop-i.invariant.5 j (omega arith)),
+      )
+    ]
 
 pub returns : goal.returns
 returns c =
     let e : c.loop-i.i ≡ c.args.count = omega arith in
-    (formula_held c.loop-i.positives c.loop-i.negatives c.loop-i.kept _ (rw e at c.loop-i.invariant.4), (c.loop-i.invariant.2, c.loop-i.invariant.3))
+    record {
+      kept = formula_held c.loop-i.positives c.loop-i.negatives c.loop-i.kept _ (rw e at c.loop-i.invariant.4);
+      lengths = (c.loop-i.invariant.2, c.loop-i.invariant.3);
+    }

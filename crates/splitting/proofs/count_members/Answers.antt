@@ -3,5 +3,4 @@ use Rattle.splitting.proofs.CounterLaws.{counts_more}
 use Rattle.splitting.proofs.count_members.Goals as goal
 
 pub returns : goal.returns
-returns c =
-    counts_more c.args.c c.args.mask v (c.requires v)
+returns c v = counts_more c.args.c c.args.mask v (c.requires v)

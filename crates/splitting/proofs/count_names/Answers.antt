@@ -1,4 +1,4 @@
--- `count_names` counts how many clauses name each variable. The invariant: those of the first i clauses are counted.
+-- `count_names` counts how many clauses name each variable.
 use Prim.Native.Nat.{◌-◌}
 use native.Mathlib.Omega.{arith}
 use mathlib.Core.Path.{◌≡◌, sym, ◌∙◌}
@@ -14,7 +14,7 @@ unfolding occurrences_in tabulated
 loop-i-init c = (search rules, λ v. counts_none v)
 
 pub count_members-counts-requires : goal.count_members-counts-requires
-count_members-counts-requires c =
+count_members-counts-requires c v =
     let p = c.args.positives.now in
     let q = c.args.negatives.now in
     let few = occurrences_few (clauses_in p q c.loop-i.i) v in
@@ -27,6 +27,6 @@ loop-i-preserved c =
     (search rules, λ v. c.count_members-counts.ensures v ∙ rw (c.loop-i.invariant.1 v) (sym (next v)))
 
 pub returns : goal.returns
-returns c =
+returns c v =
     let e : c.loop-i.i ≡ c.args.count = omega arith in
     rw e at (c.loop-i.invariant.1 v)

@@ -3,4 +3,4 @@ use Rattle.splitting.proofs.CounterLaws.{counted_some}
 use Rattle.splitting.proofs.counted.Goals as goal
 
 pub returns : goal.returns
-returns c = counted_some c.args.c v
+returns c v = counted_some c.args.c v

@@ -1,4 +1,4 @@
--- `first_named` passes the clauses that do not name v. The invariant: the first i are such.
+-- `first_named` passes the clauses that do not name v.
 use Prim.Native.Nat.{◌-◌}
 use native.Mathlib.Omega.{arith}
 use mathlib.Core.Path.{refl, sym, ap, ◌∙◌}
@@ -17,7 +17,10 @@ loop-i-init c = (search rules, refl)
 
 pub returns-then-member : goal.returns-then-member
 returns-then-member c =
-    (c.loop-i.invariant, λ h. ap (λ (d : Clause). bit (clause_variables d) c.args.v) (sym c.clause_at-c.ensures) ∙ sym c.member.ensures ∙ c.if-member.true)
+    record {
+      passed = c.loop-i.invariant;
+      named = λ h. ap (λ (d : Clause). bit (clause_variables d) c.args.v) (sym c.clause_at-c.ensures) ∙ sym c.member.ensures ∙ c.if-member.true;
+    }
 
 pub loop-i-preserved : goal.loop-i-preserved
 loop-i-preserved c =
@@ -28,4 +31,4 @@ loop-i-preserved c =
     )
 
 pub returns : goal.returns
-returns c = (c.loop-i.invariant, λ h. absurd (omega (arith, c.loop-i-test.false)))
+returns c = record { passed = c.loop-i.invariant; named = λ h. absurd (omega (arith, c.loop-i-test.false)) }

@@ -1,13 +1,12 @@
--- `gather` writes what each clause of the node names. The invariant: it is written of the first i clauses.
+-- `gather` writes what each clause of the node names.
 use Prim.Native.Nat.{◌-◌}
 use native.Mathlib.Omega.{arith}
-use mathlib.Core.Logic.{⊎_elim}
 use mathlib.Core.Path.{◌≡◌, refl, sym, ◌∙◌}
 use borrow.Author.Rules.{rules}
-use borrow.Author.Tests.{not-true, not-false}
 use lib.ListN.{length, length-set}
 use Rattle.splitting.specs.InnerChoose.{clauses_in, open_clauses}
 use Rattle.splitting.proofs.OpenClauseLaws.{clause_read, open_gone, gather_more}
+use Rattle.splitting.proofs.gather.Goals.{then-not-is_satisfied, else-not-is_satisfied}
 use Rattle.splitting.proofs.gather.Goals as goal
 
 pub loop-i-init : goal.loop-i-init
@@ -21,17 +20,17 @@ loop-i-preserved c =
     let cs = clauses_in p q c.args.count in
     let a = c.args.a in
     let at = clause_read p q c.args.count c.loop-i.i (omega arith) ∙ sym c.clause_at-c.ensures in
-    ⊎_elim
-    (λ w.
-    let g = gather_more cs a c.loop-i.i c.clause_at-c.result at c.loop-i.written c.args.sets.now c.loop-i.sets (sym c.is_satisfied.ensures ∙ not-true _ w.0.taken) c.loop-i.invariant.3
-    (omega (arith, c.requires.1)) c.loop-i.invariant.4 in
-    (omega arith, omega arith, rw (w.3, length-set) c.loop-i.invariant.2, w.4 ∙ g.0, rw (w.3, w.1.ensures) g.1))
-    (λ w.
-    let e = open_gone cs a c.loop-i.i c.clause_at-c.result at (sym c.is_satisfied.ensures ∙ not-false _ w.0.left) in
-    (omega arith, omega arith, rw w.1 c.loop-i.invariant.2, rw (w.2, e) c.loop-i.invariant.3, rw (w.1, e) c.loop-i.invariant.4))
-    c.if-not-is_satisfied.branch
+    elim c.if-not-is_satisfied.branch [
+      | then-not-is_satisfied w ↦
+          let g = gather_more cs a c.loop-i.i c.clause_at-c.result at c.loop-i.written c.args.sets.now c.loop-i.sets (sym c.is_satisfied.ensures ∙ w.if-not-is_satisfied.true) c.loop-i.invariant.3
+          (omega (arith, c.requires.1)) c.loop-i.invariant.4 in
+          (omega arith, omega arith, rw (w.sets-is, length-set) c.loop-i.invariant.2, w.written-is ∙ g.0, rw (w.sets-is, w.left-l.ensures) g.1)
+      | else-not-is_satisfied w ↦
+          let e = open_gone cs a c.loop-i.i c.clause_at-c.result at (sym c.is_satisfied.ensures ∙ w.if-not-is_satisfied.false) in
+          (omega arith, omega arith, rw w.sets-is c.loop-i.invariant.2, rw (w.written-is, e) c.loop-i.invariant.3, rw (w.sets-is, e) c.loop-i.invariant.4)
+    ]
 
 pub returns : goal.returns
 returns c =
     let e : c.loop-i.i ≡ c.args.count = omega arith in
-    (rw e at c.loop-i.invariant.3, rw e at c.loop-i.invariant.4)
+    record { number = rw e at c.loop-i.invariant.3; variables = rw e at c.loop-i.invariant.4 }

@@ -1,14 +1,13 @@
--- `has_empty` tells whether a clause of the node is empty. The invariant: none of the first i is.
+-- `has_empty` tells whether a clause of the node is empty.
 use Prim.Native.Nat.{◌-◌}
 use native.Mathlib.Omega.{arith}
-use mathlib.Core.Logic.{⊎_elim}
 use mathlib.Core.Path.{◌≡◌, refl, sym, ap, ◌∙◌}
 use borrow.Author.Rules.{rules}
-use borrow.Author.Tests.{not-true, not-false}
 use mathlib.Core.Bool.{false}
 use Rattle.formula.specs.InnerFits.{clause_variables}
 use Rattle.splitting.specs.InnerChoose.{clauses_in, open_clauses, some_empty}
 use Rattle.splitting.proofs.OpenClauseLaws.{clause_read, open_gone, empty_found, empty_passed}
+use Rattle.splitting.proofs.has_empty.Goals.{then-not-is_satisfied+else-l-eq0, else-not-is_satisfied}
 use Rattle.splitting.proofs.has_empty.Goals as goal
 
 pub loop-i-init : goal.loop-i-init
@@ -21,7 +20,7 @@ returns-then-l-eq0 c =
     let q = c.args.negatives.now in
     let k = c.args.count in
     sym (empty_found (clauses_in p q k) c.args.a c.loop-i.i c.clause_at-c.result (clause_read p q k c.loop-i.i (omega arith) ∙ sym c.clause_at-c.ensures)
-    (sym c.is_satisfied.ensures ∙ not-true _ c.if-not-is_satisfied.true-raw) k (omega arith)
+    (sym c.is_satisfied.ensures ∙ c.if-not-is_satisfied.true) k (omega arith)
     (ap clause_variables (sym c.left-l.ensures) ∙ c.if-l-eq0.true))
 
 pub loop-i-preserved : goal.loop-i-preserved
@@ -31,17 +30,17 @@ loop-i-preserved c =
     let k = c.args.count in
     let a = c.args.a in
     let at = clause_read p q k c.loop-i.i (omega arith) ∙ sym c.clause_at-c.ensures in
-    ⊎_elim
-    (λ w. (
-      omega arith,
-      empty_passed (clauses_in p q k) a c.loop-i.i c.clause_at-c.result at (sym c.is_satisfied.ensures ∙ not-true _ w.0.taken) c.loop-i.invariant.1
-          (λ z. w.3.left (ap clause_variables w.1.ensures ∙ z)),
-    ))
-    (λ w. (
-      omega arith,
-      rw (open_gone (clauses_in p q k) a c.loop-i.i c.clause_at-c.result at (sym c.is_satisfied.ensures ∙ not-false _ w.left)) c.loop-i.invariant.1,
-    ))
-    c.if-not-is_satisfied.branch
+    elim c.if-not-is_satisfied.branch [
+      | then-not-is_satisfied+else-l-eq0 w ↦ (
+        omega arith,
+        empty_passed (clauses_in p q k) a c.loop-i.i c.clause_at-c.result at (sym c.is_satisfied.ensures ∙ w.if-not-is_satisfied.true) c.loop-i.invariant.1
+            (λ z. w.if-l-eq0.false (ap clause_variables w.left-l.ensures ∙ z)),
+      )
+      | else-not-is_satisfied w ↦ (
+        omega arith,
+        rw (open_gone (clauses_in p q k) a c.loop-i.i c.clause_at-c.result at (sym c.is_satisfied.ensures ∙ w.if-not-is_satisfied.false)) c.loop-i.invariant.1,
+      )
+    ]
 
 pub returns : goal.returns
 returns c =

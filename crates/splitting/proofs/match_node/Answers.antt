@@ -10,8 +10,8 @@ gather-written-requires c = (c.requires.few, search rules)
 
 pub match_sets-requires : goal.match_sets-requires
 match_sets-requires c =
-    rw (c.gather-written.ensures.value, c.gather-written.ensures.sets_after) (node_clauses (formula_in c.args.positives.now c.args.negatives.now c.args.count) c.requires c.args.a _ refl)
+    rw (c.gather-written.ensures.number, c.gather-written.ensures.variables) (node_clauses (formula_in c.args.positives.now c.args.negatives.now c.args.count) c.requires c.args.a _ refl)
 
 pub returns : goal.returns
 returns c =
-    rw (c.match_sets.ensures, c.gather-written.ensures.value, c.gather-written.ensures.sets_after, node_taken (formula_in c.args.positives.now c.args.negatives.now c.args.count) c.requires c.args.a)
+    rw (c.match_sets.ensures, c.gather-written.ensures.number, c.gather-written.ensures.variables, node_taken (formula_in c.args.positives.now c.args.negatives.now c.args.count) c.requires c.args.a)

@@ -9,9 +9,9 @@ open_node-count-requires c = (small_of _ c.requires, search rules, search rules)
 
 pub match_node-requires : goal.match_node-requires
 match_node-requires c =
-    rw c.open_node-count.ensures.result_after (small_at c.args.f (small_of _ c.requires) c.args.a)
+    rw c.open_node-count.ensures.kept (small_at c.args.f (small_of _ c.requires) c.args.a)
 
 pub returns : goal.returns
 returns c =
     rw (c.match_node.ensures, c.no_assignment.ensures)
-    (matching_in c.args.f c.args.a c.open_node-count.new.positives c.open_node-count.new.negatives c.open_node-count.result c.open_node-count.ensures.result_after)
+    (matching_in c.args.f c.args.a c.open_node-count.new.positives c.open_node-count.new.negatives c.open_node-count.result c.open_node-count.ensures.kept)

@@ -5,7 +5,7 @@ use Rattle.splitting.specs.InnerChoose.{open_clauses, survey_of}
 use Rattle.splitting.proofs.survey_open.Given as goal
 
 abbrev pub invariant-loop-i : goal.invariant-loop-i
-invariant-loop-i l = (l.i ≤ l.f.count) × (record { l.positive = l.positive; l.negative = l.negative; l.any = l.any } ≡ survey_of (open_clauses l.f.clauses l.a l.i))
+invariant-loop-i l = (l.i ≤ l.f.count) × (record { positive = l.positive; negative = l.negative; any = l.any } ≡ survey_of (open_clauses l.f.clauses l.a l.i))
 
 abbrev pub decreases-loop-i : goal.decreases-loop-i
 decreases-loop-i l = l.f.count - l.i

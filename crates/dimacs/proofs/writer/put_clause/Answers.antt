@@ -15,7 +15,9 @@ going l = let v = l.requires in l.loop-i.invariant v.clause v.rest v.bytes v.ove
 -- the literal at i
 literal : (t : In-loop-i)
     → (Ahead t.args.input.now t.requires.rest t.loop-i.i (going (goal.at.In-loop-i t).At-loop-i).left)
-literal t = ahead _ _ t.loop-i.i (going (goal.at.In-loop-i t).At-loop-i).left (going (goal.at.In-loop-i t).At-loop-i).bytes t.loop-i-test.true
+literal t =
+    let d = (goal.at.In-loop-i t).At-loop-i in
+    ahead _ _ t.loop-i.i (going d).left (going d).bytes t.loop-i-test.true
 
 pub loop-i-init : goal.loop-i-init
 loop-i-init c = λ w rest e o. let a = c.args in lining_first a.input.now rest a.from w a.at a.buffer.now e o

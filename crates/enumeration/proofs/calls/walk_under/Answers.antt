@@ -56,10 +56,10 @@ tell-requires c =
     omega (arith, r.holds.short, r.holds.room)
 
 pub returns-in-Refused : goal.returns-in-Refused
-returns-in-Refused c =
+returns-in-Refused c = λ us g.
     c.refuse.ensures ∙ sym ((entered (goal.at.returns-in-Refused c).After-enter-e us g).refused c.in-Refused.refusal c.in-Refused.is _)
 
 pub returns-in-Accepted : goal.returns-in-Accepted
-returns-in-Accepted c =
+returns-in-Accepted c = λ us g.
     let b = begun (goal.at.returns-in-Accepted c).In-Accepted us g in
     c.tell.ensures b.tree _ (c.go_on-r.ensures b.tree b.follows b.holds) ∙ sym (b.calls _)

@@ -16,7 +16,7 @@ use Rattle.enumeration.proofs.entering.enter.Goals as goal
 -- `enter` meets its contract: by what comes of the input, then by the checkpoint's test.
 -- a checkpoint's array has 48 bytes
 all_bytes : (b : Start) → length b.args.c.bytes ≡ max_variables
-all_bytes b = search (rules, b.well-formed.1.1.1)
+all_bytes b = search (rules, b.well_formed)
 
 pub enter_formula-requires : goal.enter_formula-requires
 enter_formula-requires c =
@@ -25,18 +25,18 @@ enter_formula-requires c =
     (w.fits, record { tree = tree w.task; follows = walked_follows p.0 p.1 _ _ w })
 
 pub returns-in-Refused : goal.returns-in-Refused
-returns-in-Refused c =
+returns-in-Refused c = λ s us k.
     let x = c.in-Refused.refusal in
     record {
       begun = λ q. let z : ◌≡◌ {A = ℕ} 0 1 = cc q in absurd (omega arith);
       refused = λ e q b.
           let t : x ≡ e = cc q in
-          d.declined x c.in-Refused.is _ b ∙ ap (λ (y : Refusal). refusing y (checkpoint_values c.args.c)) t;
+          k.declined x c.in-Refused.is _ b ∙ ap (λ (y : Refusal). refusing y (checkpoint_values c.args.c)) t;
     }
 
 pub returns-in-Accepted : goal.returns-in-Accepted
-returns-in-Accepted c =
-    let w = d.walked c.in-Accepted.is in
+returns-in-Accepted c = λ s us k.
+    let w = k.walked c.in-Accepted.is in
     let full = all_bytes (goal.at.returns-in-Accepted c).Start in
     let S = c.enter_formula.ensures (tree w.task) (walked_follows s us _ _ w) in
     record {

@@ -4,17 +4,17 @@ use Rattle.enumeration.proofs.PlaceLaws.{taken_unformed, taken_unreplayed, taken
 use Rattle.enumeration.proofs.reading.read_checkpoint.Goals as goal
 
 pub replay-t-requires : goal.replay-t-requires
-replay-t-requires c = (c.requires.0, c.requires.1, sym c.well-formed-2.ensures.answer ∙ c.if-well_formed.true, c.well-formed-2.ensures.full c.if-well_formed.true)
+replay-t-requires c = (c.requires.0, c.requires.1, sym c.well_formed-2.ensures.answer ∙ c.if-well_formed.true, c.well_formed-2.ensures.full c.if-well_formed.true)
 
 pub take_place-requires : goal.take_place-requires
 take_place-requires c = let l = c.requires.1 in (c.requires.0, record { tree = l.tree; follows = l.follows; holds = ((c.replay-t.ensures l.tree l.follows).node c.if-t.true).holds })
 
 pub returns-then-t : goal.returns-then-t
-returns-then-t c = λ K F. taken_read K _ _ (sym c.well-formed-2.ensures.answer ∙ c.if-well_formed.true) _ ((c.replay-t.ensures K F).node c.if-t.true) (c.take_place.ensures K F)
+returns-then-t c = λ K F. taken_read K _ _ (sym c.well_formed-2.ensures.answer ∙ c.if-well_formed.true) _ ((c.replay-t.ensures K F).node c.if-t.true) (c.take_place.ensures K F)
 
 pub returns-then-well_formed : goal.returns-then-well_formed
-returns-then-well_formed c = λ K F. taken_unreplayed K _ _ (sym c.well-formed-2.ensures.answer ∙ c.if-well_formed.true) (c.replay-t.ensures K F) c.if-t.false
+returns-then-well_formed c = λ K F. taken_unreplayed K _ _ (sym c.well_formed-2.ensures.answer ∙ c.if-well_formed.true) (c.replay-t.ensures K F) c.if-t.false
 
 pub returns : goal.returns
 returns c =
-    λ K F. rw c.unknown.ensures (taken_unformed K _ _ (sym c.well-formed-2.ensures.answer ∙ c.if-well_formed.false) refl)
+    λ K F. rw c.unknown.ensures (taken_unformed K _ _ (sym c.well_formed-2.ensures.answer ∙ c.if-well_formed.false) refl)

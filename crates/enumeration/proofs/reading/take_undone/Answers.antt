@@ -7,7 +7,7 @@ use Rattle.walk.specs.InnerStack.{Tree}
 use Rattle.enumeration.specs.InnerState.{Follows, Holds, stack_in}
 use Rattle.enumeration.proofs.ReplayLaws.{choice_is, valid_room}
 use Rattle.enumeration.proofs.PlaceLaws.{taken_full, taken_true_root, taken_true, taken_false_root, taken_false}
-use Rattle.enumeration.proofs.reading.take_undone.Goals.{After-pick_by_clauses-p}
+use Rattle.enumeration.proofs.reading.take_undone.Goals.{After-pick_by_clauses-p, then-s-eq0-2+else-not-c, else-s-eq0-2}
 use Rattle.enumeration.proofs.reading.take_undone.Goals as goal
 
 -- the choice is the tree's
@@ -45,4 +45,4 @@ returns c =
     λ K F n.
     rw (c.if-value.false, c.mark.ensures)
     (taken_false _ _ K F _ n c.if-s-z.false _ (choice (goal.at.returns c).After-pick_by_clauses-p K F n.holds)
-    (λ z. ⊎_elim (λ w. not-false _ w.2.left) (λ w. absurd (w.left z)) c.if-s-eq0-2.branch) _ refl)
+    (λ z. elim c.if-s-eq0-2.branch [ then-s-eq0-2+else-not-c w ↦ not-false _ w.if-not-c.false | else-s-eq0-2 w ↦ absurd (w.if-s-eq0-2.false z) ]) _ refl)
