@@ -1,10 +1,11 @@
 // The vectors of the conversions: each answer and the lent buffer compared with the expected ones.
-ghost use Rattle.std.specs.Prelude.{◌≡◌, replicate};
+ghost use Rattle.std.specs.Prelude.{◌≡◌, replicate, IfOk};
 ghost use Rattle.dimacs.specs.Convert.{converted_values};
 ghost use Rattle.vectors.specs.Corpus.{Lies};
 ghost use Rattle.cases.specs.Converting.{convert_written, Converts, converts, convert_agrees};
 
 use dimacs::Converted;
+use std::io;
 use vectors::answers::{Answer, expected_at, refusal_answer};
 use vectors::comparing::{agree, first_wrong, wanted_byte};
 use vectors::corpus::{Vector, two_bytes};
@@ -39,9 +40,16 @@ fn convert(reads: bool, given: &[u8], buffer: &mut [u8]) -> Answer
 
 // Whether the conversion gives the expected answer and leaves, in a filled buffer, the expected bytes before the fill; a difference is
 // printed.
-fn compare_converted(bytes: &[u8], v: Vector, reads: bool, fill: u8, buffer: &mut [u8]) -> bool
+fn compare_converted(
+    rt: &impl Print,
+    bytes: &[u8],
+    v: Vector,
+    reads: bool,
+    fill: u8,
+    buffer: &mut [u8],
+) -> io::Result<bool>
     requires { Lies bytes.now v 9 }
-    ensures { result ≡ converts reads bytes.now v fill buffer.old }
+    ensures { IfOk result (λ agrees. agrees ≡ converts reads bytes.now v fill buffer.old) }
 {
     let start = v.start;
     let middle = v.middle;
@@ -51,17 +59,18 @@ fn compare_converted(bytes: &[u8], v: Vector, reads: bool, fill: u8, buffer: &mu
     let got = convert(reads, &bytes[start..middle], buffer);
     let wrong = first_wrong(bytes, output, kept, fill, buffer);
     if agree(wanted, got, wrong, buffer.len()) {
-        return true;
+        return Ok(true);
     }
-    report::difference(v.number, wanted, got);
+    report::difference(rt, v.number, wanted, got)?;
     if wrong < buffer.len() {
         report::wrong_byte(
+            rt,
             wrong,
             wanted_byte(bytes, output, kept, fill, wrong),
             buffer[wrong],
-        );
+        )?;
     }
-    false
+    Ok(false)
 }
 
 pub fn filled(fill: u8) -> [u8; 65536]
@@ -71,13 +80,13 @@ pub fn filled(fill: u8) -> [u8; 65536]
 }
 
 // Whether the conversion gives what the vector expects.
-pub fn convert_vector(bytes: &[u8], v: Vector, reads: bool) -> bool
+pub fn convert_vector(rt: &impl Print, bytes: &[u8], v: Vector, reads: bool) -> io::Result<bool>
     requires { Lies bytes.now v 9 }
-    ensures { result ≡ convert_agrees reads bytes.now v }
+    ensures { IfOk result (λ agrees. agrees ≡ convert_agrees reads bytes.now v) }
 {
     let end = v.end;
     let size = two_bytes(bytes, end + 6) as usize;
     let fill = bytes[end + 8];
     let mut array = filled(fill);
-    compare_converted(bytes, v, reads, fill, &mut array[..size])
+    compare_converted(rt, bytes, v, reads, fill, &mut array[..size])
 }

@@ -1,5 +1,5 @@
 // The vectors of judge: each answer and the lent buffer compared with the expected ones.
-ghost use Rattle.std.specs.Prelude.{◌≤◌, List, [], ◌∷◌, ◌≡◌, replicate};
+ghost use Rattle.std.specs.Prelude.{◌≤◌, List, [], ◌∷◌, ◌≡◌, replicate, IfOk};
 ghost use Rattle.assumptions.specs.declared.Assumption.{Assumption};
 ghost use Rattle.assumptions.specs.InnerAssumed.{MasksOf};
 ghost use Rattle.matched.specs.Judge.{judgement_values};
@@ -11,6 +11,7 @@ use crate::assuming::{are_two, assumed, assumption_at};
 use crate::lending::judge_two;
 use assumptions::{Assumption, Assumptions};
 use matched::Judgement;
+use std::io;
 use vectors::answers::{Answer, expected_at, refusal_answer};
 use vectors::comparing::{agree, first_wrong, wanted_byte};
 use vectors::corpus::{Vector, wide};
@@ -82,9 +83,9 @@ fn judge_given(bytes: &[u8], v: Vector, size: usize, fill: u8) -> Judged
 }
 
 // Whether judge gives the expected answer and leaves the expected bytes; a difference is printed.
-pub fn judge_vector(bytes: &[u8], v: Vector) -> bool
+pub fn judge_vector(rt: &impl Print, bytes: &[u8], v: Vector) -> io::Result<bool>
     requires { Lies bytes.now v 104 }
-    ensures { result ≡ judge_agrees bytes.now v }
+    ensures { IfOk result (λ agrees. agrees ≡ judge_agrees bytes.now v) }
 {
     let end = v.end;
     let wanted = expected_at(bytes, end);
@@ -96,15 +97,16 @@ pub fn judge_vector(bytes: &[u8], v: Vector) -> bool
     let array = got.array;
     let wrong = first_wrong(bytes, at, limits::MAX_CLAUSES, fill, &array);
     if agree(wanted, answer, wrong, 256) {
-        return true;
+        return Ok(true);
     }
-    report::difference(v.number, wanted, answer);
+    report::difference(rt, v.number, wanted, answer)?;
     if wrong < 256 {
         report::wrong_byte(
+            rt,
             wrong,
             wanted_byte(bytes, at, limits::MAX_CLAUSES, fill, wrong),
             array[wrong],
-        );
+        )?;
     }
-    false
+    Ok(false)
 }

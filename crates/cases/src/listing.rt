@@ -1,5 +1,5 @@
 // The vectors of whole listings, call by call, and those of lists of models.
-ghost use Rattle.std.specs.Prelude.{◌+◌, ◌*◌, ◌≤◌, List, [], ◌∷◌, ◌≡◌, length, replicate};
+ghost use Rattle.std.specs.Prelude.{◌+◌, ◌*◌, ◌≤◌, List, [], ◌∷◌, ◌≡◌, length, replicate, IfOk};
 ghost use Rattle.assumptions.specs.declared.Assumption.{Assumption};
 ghost use Rattle.assumptions.specs.InnerAssumed.{MasksOf};
 ghost use Rattle.enumeration.specs.Lists.{next_models};
@@ -16,6 +16,7 @@ use crate::walking::{
 };
 use assumptions::{Assumption, Assumptions};
 use enumeration::{Checkpoint, Walked};
+use std::io;
 use vectors::corpus::{Vector, eight_bytes, wide};
 use vectors::report;
 
@@ -31,9 +32,14 @@ fn origin_of(from: u8, last: Checkpoint) -> Checkpoint
 
 // Whether a call of a listing, of an ample budget, gives what it must, and the checkpoint that it returned, which the vector does not
 // tell; a difference is printed.
-pub fn listing_vector(bytes: &[u8], v: Vector, last: Checkpoint) -> Compared
+pub fn listing_vector(
+    rt: &impl Print,
+    bytes: &[u8],
+    v: Vector,
+    last: Checkpoint,
+) -> io::Result<Compared>
     requires { Lies bytes.now v 23 }
-    ensures { Gives (listing_agrees bytes.now v (checkpoint_values last)) (listing_leaves bytes.now v (checkpoint_values last)) result }
+    ensures { IfOk result (Gives (listing_agrees bytes.now v (checkpoint_values last)) (listing_leaves bytes.now v (checkpoint_values last))) }
 {
     let end = v.end;
     let wanted = expected_call(bytes, end);
@@ -42,16 +48,16 @@ pub fn listing_vector(bytes: &[u8], v: Vector, last: Checkpoint) -> Compared
     let got = told_of(walked);
     let returned = walked.checkpoint;
     if agree(wanted, got, CHECKPOINT_SIZE) {
-        return Compared {
+        return Ok(Compared {
             agrees: true,
             last: returned,
-        };
+        });
     }
-    report_call(v.number, wanted, got);
-    Compared {
+    report_call(rt, v.number, wanted, got)?;
+    Ok(Compared {
         agrees: false,
         last: returned,
-    }
+    })
 }
 
 // What a list gives: the last call's answer and checkpoint, the number of models, and the array whose first places were lent.
@@ -192,9 +198,14 @@ fn list_of(bytes: &[u8], v: Vector, last: Checkpoint) -> Filled
 }
 
 // Whether the vector's list gives what it must, and the checkpoint that it returned; a difference is printed.
-pub fn list_vector(bytes: &[u8], v: Vector, last: Checkpoint) -> Compared
+pub fn list_vector(
+    rt: &impl Print,
+    bytes: &[u8],
+    v: Vector,
+    last: Checkpoint,
+) -> io::Result<Compared>
     requires { Lies bytes.now v 125 }
-    ensures { Gives (list_agrees bytes.now v (checkpoint_values last)) (list_leaves bytes.now v (checkpoint_values last)) result }
+    ensures { IfOk result (Gives (list_agrees bytes.now v (checkpoint_values last)) (list_leaves bytes.now v (checkpoint_values last))) }
 {
     let output = v.output;
     let end = v.end;
@@ -210,17 +221,17 @@ pub fn list_vector(bytes: &[u8], v: Vector, last: Checkpoint) -> Compared
     let told = agree(wanted, got, wrong);
     let other = other_place(bytes, output, models, fill, array);
     if list_agree(told, filled.count, models, other) {
-        return Compared {
+        return Ok(Compared {
             agrees: true,
             last: returned,
-        };
+        });
     }
-    report_call(v.number, wanted, got);
-    report::numbers(b"models", models as u64, filled.count as u64);
-    report::numbers(b"first other model", 256, other as u64);
-    report_byte(bytes, at, returned, wrong);
-    Compared {
+    report_call(rt, v.number, wanted, got)?;
+    report::numbers(rt, "models", models as u64, filled.count as u64)?;
+    report::numbers(rt, "first other model", 256, other as u64)?;
+    report_byte(rt, bytes, at, returned, wrong)?;
+    Ok(Compared {
         agrees: false,
         last: returned,
-    }
+    })
 }

@@ -53,84 +53,87 @@ mod waiting;
 mod walking;
 mod weighing;
 
-ghost use Rattle.std.specs.Prelude.{◌<◌, length};
+ghost use Rattle.std.specs.Prelude.{IfOk};
 ghost use Rattle.cases.specs.Runs.{AfterFile};
 ghost use Rattle.vectors.specs.Totals.{RoomFor};
 
 use runs::{Act, run_all};
+use std::rt::Files;
+use std::{fs, io};
 use vectors::totals::Totals;
 use vectors::{report, totals};
 
+// So many bytes of a file are read.
+const MAX_FILE: usize = 65536;
+
 // The vectors of one file, counted on from the totals so far.
-fn run_file(t: Totals, name: &[u8], act: Act) -> Totals
+fn run_file<R: Files + Print>(rt: &R, t: Totals, name: &str, act: Act) -> io::Result<Totals>
     requires { RoomFor 65536 t }
-    ensures { AfterFile act t result }
+    ensures { IfOk result (AfterFile act t) }
 {
-    let file = os::open_read(name);
-    if file < 0 {
-        return t;
-    }
-    let mut buffer = io::large_buffer();
-    let n = io::read_full(file, &mut buffer);
-    libc::close(file);
-    let run = run_all(&buffer[..n], act, t);
+    let mut file = match fs::open(rt, name) {
+        Ok(file) => file,
+        Err(e) if e.kind() == io::ErrorKind::NotFound => return Ok(t),
+        Err(e) => return Err(e),
+    };
+    let mut buffer = [0u8; MAX_FILE];
+    let n = reading::read_full(&mut file, &mut buffer)?;
+    let run = run_all(rt, &buffer[..n], act, t)?;
     if run.at < n {
-        report::broken(name, run.at);
+        report::broken(rt, name, run.at)?;
     }
-    run.totals
+    Ok(run.totals)
 }
 
 // The files of an act, whose names end in a, b and so on up to z, and then the line that sums them up.
-fn run_files(name: &[u8], act: Act, unit: &[u8])
-    requires { length name.now < 16 }
-{
-    let mut path = [0u8; 16];
-    let end = name.len();
-    path[..end].copy_from_slice(name);
+fn run_files<R: Files + Print + Alloc>(rt: &R, name: &str, act: Act, unit: &str) -> io::Result<()> {
     let mut t = totals::none();
-    let mut i: u8 = 0;
-    while i < 26 {
-        path[end] = b'a' + i;
-        t = run_file(t, &path[..end + 1], act);
-        i += 1;
+    for letter in 'a'..='z' {
+        let path = format!(in rt.alloc(); "{name}{letter}")?;
+        t = run_file(rt, t, path.as_str(), act)?;
     }
-    report::summary(name, unit, t);
+    report::summary(rt, name, unit, t)
 }
 
 // A file of its own, and its line.
-fn run_alone(name: &[u8], act: Act) {
-    report::summary(name, b"vectors", run_file(totals::none(), name, act));
+fn run_alone(rt: &(impl Files + Print), name: &str, act: Act) -> io::Result<()> {
+    report::summary(
+        rt,
+        name,
+        "vectors",
+        run_file(rt, totals::none(), name, act)?,
+    )
 }
 
-fn main() {
-    run_files(b"check", Act::Check, b"vectors");
-    run_alone(b"check_edges", Act::Check);
-    run_files(b"judge", Act::Judge, b"vectors");
-    run_alone(b"judge_edges", Act::Judge);
-    run_alone(b"judge_assumed", Act::Judge);
-    run_files(b"weigh", Act::Weigh, b"vectors");
-    run_alone(b"weigh_edges", Act::Weigh);
-    run_alone(b"weigh_assumed", Act::Weigh);
-    run_files(b"deficiency", Act::Deficiency, b"vectors");
-    run_alone(b"deficiency_edges", Act::Deficiency);
-    run_files(b"read_text", Act::ReadText, b"vectors");
-    run_alone(b"read_text_edges", Act::ReadText);
-    run_files(b"write_text", Act::WriteText, b"vectors");
-    run_alone(b"write_text_edges", Act::WriteText);
-    run_alone(b"start", Act::Start);
-    run_files(b"walk", Act::Walk, b"vectors");
-    run_alone(b"walk_edges", Act::Walk);
-    run_alone(b"walk_assumed", Act::Walk);
-    run_files(b"chain", Act::Walk, b"calls");
-    run_files(b"wait", Act::Wait, b"chains");
-    run_alone(b"wait_edges", Act::Wait);
-    run_files(b"listing", Act::Listing, b"calls");
-    run_files(b"list", Act::Models, b"vectors");
-    run_alone(b"list_edges", Act::Models);
-    run_files(b"page", Act::Page, b"vectors");
-    run_alone(b"page_edges", Act::Page);
-    run_files(b"printed", Act::Print, b"vectors");
-    run_alone(b"printed_edges", Act::Print);
-    run_files(b"formulas", Act::Compare, b"vectors");
-    run_alone(b"formulas_edges", Act::Compare);
+fn main(rt: HostRuntime) -> io::Result<()> {
+    run_files(&rt, "check", Act::Check, "vectors")?;
+    run_alone(&rt, "check_edges", Act::Check)?;
+    run_files(&rt, "judge", Act::Judge, "vectors")?;
+    run_alone(&rt, "judge_edges", Act::Judge)?;
+    run_alone(&rt, "judge_assumed", Act::Judge)?;
+    run_files(&rt, "weigh", Act::Weigh, "vectors")?;
+    run_alone(&rt, "weigh_edges", Act::Weigh)?;
+    run_alone(&rt, "weigh_assumed", Act::Weigh)?;
+    run_files(&rt, "deficiency", Act::Deficiency, "vectors")?;
+    run_alone(&rt, "deficiency_edges", Act::Deficiency)?;
+    run_files(&rt, "read_text", Act::ReadText, "vectors")?;
+    run_alone(&rt, "read_text_edges", Act::ReadText)?;
+    run_files(&rt, "write_text", Act::WriteText, "vectors")?;
+    run_alone(&rt, "write_text_edges", Act::WriteText)?;
+    run_alone(&rt, "start", Act::Start)?;
+    run_files(&rt, "walk", Act::Walk, "vectors")?;
+    run_alone(&rt, "walk_edges", Act::Walk)?;
+    run_alone(&rt, "walk_assumed", Act::Walk)?;
+    run_files(&rt, "chain", Act::Walk, "calls")?;
+    run_files(&rt, "wait", Act::Wait, "chains")?;
+    run_alone(&rt, "wait_edges", Act::Wait)?;
+    run_files(&rt, "listing", Act::Listing, "calls")?;
+    run_files(&rt, "list", Act::Models, "vectors")?;
+    run_alone(&rt, "list_edges", Act::Models)?;
+    run_files(&rt, "page", Act::Page, "vectors")?;
+    run_alone(&rt, "page_edges", Act::Page)?;
+    run_files(&rt, "printed", Act::Print, "vectors")?;
+    run_alone(&rt, "printed_edges", Act::Print)?;
+    run_files(&rt, "formulas", Act::Compare, "vectors")?;
+    run_alone(&rt, "formulas_edges", Act::Compare)
 }

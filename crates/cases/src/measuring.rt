@@ -1,10 +1,11 @@
 // The vectors of deficiency: each answer compared with the expected one.
-ghost use Rattle.std.specs.Prelude.{◌≡◌};
+ghost use Rattle.std.specs.Prelude.{◌≡◌, IfOk};
 ghost use Rattle.matched.specs.Deficiency.{measured_values};
 ghost use Rattle.vectors.specs.Corpus.{Lies};
 ghost use Rattle.cases.specs.Measuring.{deficiency_written, deficiency_agrees};
 
 use matched::Measured;
+use std::io;
 use vectors::answers::{Answer, equal, expected_at, refusal_answer};
 use vectors::corpus::Vector;
 use vectors::report;
@@ -26,17 +27,17 @@ fn answer_of(m: Measured) -> Answer
 }
 
 // Whether deficiency gives the expected answer; a difference is printed.
-pub fn deficiency_vector(bytes: &[u8], v: Vector) -> bool
+pub fn deficiency_vector(rt: &impl Print, bytes: &[u8], v: Vector) -> io::Result<bool>
     requires { Lies bytes.now v 6 }
-    ensures { result ≡ deficiency_agrees bytes.now v }
+    ensures { IfOk result (λ agrees. agrees ≡ deficiency_agrees bytes.now v) }
 {
     let start = v.start;
     let middle = v.middle;
     let wanted = expected_at(bytes, v.end);
     let got = answer_of(matched::deficiency(&bytes[start..middle]));
     if equal(wanted, got) {
-        return true;
+        return Ok(true);
     }
-    report::difference(v.number, wanted, got);
-    false
+    report::difference(rt, v.number, wanted, got)?;
+    Ok(false)
 }

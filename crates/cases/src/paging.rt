@@ -1,5 +1,5 @@
 // The vectors of pages: each answer, checkpoint and lent page compared with the expected ones.
-ghost use Rattle.std.specs.Prelude.{◌+◌, ◌≤◌, ◌≡◌, length};
+ghost use Rattle.std.specs.Prelude.{◌+◌, ◌≤◌, ◌≡◌, length, IfOk};
 ghost use Rattle.enumeration.specs.Values.{checkpoint_values};
 ghost use Rattle.page.specs.Pages.{page_values, page_call, page_told};
 ghost use Rattle.vectors.specs.Corpus.{input_of, Lies};
@@ -13,6 +13,7 @@ use crate::lending::page_two;
 use crate::walking::{CHECKPOINT_SIZE, Compared, call_origin, checkpoint_wrong, report_byte};
 use enumeration::Checkpoint;
 use page::{PageAnswer, Paged};
+use std::io;
 use vectors::answers::{Answer, expected_at, refusal_answer};
 use vectors::comparing::{agree, wanted_byte};
 use vectors::corpus::{Vector, four_bytes, two_bytes};
@@ -119,10 +120,17 @@ fn page_of(bytes: &[u8], v: Vector, last: Checkpoint, page: &mut [u8]) -> Paged
 }
 
 // Whether the page, in a slice with the fill everywhere, gives what it must, and the checkpoint that it returned; a difference is printed.
-fn compare_page(bytes: &[u8], v: Vector, last: Checkpoint, fill: u8, page: &mut [u8]) -> Compared
+fn compare_page(
+    rt: &impl Print,
+    bytes: &[u8],
+    v: Vector,
+    last: Checkpoint,
+    fill: u8,
+    page: &mut [u8],
+) -> io::Result<Compared>
     requires { Lies bytes.now v 114 }
-    ensures { Gives (pages bytes.now v (checkpoint_values last) fill page.old)
-        (paged bytes.now v (checkpoint_values last) page.old).checkpoint result }
+    ensures { IfOk result (Gives (pages bytes.now v (checkpoint_values last) fill page.old)
+        (paged bytes.now v (checkpoint_values last) page.old).checkpoint) }
 {
     let output = v.output;
     let end = v.end;
@@ -137,34 +145,40 @@ fn compare_page(bytes: &[u8], v: Vector, last: Checkpoint, fill: u8, page: &mut 
     let other = checkpoint_wrong(bytes, at, returned);
     let wrong = first_amiss(bytes, output, kept, size, fill, page);
     if page_agree(wanted, got, other, wrong, page.len()) {
-        return Compared {
+        return Ok(Compared {
             agrees: true,
             last: returned,
-        };
+        });
     }
-    report::difference(v.number, wanted, got);
-    report_byte(bytes, at, returned, other);
+    report::difference(rt, v.number, wanted, got)?;
+    report_byte(rt, bytes, at, returned, other)?;
     if wrong < page.len() {
         report::wrong_byte(
+            rt,
             wrong,
             page_byte(bytes, output, kept, size, fill, wrong),
             page[wrong],
-        );
+        )?;
     }
-    Compared {
+    Ok(Compared {
         agrees: false,
         last: returned,
-    }
+    })
 }
 
 // Whether the vector's page gives what it must, and the checkpoint that it returned.
-pub fn page_vector(bytes: &[u8], v: Vector, last: Checkpoint) -> Compared
+pub fn page_vector(
+    rt: &impl Print,
+    bytes: &[u8],
+    v: Vector,
+    last: Checkpoint,
+) -> io::Result<Compared>
     requires { Lies bytes.now v 114 }
-    ensures { Gives (page_agrees bytes.now v (checkpoint_values last)) (page_leaves bytes.now v (checkpoint_values last)) result }
+    ensures { IfOk result (Gives (page_agrees bytes.now v (checkpoint_values last)) (page_leaves bytes.now v (checkpoint_values last))) }
 {
     let end = v.end;
     let size = two_bytes(bytes, end + 111) as usize;
     let fill = bytes[end + 113];
     let mut array = filled(fill);
-    compare_page(bytes, v, last, fill, &mut array[..size])
+    compare_page(rt, bytes, v, last, fill, &mut array[..size])
 }

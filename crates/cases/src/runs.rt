@@ -1,5 +1,5 @@
 // The vectors of a file, each by its act.
-ghost use Rattle.std.specs.Prelude.{◌≤◌, length};
+ghost use Rattle.std.specs.Prelude.{◌≤◌, length, IfOk};
 ghost use Rattle.enumeration.specs.Values.{checkpoint_values};
 ghost use Rattle.vectors.specs.Corpus.{Lies};
 ghost use Rattle.cases.specs.Runs.{size_of, FieldsOf, act_agrees, leaves, Ran};
@@ -17,6 +17,7 @@ use crate::waiting::wait_vector;
 use crate::walking::{CHECKPOINT_SIZE, Compared, start_vector, walk_vector};
 use crate::weighing::weigh_vector;
 use enumeration::Checkpoint;
+use std::io;
 use vectors::checking::check_vector;
 use vectors::corpus::{Framed, Vector, frame};
 use vectors::totals;
@@ -70,62 +71,68 @@ fn fields_of(act: Act) -> usize
 }
 
 // Whether the act gives what the vector expects, and the checkpoint of the last walk call; a difference is printed.
-fn run_vector(bytes: &[u8], v: Vector, act: Act, last: Checkpoint) -> Compared
+fn run_vector(
+    rt: &impl Print,
+    bytes: &[u8],
+    v: Vector,
+    act: Act,
+    last: Checkpoint,
+) -> io::Result<Compared>
     requires { Lies bytes.now v (size_of act) × (length bytes.now ≤ 65536) }
-    ensures { Gives (act_agrees act bytes.now v (checkpoint_values last)) (leaves act bytes.now v (checkpoint_values last)) result }
+    ensures { IfOk result (Gives (act_agrees act bytes.now v (checkpoint_values last)) (leaves act bytes.now v (checkpoint_values last))) }
 {
     match act {
-        Act::Check => Compared {
-            agrees: check_vector(bytes, v),
+        Act::Check => Ok(Compared {
+            agrees: check_vector(rt, bytes, v)?,
             last,
-        },
-        Act::Judge => Compared {
-            agrees: judge_vector(bytes, v),
+        }),
+        Act::Judge => Ok(Compared {
+            agrees: judge_vector(rt, bytes, v)?,
             last,
-        },
-        Act::Weigh => Compared {
-            agrees: weigh_vector(bytes, v),
+        }),
+        Act::Weigh => Ok(Compared {
+            agrees: weigh_vector(rt, bytes, v)?,
             last,
-        },
-        Act::Deficiency => Compared {
-            agrees: deficiency_vector(bytes, v),
+        }),
+        Act::Deficiency => Ok(Compared {
+            agrees: deficiency_vector(rt, bytes, v)?,
             last,
-        },
-        Act::ReadText => Compared {
-            agrees: convert_vector(bytes, v, true),
+        }),
+        Act::ReadText => Ok(Compared {
+            agrees: convert_vector(rt, bytes, v, true)?,
             last,
-        },
-        Act::WriteText => Compared {
-            agrees: convert_vector(bytes, v, false),
+        }),
+        Act::WriteText => Ok(Compared {
+            agrees: convert_vector(rt, bytes, v, false)?,
             last,
-        },
-        Act::Start => Compared {
-            agrees: start_vector(bytes, v),
+        }),
+        Act::Start => Ok(Compared {
+            agrees: start_vector(rt, bytes, v)?,
             last,
-        },
-        Act::Walk => walk_vector(bytes, v, last),
-        Act::Wait => Compared {
-            agrees: wait_vector(bytes, v),
+        }),
+        Act::Walk => walk_vector(rt, bytes, v, last),
+        Act::Wait => Ok(Compared {
+            agrees: wait_vector(rt, bytes, v)?,
             last,
-        },
-        Act::Listing => listing_vector(bytes, v, last),
-        Act::Models => list_vector(bytes, v, last),
-        Act::Page => page_vector(bytes, v, last),
-        Act::Compare => Compared {
-            agrees: compare_vector(bytes, v),
+        }),
+        Act::Listing => listing_vector(rt, bytes, v, last),
+        Act::Models => list_vector(rt, bytes, v, last),
+        Act::Page => page_vector(rt, bytes, v, last),
+        Act::Compare => Ok(Compared {
+            agrees: compare_vector(rt, bytes, v)?,
             last,
-        },
-        Act::Print => Compared {
-            agrees: print_vector(bytes, v),
+        }),
+        Act::Print => Ok(Compared {
+            agrees: print_vector(rt, bytes, v)?,
             last,
-        },
+        }),
     }
 }
 
 // All vectors of a file, up to one that runs past its end, counted on from the totals so far.
-pub fn run_all(bytes: &[u8], act: Act, t: Totals) -> Run
+pub fn run_all(rt: &impl Print, bytes: &[u8], act: Act, t: Totals) -> io::Result<Run>
     requires { RoomFor (length bytes.now) t × (length bytes.now ≤ 65536) }
-    ensures { Ran act bytes.now t result }
+    ensures { IfOk result (Ran act bytes.now t) }
 {
     let fields = fields_of(act);
     let mut at: usize = 0;
@@ -134,15 +141,15 @@ pub fn run_all(bytes: &[u8], act: Act, t: Totals) -> Run
     while at < bytes.len() {
         match frame(bytes, at, fields) {
             Framed::Broken => {
-                return Run { at, totals: counts };
+                return Ok(Run { at, totals: counts });
             }
             Framed::Whole(v) => {
-                let compared = run_vector(bytes, v, act, last);
+                let compared = run_vector(rt, bytes, v, act, last)?;
                 counts = totals::count(counts, compared.agrees);
                 last = compared.last;
                 at = v.end + fields;
             }
         }
     }
-    Run { at, totals: counts }
+    Ok(Run { at, totals: counts })
 }

@@ -1,6 +1,6 @@
 // The vectors of waits: the calls of a chain, and the steps to the first model, between two models and to the end compared with the trails
 // of these.
-ghost use Rattle.std.specs.Prelude.{◌+◌, ◌-◌, ◌*◌, ◌<◌, ◌≤◌, ◌^◌, ◌&&◌, [], ◌≡◌, eqb, length};
+ghost use Rattle.std.specs.Prelude.{◌+◌, ◌-◌, ◌*◌, ◌<◌, ◌≤◌, ◌^◌, ◌&&◌, [], ◌≡◌, eqb, length, IfOk};
 ghost use Rattle.walk.specs.Checkpoints.{byte_number, byte_literal};
 ghost use Rattle.walk.specs.Gaps.{same_literal, shared};
 ghost use Rattle.enumeration.specs.Values.{walked_values};
@@ -9,6 +9,7 @@ ghost use Rattle.cases.specs.Waiting.{checkpoint_trail, LengthOf, due, tallied_i
 
 use crate::walking::call_from;
 use enumeration::{Answer, Checkpoint, Walked};
+use std::io;
 use vectors::corpus::{Vector, four_bytes, wide};
 use vectors::report;
 
@@ -238,18 +239,18 @@ fn all_right(w: Waits) -> bool
 }
 
 // Whether the waits of the vector's calls are right, and as many are over as it says; a difference is printed.
-pub fn wait_vector(bytes: &[u8], v: Vector) -> bool
+pub fn wait_vector(rt: &impl Print, bytes: &[u8], v: Vector) -> io::Result<bool>
     requires { Lies bytes.now v 4 × (length bytes.now ≤ 65536) }
-    ensures { result ≡ waits_agree bytes.now v }
+    ensures { IfOk result (λ agrees. agrees ≡ waits_agree bytes.now v) }
 {
     let end = v.end;
     let wanted = four_bytes(bytes, end);
     let w = waits_of(bytes, v);
     let got = w.closed;
     if both(all_right(w), got == wanted) {
-        return true;
+        return Ok(true);
     }
-    report::other_waits(v.number);
-    report::numbers(b"waits over", wanted, got);
-    false
+    report::other_waits(rt, v.number)?;
+    report::numbers(rt, "waits over", wanted, got)?;
+    Ok(false)
 }

@@ -1,5 +1,5 @@
 // The vectors of start and walk: each answer and checkpoint compared with the expected ones.
-ghost use Rattle.std.specs.Prelude.{◌+◌, ◌<◌, ◌≤◌, ◌∷◌, ◌≡◌, length, get_or, take, drop};
+ghost use Rattle.std.specs.Prelude.{◌+◌, ◌<◌, ◌≤◌, ◌∷◌, ◌≡◌, length, get_or, take, drop, IfOk};
 ghost use Rattle.limits.specs.Limits.{max_variables};
 ghost use Rattle.enumeration.specs.Values.{checkpoint_values, walked_values};
 ghost use Rattle.walk.specs.WalkCall.{walk_call};
@@ -10,6 +10,7 @@ ghost use Rattle.cases.specs.Walking.{walk_written, expected_call, stored_checkp
 use crate::assuming::{are_two, assumed, assumption_at};
 use crate::lending::walk_two;
 use enumeration::{Checkpoint, Walked};
+use std::io;
 use vectors::answers::{Answer, bare, equal, expected_at, refusal_answer};
 use vectors::comparing::first_wrong;
 use vectors::corpus::{Vector, eight_bytes, four_bytes};
@@ -194,43 +195,55 @@ pub fn checkpoint_wrong(bytes: &[u8], at: usize, c: Checkpoint) -> usize
     2 + first_wrong(bytes, at + 2, limits::MAX_VARIABLES, 0, &trail)
 }
 
-pub fn report_byte(bytes: &[u8], at: usize, c: Checkpoint, wrong: usize)
+pub fn report_byte(
+    rt: &impl Print,
+    bytes: &[u8],
+    at: usize,
+    c: Checkpoint,
+    wrong: usize,
+) -> io::Result<()>
     requires { at + stored_checkpoint_size ≤ length bytes.now }
 {
     if wrong < CHECKPOINT_SIZE {
-        report::wrong_byte(wrong, bytes[at + wrong], checkpoint_byte(c, wrong));
+        report::wrong_byte(rt, wrong, bytes[at + wrong], checkpoint_byte(c, wrong))?;
     }
+    Ok(())
 }
 
-pub fn report_call(vector: u64, wanted: Told, got: Told) {
+pub fn report_call(rt: &impl Print, vector: u64, wanted: Told, got: Told) -> io::Result<()> {
     let wanted_answer = wanted.answer;
     let answer = got.answer;
-    report::difference(vector, wanted_answer, answer);
-    report::numbers(b"model", wanted.model, got.model);
-    report::numbers(b"steps", wanted.steps, got.steps);
-    report::numbers(b"expansions", wanted.expansions, got.expansions);
+    report::difference(rt, vector, wanted_answer, answer)?;
+    report::numbers(rt, "model", wanted.model, got.model)?;
+    report::numbers(rt, "steps", wanted.steps, got.steps)?;
+    report::numbers(rt, "expansions", wanted.expansions, got.expansions)
 }
 
 // Whether the start checkpoint is the expected one; a difference is printed.
-pub fn start_vector(bytes: &[u8], v: Vector) -> bool
+pub fn start_vector(rt: &impl Print, bytes: &[u8], v: Vector) -> io::Result<bool>
     requires { v.end + stored_checkpoint_size ≤ length bytes.now }
-    ensures { result ≡ start_agrees bytes.now v }
+    ensures { IfOk result (λ agrees. agrees ≡ start_agrees bytes.now v) }
 {
     let end = v.end;
     let c = enumeration::start_checkpoint();
     let wrong = checkpoint_wrong(bytes, end, c);
     if wrong == CHECKPOINT_SIZE {
-        return true;
+        return Ok(true);
     }
-    report::other_checkpoint(v.number);
-    report_byte(bytes, end, c, wrong);
-    false
+    report::other_checkpoint(rt, v.number)?;
+    report_byte(rt, bytes, end, c, wrong)?;
+    Ok(false)
 }
 
 // Whether the vector's call gives what it must, and the checkpoint that it returned; a difference is printed.
-pub fn walk_vector(bytes: &[u8], v: Vector, last: Checkpoint) -> Compared
+pub fn walk_vector(
+    rt: &impl Print,
+    bytes: &[u8],
+    v: Vector,
+    last: Checkpoint,
+) -> io::Result<Compared>
     requires { Lies bytes.now v 127 }
-    ensures { Gives (walk_agrees bytes.now v (checkpoint_values last)) (walk_leaves bytes.now v (checkpoint_values last)) result }
+    ensures { IfOk result (Gives (walk_agrees bytes.now v (checkpoint_values last)) (walk_leaves bytes.now v (checkpoint_values last))) }
 {
     let end = v.end;
     let wanted = expected_call(bytes, end);
@@ -239,15 +252,15 @@ pub fn walk_vector(bytes: &[u8], v: Vector, last: Checkpoint) -> Compared
     let returned = walked.checkpoint;
     let wrong = checkpoint_wrong(bytes, end + 22, returned);
     if agree(wanted, got, wrong) {
-        return Compared {
+        return Ok(Compared {
             agrees: true,
             last: returned,
-        };
+        });
     }
-    report_call(v.number, wanted, got);
-    report_byte(bytes, end + 22, returned, wrong);
-    Compared {
+    report_call(rt, v.number, wanted, got)?;
+    report_byte(rt, bytes, end + 22, returned, wrong)?;
+    Ok(Compared {
         agrees: false,
         last: returned,
-    }
+    })
 }

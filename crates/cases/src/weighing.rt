@@ -1,5 +1,5 @@
 // The vectors of weigh: each answer compared with the expected one.
-ghost use Rattle.std.specs.Prelude.{◌+◌, ◌≤◌, ◌≡◌, length};
+ghost use Rattle.std.specs.Prelude.{◌+◌, ◌≤◌, ◌≡◌, length, IfOk};
 ghost use Rattle.limits.specs.Limits.{max_clauses};
 ghost use Rattle.matched.specs.Weigh.{weighed_values, weighed};
 ghost use Rattle.vectors.specs.Corpus.{input_of, Lies};
@@ -10,6 +10,7 @@ use crate::assuming::{are_two, assumed, assumption_at};
 use crate::judging::filled;
 use crate::lending::weigh_two;
 use matched::Weighed;
+use std::io;
 use vectors::answers::{Answer, equal, expected_at, refusal_answer};
 use vectors::corpus::{Vector, wide};
 use vectors::report;
@@ -57,9 +58,9 @@ fn weigh_given(bytes: &[u8], v: Vector, buffer: &[u8]) -> Weighed
 }
 
 // Whether weigh gives the expected answer; a difference is printed.
-pub fn weigh_vector(bytes: &[u8], v: Vector) -> bool
+pub fn weigh_vector(rt: &impl Print, bytes: &[u8], v: Vector) -> io::Result<bool>
     requires { Lies bytes.now v 104 }
-    ensures { result ≡ weigh_agrees bytes.now v }
+    ensures { IfOk result (λ agrees. agrees ≡ weigh_agrees bytes.now v) }
 {
     let end = v.end;
     let wanted = expected_at(bytes, end);
@@ -67,8 +68,8 @@ pub fn weigh_vector(bytes: &[u8], v: Vector) -> bool
     let array = lent_array(bytes, end + 8, bytes[end + 7]);
     let got = answer_of(weigh_given(bytes, v, &array[..size]));
     if equal(wanted, got) {
-        return true;
+        return Ok(true);
     }
-    report::difference(v.number, wanted, got);
-    false
+    report::difference(rt, v.number, wanted, got)?;
+    Ok(false)
 }

@@ -4,10 +4,15 @@
 // large as the input that list_models takes.
 #![tactic(auto)]
 
-fn main() {
-    let mut text = io::large_buffer();
-    let n = io::read_full(0, &mut text);
+use std::io;
+
+// The longest text that is read.
+const MAX_TEXT: usize = 65536;
+
+fn main(rt: HostRuntime) -> io::Result<()> {
+    let mut text = [0u8; MAX_TEXT];
+    let n = reading::read_full(&mut rt.reader(), &mut text)?;
     let mut buffer = [0u8; printing::MAX_INPUT];
     let converted = dimacs::read(&text[..n], &mut buffer);
-    filters::put_converted(converted, &buffer);
+    filters::put_converted(&rt.stdout(), &rt.stderr(), converted, &buffer)
 }

@@ -3,10 +3,15 @@
 // It reads as many bytes as `print` takes.
 #![tactic(auto)]
 
-fn main() {
+use std::io;
+
+// Room for the print.
+const ROOM: usize = 65536;
+
+fn main(rt: HostRuntime) -> io::Result<()> {
     let mut input = [0u8; printing::MAX_INPUT];
-    let n = io::read_full(0, &mut input);
-    let mut buffer = io::large_buffer();
+    let n = reading::read_full(&mut rt.reader(), &mut input)?;
+    let mut buffer = [0u8; ROOM];
     let count = printing::print(&input[..n], &mut buffer);
-    io::write_all(1, &buffer[..count]);
+    rt.stdout().write_all(&buffer[..count])
 }

@@ -14,9 +14,13 @@ ghost use Rattle.print_pages.specs.InnerParts.{PutPage};
 
 use enumeration::Checkpoint;
 use page::{PageAnswer, Paged};
+use std::io;
 
 // The most pages that are printed.
 const MAX_PAGES: usize = 20;
+
+// Room for the pages.
+const ROOM: usize = 65536;
 
 // A page without assumptions, in the 3,000 bytes from an offset on.
 fn put_page(
@@ -66,10 +70,10 @@ fn put_pages(input: &[u8], buffer: &mut [u8]) -> usize
     from
 }
 
-fn main() {
+fn main(rt: HostRuntime) -> io::Result<()> {
     let mut input = [0u8; printing::MAX_INPUT];
-    let n = io::read_full(0, &mut input);
-    let mut buffer = io::large_buffer();
+    let n = reading::read_full(&mut rt.reader(), &mut input)?;
+    let mut buffer = [0u8; ROOM];
     let count = put_pages(&input[..n], &mut buffer);
-    io::write_all(1, &buffer[..count]);
+    rt.stdout().write_all(&buffer[..count])
 }

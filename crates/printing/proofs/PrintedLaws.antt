@@ -10,7 +10,7 @@ use Rattle.limits.specs.Limits.{max_variables}
 use Rattle.formula.specs.declared.Refusal.{Refusal}
 use Rattle.formula.specs.declared.Refusal.TheVariants.{Unmatched}
 use Rattle.formula.specs.InnerDecode.{decode}
-use Rattle.formula.specs.Decoding.{refused}
+use Rattle.formula.specs.Decoding.{readable, refused}
 use Rattle.formula.specs.Format.{Literal, Encodes}
 use Rattle.formula.specs.Masked.{variables}
 use Rattle.formula.specs.Refusals.{table_row}
@@ -21,7 +21,7 @@ use Rattle.matching.proofs.SelectedLaws.{selected_few}
 use Rattle.splitting.specs.Nodes.{remaining}
 use Rattle.matched.specs.Acceptance.{Acceptance, accepted, declined, acceptance}
 use Rattle.matched.specs.Pairing.{Pairs, left_of, marked}
-use Rattle.matched.proofs.AcceptanceLaws.{paired, strips, unpaired, AcceptedInput, Comes, of_formula, bad_assumed, unreadable, comes, accepted_is, left_accepted}
+use Rattle.matched.proofs.AcceptanceLaws.{FormulaComes, paired, strips, unpaired, AcceptedInput, Comes, of_formula, bad_assumed, unreadable, comes, accepted_is, left_accepted}
 use Rattle.walk.specs.Task.{Task, under, to_assign, visible, Posed}
 use Rattle.walk.specs.Checkpoints.{Checkpoint}
 use Rattle.walk.specs.PlainMachine.{Answer, found, spent, ended, plain_call, plain_calls, state_after}
@@ -122,14 +122,18 @@ refused_short s r e h =
 pub declined_short : (s : List ℕ) (r : Refusal) (row : List ℕ) → acceptance s [] ≡ declined r row → length s ≤ max_input → length (refusal_line r) ≤ 17
 declined_short s r row d h = by (comes s []) d
   where
-    by : {a : Acceptance} → Comes s [] a → a ≡ declined r row → length (refusal_line r) ≤ 17
-    by (of_formula n t cs reads assumes (paired vs w)) q = let z : ◌≡◌ {A = ℕ} 0 1 = cc in absurd (omega arith)
-    by (of_formula n t cs reads assumes (strips vs none w)) q = let z : ◌≡◌ {A = ℕ} 0 1 = cc in absurd (omega arith)
-    by (of_formula n t cs reads assumes (unpaired ms v none)) q =
+    of : (n : ℕ) (t : List Literal) (cs : List (List Literal)) → decode s ≡ readable n cs → {a : Acceptance} → FormulaComes n t cs a → a ≡ declined r row
+        → length (refusal_line r) ≤ 17
+    of n t cs reads (paired vs w) q = let z : ◌≡◌ {A = ℕ} 0 1 = cc in absurd (omega arith)
+    of n t cs reads (strips vs none w) q = let z : ◌≡◌ {A = ℕ} 0 1 = cc in absurd (omega arith)
+    of n t cs reads (unpaired ms v none) q =
         let e : Unmatched (length (marked ms cs)) ≡ r = cc in
         let f = (accepted_fits s n cs reads).few in
         let k = selected_few ms cs in
         rw (← e) (refused_line-length 10 (length (marked ms cs)) (omega arith) (omega arith))
+
+    by : {a : Acceptance} → Comes s [] a → a ≡ declined r row → length (refusal_line r) ≤ 17
+    by (of_formula n t cs reads assumes f) q = of n t cs reads f q
     by (bad_assumed n cs i reads assumes) q = let z : ◌≡◌ {A = ℕ} 0 1 = cc (no_assumptions n) in absurd (omega arith)
     by (unreadable t reads) q = let e : t ≡ r = cc in rw (← e) (refused_short s t reads h)
 

@@ -1,5 +1,5 @@
 // The vectors of check: each answer compared with the expected one.
-ghost use Rattle.std.specs.Prelude.{◌≡◌};
+ghost use Rattle.std.specs.Prelude.{◌≡◌, IfOk};
 ghost use Rattle.formula.specs.Check.{verdict_values};
 ghost use Rattle.vectors.specs.Checking.{check_written, check_agrees};
 ghost use Rattle.vectors.specs.Corpus.{Lies};
@@ -8,6 +8,7 @@ use crate::answers::{Answer, bare, equal, expected_at, refusal_answer};
 use crate::corpus::{Vector, eight_bytes};
 use crate::report;
 use formula::Verdict;
+use std::io;
 
 fn answer_of(v: Verdict) -> Answer
     ensures { result ≡ check_written (verdict_values v) }
@@ -20,9 +21,9 @@ fn answer_of(v: Verdict) -> Answer
 }
 
 // Whether check gives the expected answer; a difference is printed.
-pub fn check_vector(bytes: &[u8], v: Vector) -> bool
+pub fn check_vector(rt: &impl Print, bytes: &[u8], v: Vector) -> io::Result<bool>
     requires { Lies bytes.now v 14 }
-    ensures { result ≡ check_agrees bytes.now v }
+    ensures { IfOk result (λ agrees. agrees ≡ check_agrees bytes.now v) }
 {
     let start = v.start;
     let middle = v.middle;
@@ -30,8 +31,8 @@ pub fn check_vector(bytes: &[u8], v: Vector) -> bool
     let wanted = expected_at(bytes, end);
     let got = answer_of(formula::check(&bytes[start..middle], eight_bytes(bytes, end + 6)));
     if equal(wanted, got) {
-        return true;
+        return Ok(true);
     }
-    report::difference(v.number, wanted, got);
-    false
+    report::difference(rt, v.number, wanted, got)?;
+    Ok(false)
 }

@@ -1,123 +1,87 @@
 // The lines that the program `cases` prints.
 use crate::answers::Answer;
-use crate::corpus::wide;
 use crate::totals::Totals;
-use libc::STDOUT_FILENO;
+use std::fmt;
+use std::io;
 
-fn text(t: &[u8]) {
-    io::write_all(STDOUT_FILENO, t);
-}
-
-fn number(n: u64) {
-    io::print_decimal(STDOUT_FILENO, n);
-}
-
-fn says(n: u64) {
-    match n {
-        0 => text(b"no"),
-        1 => text(b"yes"),
-        2 => text(b"refused"),
-        3 => text(b"accepted"),
-        4 => text(b"model"),
-        5 => text(b"spent"),
-        6 => text(b"ended"),
-        7 => text(b"not compared"),
-        8 => text(b"models"),
-        9 => text(b"other models"),
-        10 => text(b"written"),
-        11 => text(b"filled"),
-        12 => text(b"counted"),
-        _ => text(b"unknown"),
+// What an answer says, in words.
+fn words_of(says: u64) -> &'static str {
+    match says {
+        0 => "no",
+        1 => "yes",
+        2 => "refused",
+        3 => "accepted",
+        4 => "model",
+        5 => "spent",
+        6 => "ended",
+        7 => "not compared",
+        8 => "models",
+        9 => "other models",
+        10 => "written",
+        11 => "filled",
+        12 => "counted",
+        _ => "unknown",
     }
 }
 
-fn answer(a: Answer) {
-    says(a.says);
-    text(b" ");
-    number(a.number);
-    text(b" ");
-    number(a.place);
-    text(b" ");
-    number(a.variables);
-    text(b" ");
-    number(a.clauses);
+impl fmt::Display for Answer {
+    fn fmt<W: fmt::Write>(&self, f: &mut fmt::Formatter<W>) -> fmt::Result {
+        let words = words_of(self.says);
+        let number = self.number;
+        let place = self.place;
+        let variables = self.variables;
+        let clauses = self.clauses;
+        write!(f, "{words} {number} {place} {variables} {clauses}")
+    }
 }
 
 // A vector that gives another answer, buffer or checkpoint than it expects.
-pub fn difference(vector: u64, wanted: Answer, got: Answer) {
-    text(b"vector ");
-    number(vector);
-    text(b": expected ");
-    answer(wanted);
-    text(b", got ");
-    answer(got);
-    text(b"\n");
+pub fn difference(rt: &impl Print, vector: u64, wanted: Answer, got: Answer) -> io::Result<()> {
+    println!(rt; "vector {vector}: expected {wanted}, got {got}")
 }
 
 // A vector that has no answer, and gives another checkpoint than it expects.
-pub fn other_checkpoint(vector: u64) {
-    text(b"vector ");
-    number(vector);
-    text(b": another checkpoint\n");
+pub fn other_checkpoint(rt: &impl Print, vector: u64) -> io::Result<()> {
+    println!(rt; "vector {vector}: another checkpoint")
 }
 
 // A vector whose calls have other steps between two models than their trails say, or another number of models.
-pub fn other_waits(vector: u64) {
-    text(b"vector ");
-    number(vector);
-    text(b": other waits\n");
+pub fn other_waits(rt: &impl Print, vector: u64) -> io::Result<()> {
+    println!(rt; "vector {vector}: other waits")
 }
 
 // A vector whose printed text is another from a byte on, counted from 0.
-pub fn other_text(vector: u64, at: usize, wanted: &[u8], got: &[u8]) {
-    text(b"vector ");
-    number(vector);
-    text(b": another text from byte ");
-    number(at as u64);
-    text(b" on, expected:\n");
-    text(wanted);
-    text(b"got:\n");
-    text(got);
+pub fn other_text(
+    rt: &impl Print,
+    vector: u64,
+    at: usize,
+    wanted: &[u8],
+    got: &[u8],
+) -> io::Result<()> {
+    println!(rt; "vector {vector}: another text from byte {at} on, expected:")?;
+    rt.write_all(wanted)?;
+    println!(rt; "got:")?;
+    rt.write_all(got)
 }
 
 // One of the vector's numbers.
-pub fn numbers(name: &[u8], wanted: u64, got: u64) {
-    text(b"  ");
-    text(name);
-    text(b": expected ");
-    number(wanted);
-    text(b", got ");
-    number(got);
-    text(b"\n");
+pub fn numbers(rt: &impl Print, name: &str, wanted: u64, got: u64) -> io::Result<()> {
+    println!(rt; "  {name}: expected {wanted}, got {got}")
 }
 
 // The first wrong byte of the vector's buffer or checkpoint, from 0.
-pub fn wrong_byte(at: usize, wanted: u8, got: u8) {
-    text(b"  byte ");
-    number(at as u64);
-    text(b": expected ");
-    number(wide(wanted));
-    text(b", got ");
-    number(wide(got));
-    text(b"\n");
+pub fn wrong_byte(rt: &impl Print, at: usize, wanted: u8, got: u8) -> io::Result<()> {
+    println!(rt; "  byte {at}: expected {wanted}, got {got}")
 }
 
 // A file whose vector at an offset runs past its end.
-pub fn broken(name: &[u8], at: usize) {
-    text(name);
-    text(b": broken at ");
-    number(at as u64);
-    text(b"\n");
+pub fn broken(rt: &impl Print, name: &str, at: usize) -> io::Result<()> {
+    println!(rt; "{name}: broken at {at}")
 }
 
 // How many vectors, or calls, were run.
-pub fn summary(name: &[u8], unit: &[u8], t: Totals) {
-    text(name);
-    text(b": ");
-    number(t.vectors);
-    text(b" ");
-    text(unit);
-    text(b", ");
-    number(t.differences);
-    text(b" differences\n");
+pub fn summary(rt: &impl Print, name: &str, unit: &str, t: Totals) -> io::Result<()> {
+    let vectors = t.vectors;
+    let differences = t.differences;
+    println!(rt; "{name}: {vectors} {unit}, {differences} differences")
 }

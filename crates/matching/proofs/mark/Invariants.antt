@@ -1,4 +1,4 @@
--- `mark` marks the first clauses of the queue.
+-- `mark`: the invariant is that the first i clauses of the queue are marked.
 use Rattle.limits.specs.Limits.{max_clauses}
 use Prim.Native.Nat.{◌≤◌, ◌-◌}
 use mathlib.Core.Path.{◌≡◌}

@@ -1,5 +1,4 @@
--- `rematch` is the definition's re-matching. The invariant: what is left to re-match gives what the whole gives. The measure is the number of
--- links from u back to the new clause.
+-- `rematch` is the definition's re-matching.
 use mathlib.Core.Path.{◌≡◌, refl, sym, ◌∙◌, ap, subst}
 use mathlib.Core.Logic.{◌⊎◌, ⊎_elim}
 use native.Mathlib.Numerals.{add-one}

@@ -53,13 +53,13 @@ put_end_line-requires c = end_room (goal.at.put_end_line-requires c).After-go_on
 
 pub shape_of-buffer-in-Ended : goal.shape_of-buffer-in-Ended
 shape_of-buffer-in-Ended c =
-    wrote_length (end_room (goal.at.shape_of-buffer-in-Ended c).After-go_on-r c.in-Ended.is) c.put_end_line.ensures ∙ c.loop-left.inv.0
+    wrote_length (end_room (goal.at.shape_of-buffer-in-Ended c).After-go_on-r c.in-Ended.is) c.put_end_line.ensures ∙ c.loop-left.invariant.0
 
 pub returns-in-Ended : goal.returns-in-Ended
 returns-in-Ended c =
     λ K F.
     let v = c.requires.room in
-    going_last _ _ _ _ _ _ _ _ _ (c.loop-left.inv.1 K F) _ _ _ (omega arith)
+    going_last _ _ _ _ _ _ _ _ _ (c.loop-left.invariant.1 K F) _ _ _ (omega arith)
     (lines_end _ c.args.f.variables c.args.mask _ c.loop-left.s _ (ran (goal.at.returns-in-Ended c).After-go_on-r K F) (omega arith) c.in-Ended.is) c.put_end_line.ensures
 
 pub shape_of-buffer-in-Spent : goal.shape_of-buffer-in-Spent
@@ -81,9 +81,9 @@ loop-left-preserved c =
     let m = c.in-Model.model in
     let e = c.in-Model.is in
     let w = c.put_model_line-next.ensures in (
-      wrote_length (model_room (goal.at.loop-left-preserved c).After-go_on-r m e) w ∙ c.loop-left.inv.0,
+      wrote_length (model_room (goal.at.loop-left-preserved c).After-go_on-r m e) w ∙ c.loop-left.invariant.0,
       λ K F.
-          going_more _ _ _ _ _ _ _ _ _ (c.loop-left.inv.1 K F)
+          going_more _ _ _ _ _ _ _ _ _ (c.loop-left.invariant.1 K F)
           (model_line c.args.f.variables c.args.mask m c.go_on-r.result.steps c.go_on-r.result.expansions) _ c.go_on-r.result.state _ (c.loop-left.left - 1) (omega arith) (ran (goal.at.loop-left-preserved c).After-go_on-r K F).holds
           (lines_model _ c.args.f.variables c.args.mask _ c.loop-left.s _ (ran (goal.at.loop-left-preserved c).After-go_on-r K F) (omega arith) m e) w,
     )

@@ -15,52 +15,54 @@ use Rattle.splitting.proofs.CompactLaws.{choice_passing, choice_noted, choice_ot
 use Rattle.splitting.proofs.choose_open.Goals.{After-compact-stripped, After-count_names-counts, After-open_node-count, After-reduce-r, After-survey_clauses-names}
 use Rattle.splitting.proofs.choose_open.Goals as goal
 
-abbrev whole : After-open_node-count → Formula
-whole o = o.args.f
+-- ---- what is left at the node
 
 abbrev held : After-open_node-count → Formula
 held o = formula_in o.open_node-count.new.positives o.open_node-count.new.negatives o.open_node-count.result
 
-small : (o : After-open_node-count) → Small (whole o)
-small o = o.requires.0
-
-node_small : (o : After-open_node-count) → Small (formula_at (whole o) o.args.a)
-node_small o = small_at (whole o) (small o) o.args.a
+node_small : (o : After-open_node-count) → Small (formula_at o.args.f o.args.a)
+node_small o = small_at o.args.f o.requires.0 o.args.a
 
 held_small : (o : After-open_node-count) → Small (held o)
 held_small o = rw o.open_node-count.ensures.kept (node_small o)
 
-surveyed : (c : After-survey_clauses-names) → c.survey_clauses-names.result ≡ survey_of (node (whole (goal.at.After-survey_clauses-names c).After-open_node-count) c.args.a)
+-- ---- its survey, and what stripping gives
+
+surveyed : (c : After-survey_clauses-names) → c.survey_clauses-names.result ≡ survey_of (node c.args.f c.args.a)
 surveyed c = c.survey_clauses-names.ensures ∙ ap (λ (g : Formula). survey_of g.clauses) c.open_node-count.ensures.kept
 
 reduced : (c : After-reduce-r)
-    → c.reduce-r.result ≡ reduce_from (whole (goal.at.After-reduce-r c).After-open_node-count).variables (formula_at (whole (goal.at.After-reduce-r c).After-open_node-count) c.args.a) unassigned 0 0
+    → c.reduce-r.result ≡ reduce_from c.args.f.variables (formula_at c.args.f c.args.a) unassigned 0 0
 reduced c =
-    c.reduce-r.ensures ∙ ap (λ (g : Formula). reduce_from (whole (goal.at.After-reduce-r c).After-open_node-count).variables g unassigned 0 0) c.open_node-count.ensures.kept
+    c.reduce-r.ensures ∙ ap (λ (g : Formula). reduce_from c.args.f.variables g unassigned 0 0) c.open_node-count.ensures.kept
 
 left : (c : After-compact-stripped)
     → formula_in c.compact-stripped.new.positives c.compact-stripped.new.negatives c.compact-stripped.result
-    ≡ formula_at (formula_at (whole (goal.at.After-compact-stripped c).After-open_node-count) c.args.a) c.reduce-r.result.assignment
+    ≡ formula_at (formula_at c.args.f c.args.a) c.reduce-r.result.assignment
 left c =
     c.compact-stripped.ensures.kept
     ∙ ap (λ (g : Formula). formula_at g c.reduce-r.result.assignment) c.open_node-count.ensures.kept
 
 left_small : (c : After-compact-stripped) → Small (formula_in c.compact-stripped.new.positives c.compact-stripped.new.negatives c.compact-stripped.result)
 left_small c =
-    rw (left c) (small_at (formula_at (whole (goal.at.After-compact-stripped c).After-open_node-count) c.args.a) (node_small (goal.at.After-compact-stripped c).After-open_node-count) c.reduce-r.result.assignment)
+    rw (left c) (small_at (formula_at c.args.f c.args.a) (node_small (goal.at.After-compact-stripped c).After-open_node-count) c.reduce-r.result.assignment)
 
+-- the order of trials, by what is counted
 tried_first : (c : After-count_names-counts)
     → by_count (count_at c.count_names-counts.result) 64 max_count
-    ≡ busiest_first (node (formula_at (whole (goal.at.After-count_names-counts c).After-open_node-count) c.args.a) c.reduce-r.result.assignment)
+    ≡ busiest_first (node (formula_at c.args.f c.args.a) c.reduce-r.result.assignment)
 tried_first c =
-    counted-first c.count_names-counts.result c.compact-stripped.new.positives c.compact-stripped.new.negatives c.compact-stripped.result (left_small (goal.at.After-count_names-counts c).After-compact-stripped).few c.count_names-counts.ensures
-    ∙ ap (λ (g : Formula). busiest_first g.clauses) (left (goal.at.After-count_names-counts c).After-compact-stripped)
+    let d = (goal.at.After-count_names-counts c).After-compact-stripped in
+    counted-first c.count_names-counts.result c.compact-stripped.new.positives c.compact-stripped.new.negatives c.compact-stripped.result
+    (left_small d).few c.count_names-counts.ensures
+    ∙ ap (λ (g : Formula). busiest_first g.clauses) (left d)
 
 last_below : (c : After-reduce-r) → c.reduce-r.result.last < 64
 last_below c =
-    rw (reduced c) (reduce_last (whole (goal.at.After-reduce-r c).After-open_node-count).variables (formula_at (whole (goal.at.After-reduce-r c).After-open_node-count) c.args.a) unassigned 0 0 (node_small (goal.at.After-reduce-r c).After-open_node-count) (omega arith))
+    rw (reduced c) (reduce_last c.args.f.variables (formula_at c.args.f c.args.a) unassigned 0 0 (node_small (goal.at.After-reduce-r c).After-open_node-count) (omega arith))
 
--- ---- the needs
+-- ---- the goals
+
 pub open_node-count-requires : goal.open_node-count-requires
 open_node-count-requires c = (c.requires.0, search rules, search rules)
 
@@ -83,10 +85,14 @@ first_passing-requires c = left_small (goal.at.first_passing-requires c).After-c
 
 pub returns-then-s : goal.returns-then-s
 returns-then-s c scope =
+    let k = (goal.at.returns-then-s c).After-count_names-counts in
+    let d = (goal.at.returns-then-s c).After-compact-stripped in
+    let r = (goal.at.returns-then-s c).After-reduce-r in
+    let n = (goal.at.returns-then-s c).After-survey_clauses-names in
     c.first_passing.ensures
-    ∙ ap₂ (λ (g : Formula) (vs : List ℕ). passing g unassigned vs 0) (left (goal.at.returns-then-s c).After-compact-stripped) (tried_first (goal.at.returns-then-s c).After-count_names-counts)
-    ∙ choice_passing (whole (goal.at.returns-then-s c).After-open_node-count) (small (goal.at.returns-then-s c).After-open_node-count) scope c.args.a c.survey_clauses-names.result (surveyed (goal.at.returns-then-s c).After-survey_clauses-names)
-    (rw (surveyed (goal.at.returns-then-s c).After-survey_clauses-names) c.requires.1) c.reduce-r.result (reduced (goal.at.returns-then-s c).After-reduce-r) c.if-s.true
+    ∙ ap₂ (λ (g : Formula) (vs : List ℕ). passing g unassigned vs 0) (left d) (tried_first k)
+    ∙ choice_passing c.args.f c.requires.0 scope c.args.a c.survey_clauses-names.result (surveyed n)
+    (rw (surveyed n) c.requires.1) c.reduce-r.result (reduced r) c.if-s.true
 
 pub last_listed-requires : goal.last_listed-requires
 last_listed-requires c =
@@ -94,10 +100,13 @@ last_listed-requires c =
 
 pub returns-then-others-eq0 : goal.returns-then-others-eq0
 returns-then-others-eq0 c scope =
+    let r = (goal.at.returns-then-others-eq0 c).After-reduce-r in
+    let n = (goal.at.returns-then-others-eq0 c).After-survey_clauses-names in
     c.last_listed.ensures
     ∙ ap (λ (g : Formula). listed_last g unassigned c.reduce-r.result.last) c.open_node-count.ensures.kept
-    ∙ choice_noted (whole (goal.at.returns-then-others-eq0 c).After-open_node-count) (small (goal.at.returns-then-others-eq0 c).After-open_node-count) scope c.args.a c.survey_clauses-names.result (surveyed (goal.at.returns-then-others-eq0 c).After-survey_clauses-names)
-    (rw (surveyed (goal.at.returns-then-others-eq0 c).After-survey_clauses-names) c.requires.1) c.reduce-r.result (reduced (goal.at.returns-then-others-eq0 c).After-reduce-r) c.if-s.false c.minus-others.result c.minus-others.ensures c.if-others-eq0.true
+    ∙ choice_noted c.args.f c.requires.0 scope c.args.a c.survey_clauses-names.result (surveyed n)
+    (rw (surveyed n) c.requires.1) c.reduce-r.result (reduced r) c.if-s.false c.minus-others.result c.minus-others.ensures
+    c.if-others-eq0.true
 
 pub last_listed-requires-2 : goal.last_listed-requires-2
 last_listed-requires-2 c =
@@ -105,7 +114,9 @@ last_listed-requires-2 c =
 
 pub returns : goal.returns
 returns c scope =
+    let r = (goal.at.returns c).After-reduce-r in
+    let n = (goal.at.returns c).After-survey_clauses-names in
     rw (c.last_listed-2.ensures, c.highest.ensures, c.open_node-count.ensures.kept)
-    (choice_other (whole (goal.at.returns c).After-open_node-count) (small (goal.at.returns c).After-open_node-count) scope c.args.a c.survey_clauses-names.result (surveyed (goal.at.returns c).After-survey_clauses-names)
-    (rw (surveyed (goal.at.returns c).After-survey_clauses-names) c.requires.1) c.reduce-r.result (reduced (goal.at.returns c).After-reduce-r) c.if-s.false c.minus-others.result c.minus-others.ensures
+    (choice_other c.args.f c.requires.0 scope c.args.a c.survey_clauses-names.result (surveyed n)
+    (rw (surveyed n) c.requires.1) c.reduce-r.result (reduced r) c.if-s.false c.minus-others.result c.minus-others.ensures
     (omega (arith, c.minus-others.type_inv)) c.if-others-eq0.false)

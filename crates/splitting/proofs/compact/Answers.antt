@@ -1,10 +1,8 @@
--- `compact` keeps what is left of the open clauses. The invariant: of the first i clauses it is written, and those from i on stand as
--- they were.
-use Prim.Native.Nat.{◌-◌}
+-- `compact` keeps what is left of the open clauses.
 use native.Mathlib.Omega.{arith}
 use mathlib.Core.Path.{◌≡◌, refl, sym, ◌∙◌}
 use borrow.Author.Rules.{rules}
-use lib.ListN.{length, length-set}
+use lib.ListN.{length-set}
 use Rattle.lists.specs.Tabulated.{tabulated}
 use Rattle.splitting.specs.InnerChoose.{clauses_in, open_clauses}
 use Rattle.splitting.proofs.OpenClauseLaws.{clause_read, clause_kept, formula_held, open_gone, keep_more}

@@ -1,5 +1,4 @@
--- `count_names` counts how many clauses name each variable. The invariant: those of the first i clauses are counted.
-use Prim.Native.Nat.{◌-◌}
+-- `count_names` counts how many clauses name each variable.
 use native.Mathlib.Omega.{arith}
 use mathlib.Core.Path.{◌≡◌, sym, ◌∙◌}
 use borrow.Author.Rules.{rules}

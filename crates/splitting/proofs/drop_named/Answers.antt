@@ -1,11 +1,9 @@
--- `drop_named` keeps the clauses that do not name v. The invariant: those of the first i are written, and the clauses from i on stand
--- as they were.
-use Prim.Native.Nat.{◌-◌}
+-- `drop_named` keeps the clauses that do not name v.
 use native.Mathlib.Omega.{arith}
 use mathlib.Core.Path.{◌≡◌, refl, sym, ◌∙◌}
 use borrow.Author.Rules.{rules}
-use lib.ListN.{length, length-set}
-use Rattle.splitting.specs.InnerChoose.{clauses_in, unnamed}
+use lib.ListN.{length-set}
+use Rattle.splitting.specs.InnerChoose.{clauses_in}
 use Rattle.splitting.proofs.OpenClauseLaws.{clause_read, clause_kept, unnamed_gone, unnamed_more}
 use Rattle.splitting.proofs.drop_named.Goals.{then-not-member, else-not-member}
 use Rattle.splitting.proofs.drop_named.Goals as goal

@@ -1,5 +1,4 @@
--- `first_named` passes the clauses that do not name v. The invariant: the first i are such.
-use Prim.Native.Nat.{◌-◌}
+-- `first_named` passes the clauses that do not name v.
 use native.Mathlib.Omega.{arith}
 use mathlib.Core.Path.{refl, sym, ap, ◌∙◌}
 use borrow.Author.Rules.{rules}

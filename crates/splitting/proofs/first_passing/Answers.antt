@@ -1,5 +1,4 @@
--- `first_passing` tries the busiest variables first. The invariant: what is left to try is a list in order, from here on the choice among
--- it is the whole one, and the trials' expansions are few.
+-- `first_passing` tries the busiest variables first.
 use Prim.Native.Nat.{ℕ, ◌^◌, ◌≤◌, ◌<◌}
 use native.Mathlib.Omega.{arith}
 use mathlib.Core.List.{List, [], ◌∷◌}
@@ -54,9 +53,11 @@ overflow_add-cost c =
 
 pub returns-then-t : goal.returns-then-t
 returns-then-t c =
+    let f = held (goal.at.returns-then-t c).Start in
+    let l = (goal.at.returns-then-t c).At-loop-rest in
     let b = behind (goal.at.returns-then-t c).After-busiest-v in
     c.both_open.ensures
-    ∙ sym (passing_found (held (goal.at.returns-then-t c).Start) unassigned (left (goal.at.returns-then-t c).At-loop-rest) b.0 c.loop-rest.cost c.busiest-v.result c.try_variable-t.result b.1 c.try_variable-t.ensures
+    ∙ sym (passing_found f unassigned (left l) b.0 c.loop-rest.cost c.busiest-v.result c.try_variable-t.result b.1 c.try_variable-t.ensures
     c.if-t.true)
     ∙ c.loop-rest.invariant.1.2
 
@@ -69,12 +70,14 @@ loop-rest-smaller c =
 
 pub loop-rest-preserved : goal.loop-rest-preserved
 loop-rest-preserved c =
+    let f = held (goal.at.loop-rest-preserved c).Start in
+    let l = (goal.at.loop-rest-preserved c).At-loop-rest in
     let b = behind (goal.at.loop-rest-preserved c).After-busiest-v in (
       rw c.without-rest.ensures (minus_lt 64 c.loop-rest.rest (2 ^ c.busiest-v.result) c.loop-rest.invariant.0),
       (
         b.0,
         rw c.without-rest.ensures b.2,
-        sym (passing_more (held (goal.at.loop-rest-preserved c).Start) unassigned (left (goal.at.loop-rest-preserved c).At-loop-rest) b.0 c.loop-rest.cost c.busiest-v.result c.try_variable-t.result b.1 c.try_variable-t.ensures
+        sym (passing_more f unassigned (left l) b.0 c.loop-rest.cost c.busiest-v.result c.try_variable-t.result b.1 c.try_variable-t.ensures
             c.if-t.false)
             ∙ c.loop-rest.invariant.1.2,
         omega (arith, cost (goal.at.loop-rest-preserved c).After-try_variable-t, ap length b.1, c.loop-rest.invariant.1.3),
@@ -83,6 +86,8 @@ loop-rest-preserved c =
 
 pub returns : goal.returns
 returns c =
-    let none : left (goal.at.returns c).At-loop-rest ≡ [] = lists_none (count_at c.args.counts) (left (goal.at.returns c).At-loop-rest) c.loop-rest.rest c.loop-rest.invariant.1.1 c.loop-rest-test.false in
-    c.both_open-2.ensures ∙ sym (passing-none (held (goal.at.returns c).Start) unassigned c.loop-rest.cost)
-    ∙ ap (λ (vs : List ℕ). passing (held (goal.at.returns c).Start) unassigned vs c.loop-rest.cost) (sym none) ∙ c.loop-rest.invariant.1.2
+    let f = held (goal.at.returns c).Start in
+    let l = (goal.at.returns c).At-loop-rest in
+    let none : left l ≡ [] = lists_none (count_at c.args.counts) (left l) c.loop-rest.rest c.loop-rest.invariant.1.1 c.loop-rest-test.false in
+    c.both_open-2.ensures ∙ sym (passing-none f unassigned c.loop-rest.cost)
+    ∙ ap (λ (vs : List ℕ). passing f unassigned vs c.loop-rest.cost) (sym none) ∙ c.loop-rest.invariant.1.2

@@ -1,4 +1,4 @@
--- `highest` gives the greatest member. The invariant: it is the last of v and what is left of the members.
+-- `highest` gives the greatest member.
 use Prim.Native.Nat.{ℕ}
 use native.Mathlib.Omega.{arith}
 use mathlib.Core.List.{◌∷◌}

@@ -1,5 +1,4 @@
--- `reduce` strips pure literals. The invariant: the arrays have the clauses of the node of the assignment so far, and from here on
--- stripping gives the whole result.
+-- `reduce` strips pure literals.
 use Prim.Native.Nat.{◌-◌, ◌≤◌, ◌<◌}
 use native.Mathlib.Omega.{arith}
 use mathlib.Core.Path.{◌≡◌, sym, ap, ◌∙◌}
@@ -8,7 +7,6 @@ use lib.Bits.{bit_xor}
 use Rattle.limits.specs.Limits.{max_clauses}
 use Rattle.masks.specs.Mask.{bit}
 use Rattle.masks.specs.InnerMask.{lowest}
-use Rattle.formula.specs.declared.Formula.{Formula}
 use Rattle.splitting.specs.declared.Survey.{Survey}
 use Rattle.splitting.specs.InnerChoose.{node, formula_in, survey_of, pure_of, reduce_from}
 use Rattle.splitting.proofs.ReduceLaws.{pure_lowest, reduce_done, reduce_more}
@@ -16,26 +14,27 @@ use Rattle.splitting.proofs.CompactLaws.{node_in, few_in, strip_more}
 use Rattle.splitting.proofs.reduce.Goals.{After-lowest-v, After-survey_clauses-s, At-loop-k}
 use Rattle.splitting.proofs.reduce.Goals as goal
 
--- the formula of the arrays
-abbrev held : At-loop-k → Formula
-held l = formula_in l.args.positives.now l.args.negatives.now l.args.count
-
 few : (l : At-loop-k) → l.loop-k.left_count ≤ max_clauses
-few l = few_in (held l) l.requires.0 l.loop-k.assignment l.loop-k.left_positives l.loop-k.left_negatives l.loop-k.left_count l.loop-k.invariant.3
+few l =
+    few_in (formula_in l.args.positives.now l.args.negatives.now l.args.count) l.requires.0 l.loop-k.assignment
+    l.loop-k.left_positives l.loop-k.left_negatives l.loop-k.left_count l.loop-k.invariant.3
 
 -- the survey of a turn, and its pure variables
 surveyed : (c : After-survey_clauses-s)
-    → c.survey_clauses-s.result ≡ survey_of (node (held (goal.at.After-survey_clauses-s c).At-loop-k) c.loop-k.assignment)
+    → c.survey_clauses-s.result ≡ survey_of (node (formula_in c.args.positives.now c.args.negatives.now c.args.count) c.loop-k.assignment)
 surveyed c = c.survey_clauses-s.ensures ∙ ap survey_of c.loop-k.invariant.3
 
 pure : (c : After-survey_clauses-s)
-    → bit_xor c.survey_clauses-s.result.positive c.survey_clauses-s.result.negative ≡ pure_of (held (goal.at.After-survey_clauses-s c).At-loop-k) c.loop-k.assignment
+    → bit_xor c.survey_clauses-s.result.positive c.survey_clauses-s.result.negative
+    ≡ pure_of (formula_in c.args.positives.now c.args.negatives.now c.args.count) c.loop-k.assignment
 pure c = ap (λ (t : Survey). bit_xor t.positive t.negative) (surveyed c)
 
 -- the lowest pure variable is below 64
 low : (c : After-lowest-v) → c.lowest-v.result < 64
 low c =
-    rw (c.lowest-v.ensures, pure (goal.at.After-lowest-v c).After-survey_clauses-s) (pure_lowest (held (goal.at.After-lowest-v c).At-loop-k) c.requires.0 c.loop-k.assignment (λ z. c.if-pure-eq0.false (pure (goal.at.After-lowest-v c).After-survey_clauses-s ∙ z))).below
+    let f = formula_in c.args.positives.now c.args.negatives.now c.args.count in
+    let s = (goal.at.After-lowest-v c).After-survey_clauses-s in
+    rw (c.lowest-v.ensures, pure s) (pure_lowest f c.requires.0 c.loop-k.assignment (λ z. c.if-pure-eq0.false (pure s ∙ z))).below
 
 pub loop-k-init : goal.loop-k-init
 loop-k-init c =
@@ -52,8 +51,10 @@ survey_clauses-s-requires c = few (goal.at.survey_clauses-s-requires c).At-loop-
 
 pub returns-then-pure-eq0 : goal.returns-then-pure-eq0
 returns-then-pure-eq0 c =
-    rw (surveyed (goal.at.returns-then-pure-eq0 c).After-survey_clauses-s)
-    (sym (reduce_done (held (goal.at.returns-then-pure-eq0 c).At-loop-k) c.loop-k.assignment c.loop-k.noted c.loop-k.last (c.args.variables - c.loop-k.k) (sym (pure (goal.at.returns-then-pure-eq0 c).After-survey_clauses-s) ∙ c.if-pure-eq0.true)) ∙ c.loop-k.invariant.4)
+    let f = formula_in c.args.positives.now c.args.negatives.now c.args.count in
+    let s = (goal.at.returns-then-pure-eq0 c).After-survey_clauses-s in
+    rw (surveyed s)
+    (sym (reduce_done f c.loop-k.assignment c.loop-k.noted c.loop-k.last (c.args.variables - c.loop-k.k) (sym (pure s) ∙ c.if-pure-eq0.true)) ∙ c.loop-k.invariant.4)
 
 pub member-requires : goal.member-requires
 member-requires c = low c
@@ -74,17 +75,19 @@ overflow_add-k c =
 
 pub loop-k-preserved : goal.loop-k-preserved
 loop-k-preserved c =
+    let f = formula_in c.args.positives.now c.args.negatives.now c.args.count in
+    let s = (goal.at.loop-k-preserved c).After-survey_clauses-s in
     let v = c.lowest-v.result in
     let way = c.member.result in (
       omega (arith, c.loop-k-test.true),
       c.drop_named-left_count.ensures.lengths.0,
       c.drop_named-left_count.ensures.lengths.1,
       c.drop_named-left_count.ensures.kept
-          ∙ strip_more (held (goal.at.loop-k-preserved c).At-loop-k) c.requires.0 c.loop-k.assignment c.loop-k.left_positives c.loop-k.left_negatives c.loop-k.left_count c.loop-k.invariant.3
-          (λ e. c.if-pure-eq0.false (pure (goal.at.loop-k-preserved c).After-survey_clauses-s ∙ e)) v (c.lowest-v.ensures ∙ ap lowest (pure (goal.at.loop-k-preserved c).After-survey_clauses-s)) way (c.member.ensures ∙ ap (λ (t : Survey). bit t.positive v) (surveyed (goal.at.loop-k-preserved c).After-survey_clauses-s))
-          ∙ ap (node (held (goal.at.loop-k-preserved c).At-loop-k)) (sym c.assign-assignment.ensures),
-      sym (reduce_more (held (goal.at.loop-k-preserved c).At-loop-k) c.loop-k.assignment c.loop-k.noted c.loop-k.last c.args.variables c.loop-k.k c.survey_clauses-s.result v way c.assign-assignment.result
-          c.with-noted.result c.loop-k-test.true (surveyed (goal.at.loop-k-preserved c).After-survey_clauses-s) c.if-pure-eq0.false c.lowest-v.ensures c.member.ensures c.assign-assignment.ensures c.with-noted.ensures)
+          ∙ strip_more f c.requires.0 c.loop-k.assignment c.loop-k.left_positives c.loop-k.left_negatives c.loop-k.left_count c.loop-k.invariant.3
+          (λ e. c.if-pure-eq0.false (pure s ∙ e)) v (c.lowest-v.ensures ∙ ap lowest (pure s)) way (c.member.ensures ∙ ap (λ (t : Survey). bit t.positive v) (surveyed s))
+          ∙ ap (node f) (sym c.assign-assignment.ensures),
+      sym (reduce_more f c.loop-k.assignment c.loop-k.noted c.loop-k.last c.args.variables c.loop-k.k c.survey_clauses-s.result v way c.assign-assignment.result
+          c.with-noted.result c.loop-k-test.true (surveyed s) c.if-pure-eq0.false c.lowest-v.ensures c.member.ensures c.assign-assignment.ensures c.with-noted.ensures)
           ∙ c.loop-k.invariant.4,
     )
 

@@ -1,5 +1,5 @@
--- `strip` is stripping at the node. The invariant: from where it stands, stripping gives the whole result.
-use Prim.Native.Nat.{◌-◌, ◌<◌}
+-- `strip` is stripping at the node.
+use Prim.Native.Nat.{◌<◌}
 use mathlib.Core.Path.{◌≡◌, sym, ap, ◌∙◌}
 use native.Mathlib.Omega.{arith}
 use lib.Bits.{bit_xor}
@@ -18,7 +18,8 @@ pure c = ap (λ (t : Survey). bit_xor t.positive t.negative) c.survey_open-s.ens
 -- the lowest of them is below 64
 low : (c : After-lowest-v) → c.lowest-v.result < 64
 low c =
-    rw (c.lowest-v.ensures, pure (goal.at.After-lowest-v c).After-survey_open-s) (pure_lowest c.args.f (small_of _ c.requires) c.loop-count.assignment (λ z. c.if-pure-eq0.false (pure (goal.at.After-lowest-v c).After-survey_open-s ∙ z))).below
+    let s = (goal.at.After-lowest-v c).After-survey_open-s in
+    rw (c.lowest-v.ensures, pure s) (pure_lowest c.args.f (small_of _ c.requires) c.loop-count.assignment (λ z. c.if-pure-eq0.false (pure s ∙ z))).below
 
 pub loop-count-init : goal.loop-count-init
 loop-count-init c = stands_start c.args.f c.args.a
@@ -28,7 +29,8 @@ survey_open-s-requires c = c.requires.few
 
 pub returns-then-pure-eq0 : goal.returns-then-pure-eq0
 returns-then-pure-eq0 c =
-    stands_pure c.args.f c.args.a c.loop-count.assignment c.loop-count.count c.loop-count.order c.loop-count.invariant (sym (pure (goal.at.returns-then-pure-eq0 c).After-survey_open-s) ∙ c.if-pure-eq0.true)
+    stands_pure c.args.f c.args.a c.loop-count.assignment c.loop-count.count c.loop-count.order c.loop-count.invariant
+    (sym (pure (goal.at.returns-then-pure-eq0 c).After-survey_open-s) ∙ c.if-pure-eq0.true)
 
 pub member-value-requires : goal.member-value-requires
 member-value-requires c = low c

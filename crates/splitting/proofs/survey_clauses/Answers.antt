@@ -1,5 +1,4 @@
--- `survey_clauses` is the survey of the clauses. The invariant: the masks so far are those of the first i clauses.
-use Prim.Native.Nat.{◌-◌}
+-- `survey_clauses` is the survey of the clauses.
 use native.Mathlib.Omega.{arith}
 use mathlib.Core.Path.{◌≡◌, refl, sym}
 use borrow.Author.Rules.{rules}

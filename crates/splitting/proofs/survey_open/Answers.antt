@@ -1,5 +1,4 @@
--- `survey_open` is the survey of the node. The invariant: the survey so far is that of what is left of the first i clauses.
-use Prim.Native.Nat.{◌-◌}
+-- `survey_open` is the survey of the node.
 use native.Mathlib.Omega.{arith}
 use mathlib.Core.Path.{◌≡◌, refl, sym, ◌∙◌}
 use borrow.Author.Rules.{rules}

@@ -4,7 +4,6 @@ use mathlib.Core.Bool.{true}
 use mathlib.Core.List.{List, ◌∷◌}
 use mathlib.Core.Path.{◌≡◌, sym, ap, ◌∙◌}
 use native.Mathlib.Omega.{arith}
-use borrow.Author.Tests.{not-true, not-false}
 use Rattle.dimacs.specs.Text.{Piece, same, p_word, cnf_word, opening}
 use Rattle.dimacs.specs.InnerScan.{words_from, opening_held}
 use Rattle.dimacs.proofs.TextLaws.{start_le, words_zero}
@@ -12,7 +11,6 @@ use Rattle.dimacs.proofs.OpeningLaws.{span, Next, next_word, InLine, in_line, pa
 use Rattle.dimacs.proofs.opening.read_opening.Goals.{After-word_end-a_end, After-word_end-b_end, Else-not-same}
 use Rattle.dimacs.proofs.opening.read_opening.Goals as goal
 
--- `read_opening`: a word more, and p or cnf, or not.
 -- the first word
 module _ (d : After-word_end-a_end) where
   abbrev line : List ℕ
@@ -35,27 +33,31 @@ module _ (d : After-word_end-a_end) where
 
 -- the second
 module _ (d : After-word_end-b_end) where
+  abbrev first : After-word_end-a_end
+  first = (goal.at.After-word_end-b_end d).After-word_end-a_end
+
   abbrev start2 : ℕ
   start2 = d.word_start-b.result
 
   abbrev end2 : ℕ
   end2 = d.word_end-b_end.result
 
-  within2 : InLine (line (goal.at.After-word_end-b_end d).After-word_end-a_end) start2 end2
-  within2 = in_line (at (goal.at.After-word_end-b_end d).After-word_end-a_end) (line (goal.at.After-word_end-b_end d).After-word_end-a_end) (end (goal.at.After-word_end-b_end d).After-word_end-a_end) start2 end2 (within (goal.at.After-word_end-b_end d).After-word_end-a_end).ends d.word_start-b.ensures d.word_end-b_end.ensures
+  within2 : InLine (line first) start2 end2
+  within2 = in_line (at first) (line first) (end first) start2 end2 (within first).ends d.word_start-b.ensures d.word_end-b_end.ensures
 
-  next2 : Next (at (goal.at.After-word_end-b_end d).After-word_end-a_end) (line (goal.at.After-word_end-b_end d).After-word_end-a_end) (end (goal.at.After-word_end-b_end d).After-word_end-a_end) start2 end2
-  next2 = next_word (at (goal.at.After-word_end-b_end d).After-word_end-a_end) (line (goal.at.After-word_end-b_end d).After-word_end-a_end) (end (goal.at.After-word_end-b_end d).After-word_end-a_end) start2 end2 d.word_start-b.ensures d.word_end-b_end.ensures
+  next2 : Next (at first) (line first) (end first) start2 end2
+  next2 = next_word (at first) (line first) (end first) start2 end2 d.word_start-b.ensures d.word_end-b_end.ensures
 
 -- the first is p
 abbrev word : Else-not-same → Piece
-word e = span (at (goal.at.Else-not-same e).After-word_end-a_end) (line (goal.at.Else-not-same e).After-word_end-a_end) (start (goal.at.Else-not-same e).After-word_end-a_end) (end (goal.at.Else-not-same e).After-word_end-a_end)
+word e = let d = (goal.at.Else-not-same e).After-word_end-a_end in span (at d) (line d) (start d) (end d)
 
 is_p : (e : Else-not-same) → same (word e).bytes p_word ≡ true
-is_p e = sym e.same.ensures ∙ not-false _ e.if-not-same.false-raw
+is_p e = sym e.same.ensures ∙ e.if-not-same.false
 
-taken : (e : Else-not-same) → (words_from (at (goal.at.Else-not-same e).After-word_end-a_end) (line (goal.at.Else-not-same e).After-word_end-a_end) 0 ≡ word e ∷ words_from (at (goal.at.Else-not-same e).After-word_end-a_end) (line (goal.at.Else-not-same e).After-word_end-a_end) (end (goal.at.Else-not-same e).After-word_end-a_end))
-taken e = passes (at (goal.at.Else-not-same e).After-word_end-a_end) (line (goal.at.Else-not-same e).After-word_end-a_end) 0 (start (goal.at.Else-not-same e).After-word_end-a_end) (end (goal.at.Else-not-same e).After-word_end-a_end) (λ w. same w p_word) p_some (next (goal.at.Else-not-same e).After-word_end-a_end) (is_p e)
+taken : (e : Else-not-same)
+    → (let d = (goal.at.Else-not-same e).After-word_end-a_end in words_from (at d) (line d) 0 ≡ word e ∷ words_from (at d) (line d) (end d))
+taken e = let d = (goal.at.Else-not-same e).After-word_end-a_end in passes (at d) (line d) 0 (start d) (end d) (λ w. same w p_word) p_some (next d) (is_p e)
 
 pub word_end-a_end-requires : goal.word_end-a_end-requires
 word_end-a_end-requires c = omega (arith, c.word_start-a.ensures, start_le c.args.at c.args.line.now 0 (omega arith))
@@ -63,34 +65,49 @@ word_end-a_end-requires c = omega (arith, c.word_start-a.ensures, start_le c.arg
 pub slice_bounds-same-count : goal.slice_bounds-same-count
 slice_bounds-same-count c = (within c).forward
 
+pub slice_bounds-same-end : goal.slice_bounds-same-end
+slice_bounds-same-end c = (within c).ends
+
 pub returns-then-not-same : goal.returns-then-not-same
 returns-then-not-same c =
+    let d = (goal.at.returns-then-not-same c).After-word_end-a_end in
     ap opening_held
-    (sym (ap opening (words_zero (at (goal.at.returns-then-not-same c).After-word_end-a_end) (line (goal.at.returns-then-not-same c).After-word_end-a_end)) ∙ fails (at (goal.at.returns-then-not-same c).After-word_end-a_end) (line (goal.at.returns-then-not-same c).After-word_end-a_end) 0 (start (goal.at.returns-then-not-same c).After-word_end-a_end) (end (goal.at.returns-then-not-same c).After-word_end-a_end) (λ w. same w p_word) p_some opening opening-none opening-first (next (goal.at.returns-then-not-same c).After-word_end-a_end) (sym c.same.ensures ∙ not-true _ c.if-not-same.true-raw)))
+    (sym (ap opening (words_zero (at d) (line d)) ∙ fails (at d) (line d) 0 (start d) (end d) (λ w. same w p_word) p_some opening opening-none opening-first (next d) (sym c.same.ensures ∙ c.if-not-same.true)))
 
 pub word_start-b-requires : goal.word_start-b-requires
 word_start-b-requires c = (within (goal.at.word_start-b-requires c).After-word_end-a_end).ends
 
 pub word_end-b_end-requires : goal.word_end-b_end-requires
-word_end-b_end-requires c = omega (arith, c.word_start-b.ensures, start_le (at (goal.at.word_end-b_end-requires c).After-word_end-a_end) (line (goal.at.word_end-b_end-requires c).After-word_end-a_end) (end (goal.at.word_end-b_end-requires c).After-word_end-a_end) (within (goal.at.word_end-b_end-requires c).After-word_end-a_end).ends)
+word_end-b_end-requires c =
+    let d = (goal.at.word_end-b_end-requires c).After-word_end-a_end in
+    omega (arith, c.word_start-b.ensures, start_le (at d) (line d) (end d) (within d).ends)
 
 pub slice_bounds-same-count-2 : goal.slice_bounds-same-count-2
 slice_bounds-same-count-2 c = (within2 c).forward
 
+pub slice_bounds-same-end-3 : goal.slice_bounds-same-end-3
+slice_bounds-same-end-3 c = (within2 c).ends
+
 pub returns-then-not-same-2 : goal.returns-then-not-same-2
 returns-then-not-same-2 c =
-    let w = word (goal.at.returns-then-not-same-2 c).Else-not-same in
+    let d = (goal.at.returns-then-not-same-2 c).Else-not-same in
+    let e = (goal.at.returns-then-not-same-2 c).After-word_end-a_end in
+    let f = (goal.at.returns-then-not-same-2 c).After-word_end-b_end in
+    let w = word d in
     ap opening_held
-    (sym (ap opening (words_zero (at (goal.at.returns-then-not-same-2 c).After-word_end-a_end) (line (goal.at.returns-then-not-same-2 c).After-word_end-a_end) ∙ taken (goal.at.returns-then-not-same-2 c).Else-not-same)
-    ∙ fails (at (goal.at.returns-then-not-same-2 c).After-word_end-a_end) (line (goal.at.returns-then-not-same-2 c).After-word_end-a_end) (end (goal.at.returns-then-not-same-2 c).After-word_end-a_end) (start2 (goal.at.returns-then-not-same-2 c).After-word_end-b_end) (end2 (goal.at.returns-then-not-same-2 c).After-word_end-b_end) (λ v. same v cnf_word) cnf_some (λ ws. opening (w ∷ ws)) (opening_one w) (opening_second w) (next2 (goal.at.returns-then-not-same-2 c).After-word_end-b_end) (sym c.same-2.ensures ∙ not-true _ c.if-not-same-2.true-raw)))
+    (sym (ap opening (words_zero (at e) (line e) ∙ taken d)
+    ∙ fails (at e) (line e) (end e) (start2 f) (end2 f) (λ v. same v cnf_word) cnf_some (λ ws. opening (w ∷ ws)) (opening_one w) (opening_second w) (next2 f) (sym c.same-2.ensures ∙ c.if-not-same-2.true)))
 
 pub read_numbers-requires : goal.read_numbers-requires
 read_numbers-requires c = ((within2 (goal.at.read_numbers-requires c).After-word_end-b_end).ends, c.requires)
 
 pub returns : goal.returns
 returns c =
-    let w = word (goal.at.returns c).Else-not-same in
-    let v = span (at (goal.at.returns c).After-word_end-a_end) (line (goal.at.returns c).After-word_end-a_end) (start2 (goal.at.returns c).After-word_end-b_end) (end2 (goal.at.returns c).After-word_end-b_end) in
-    let is-cnf : same v.bytes cnf_word ≡ true = sym c.same-2.ensures ∙ not-false _ c.if-not-same-2.false-raw in
-    let both = words_zero (at (goal.at.returns c).After-word_end-a_end) (line (goal.at.returns c).After-word_end-a_end) ∙ taken (goal.at.returns c).Else-not-same ∙ ap (λ (ws : List Piece). w ∷ ws) (passes (at (goal.at.returns c).After-word_end-a_end) (line (goal.at.returns c).After-word_end-a_end) (end (goal.at.returns c).After-word_end-a_end) (start2 (goal.at.returns c).After-word_end-b_end) (end2 (goal.at.returns c).After-word_end-b_end) (λ x. same x cnf_word) cnf_some (next2 (goal.at.returns c).After-word_end-b_end) is-cnf) in
-    c.read_numbers.ensures ∙ ap opening_held (sym (ap opening both ∙ opening_rest w v _ (is_p (goal.at.returns c).Else-not-same) is-cnf))
+    let d = (goal.at.returns c).Else-not-same in
+    let e = (goal.at.returns c).After-word_end-a_end in
+    let f = (goal.at.returns c).After-word_end-b_end in
+    let w = word d in
+    let v = span (at e) (line e) (start2 f) (end2 f) in
+    let is-cnf : same v.bytes cnf_word ≡ true = sym c.same-2.ensures ∙ c.if-not-same-2.false in
+    let both = words_zero (at e) (line e) ∙ taken d ∙ ap (λ (ws : List Piece). w ∷ ws) (passes (at e) (line e) (end e) (start2 f) (end2 f) (λ x. same x cnf_word) cnf_some (next2 f) is-cnf) in
+    c.read_numbers.ensures ∙ ap opening_held (sym (ap opening both ∙ opening_rest w v _ (is_p d) is-cnf))

@@ -9,7 +9,6 @@ use Rattle.dimacs.proofs.ReadLaws.{count_none, count_many, words_refused, words_
 use Rattle.dimacs.proofs.reader.read_clauses.Goals.{After-begin-r}
 use Rattle.dimacs.proofs.reader.read_clauses.Goals as goal
 
--- `read_clauses`: the number of variables, then the words, then what is behind them.
 -- the number of variables is one
 some : (d : After-begin-r) → 1 ≤ d.args.p.variables
 some d = omega (arith, d.if-p-eq0.false)
@@ -38,16 +37,20 @@ close-requires c =
     ).keeps
 
 pub returns-in-Next : goal.returns-in-Next
-returns-in-Next c = λ l c' d e.
+returns-in-Next c =
+    let f = (goal.at.returns-in-Next c).After-begin-r in
+    λ l c' d e.
     let a = c.args in
-    words_read a.text.now a.end l c' d a.p e (some (goal.at.returns-in-Next c).After-begin-r) (most (goal.at.returns-in-Next c).After-begin-r) _ _ _ _
+    words_read a.text.now a.end l c' d a.p e (some f) (most f) _ _ _ _
     (stepped_next a.p.variables _ (take_words a.p.variables (words_behind a.text.now a.end) progress_start) _ _ c.in-Next.is
     (keeps_step c.begin-r.ensures _ _ (λ m. take_words m (words_behind a.text.now a.end)) c.take_lines.ensures))
     c.close.ensures
 
 pub returns-in-Stopped : goal.returns-in-Stopped
-returns-in-Stopped c = λ l c' d e.
+returns-in-Stopped c =
+    let f = (goal.at.returns-in-Stopped c).After-begin-r in
+    λ l c' d e.
     let a = c.args in
-    words_refused a.text.now a.end l c' d a.p e (some (goal.at.returns-in-Stopped c).After-begin-r) (most (goal.at.returns-in-Stopped c).After-begin-r) _ _
+    words_refused a.text.now a.end l c' d a.p e (some f) (most f) _ _
     (stepped_stop a.p.variables _ (take_words a.p.variables (words_behind a.text.now a.end) progress_start) _ _ c.in-Stopped.is
     (keeps_step c.begin-r.ensures _ _ (λ m. take_words m (words_behind a.text.now a.end)) c.take_lines.ensures))

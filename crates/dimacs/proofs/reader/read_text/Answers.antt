@@ -12,7 +12,6 @@ use Rattle.dimacs.proofs.ReadLaws.{held_p_line, held_other, text_opens}
 use Rattle.dimacs.proofs.reader.read_text.Goals.{After-line_end-end}
 use Rattle.dimacs.proofs.reader.read_text.Goals as goal
 
--- `read_text`: by the first line that is no comment.
 -- where the first other line ends
 inside : (d : After-line_end-end) → d.line_end-end.result ≤ length d.args.text.now
 inside d = omega (arith, d.line_end-end.ensures, end_le d.args.text.now d.first_other-first.result d.first_other-first.ensures.inside)
@@ -22,6 +21,9 @@ line_end-end-requires c = c.first_other-first.ensures.inside
 
 pub slice_bounds-read_opening-count : goal.slice_bounds-read_opening-count
 slice_bounds-read_opening-count c = omega (arith, c.line_end-end.ensures)
+
+pub slice_bounds-read_opening-end : goal.slice_bounds-read_opening-end
+slice_bounds-read_opening-end c = inside c
 
 pub read_opening-requires : goal.read_opening-requires
 read_opening-requires c =

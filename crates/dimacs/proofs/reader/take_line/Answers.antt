@@ -1,6 +1,5 @@
 -- `take_line`: of the words, those from `from` on are left.
 use Prim.Native.Nat.{ℕ, ◌+◌, ◌-◌, ◌≤◌, ◌<◌}
-use mathlib.Core.Bool.{true}
 use mathlib.Core.List.{List, [], ◌∷◌, ◌++◌}
 use mathlib.Core.Path.{◌≡◌, refl, ◌∙◌}
 use native.Mathlib.Omega.{arith}
@@ -33,17 +32,17 @@ module _ (d : After-take_word) where
   ends = d.word_end-end.ensures
 
   inside : end ≤ length line
-  inside = omega (arith, ends, end_in_le at line from d.loop-from.inv.1)
+  inside = omega (arith, ends, end_in_le at line from d.loop-from.invariant.1)
 
   here : from < length line
   here = d.loop-from-test.true
 
   parts : words_from at line from ≡ (word ∷ []) ++ words_from at line end
-  parts = words_next at line from end here (d.loop-from.inv.2 here) ends
+  parts = words_next at line from end here (d.loop-from.invariant.2 here) ends
 
   -- the word is one of a byte or more
   forward : from < end
-  forward = omega (arith, ends, word_some at line from here (d.loop-from.inv.2 here))
+  forward = omega (arith, ends, word_some at line from here (d.loop-from.invariant.2 here))
 
 pub loop-from-init : goal.loop-from-init
 loop-from-init c =
@@ -57,6 +56,9 @@ word_end-end-requires c = c.loop-from.invariant.1
 pub slice_bounds-take_word-count : goal.slice_bounds-take_word-count
 slice_bounds-take_word-count c = omega (arith, c.word_end-end.ensures)
 
+pub slice_bounds-take_word-end : goal.slice_bounds-take_word-end
+slice_bounds-take_word-end c = omega (arith, c.word_end-end.ensures, end_in_le c.args.at c.args.line.now c.loop-from.from c.loop-from.invariant.1)
+
 pub overflow_add-at : goal.overflow_add-at
 overflow_add-at c = omega (arith, c.requires.0, c.loop-from.invariant.1)
 
@@ -64,31 +66,36 @@ pub take_word-requires : goal.take_word-requires
 take_word-requires c = let r = c.requires.1 in keeps_ready (c.loop-from.invariant.3 r.progress r.keeps).keeps
 
 pub shape_of-kept-in-Stopped : goal.shape_of-kept-in-Stopped
-shape_of-kept-in-Stopped c = c.kept-1.given ∙ c.loop-from.invariant.0
+shape_of-kept-in-Stopped c = c.take_word.auto.kept ∙ c.loop-from.invariant.0
 
 pub returns-in-Stopped : goal.returns-in-Stopped
-returns-in-Stopped c = λ s k.
+returns-in-Stopped c =
+    let d = (goal.at.returns-in-Stopped c).After-take_word in
+    λ s k.
     let g = c.loop-from.invariant.3 s k in
-    goes_stop g (word (goal.at.returns-in-Stopped c).After-take_word ∷ []) (words_from (at (goal.at.returns-in-Stopped c).After-take_word) (line (goal.at.returns-in-Stopped c).After-take_word) (end (goal.at.returns-in-Stopped c).After-take_word)) (parts (goal.at.returns-in-Stopped c).After-take_word) _ _
-    (one_step _ _ _ _ (word (goal.at.returns-in-Stopped c).After-take_word) (keeps_step g.keeps _ _ (λ m. take_word m (word (goal.at.returns-in-Stopped c).After-take_word)) c.take_word.ensures)) _ c.in-Stopped.is
+    goes_stop g (word d ∷ []) (words_from (at d) (line d) (end d)) (parts d) _ _
+    (one_step _ _ _ _ (word d) (keeps_step g.keeps _ _ (λ m. take_word m (word d)) c.take_word.ensures)) _ c.in-Stopped.is
 
 pub word_start-from-requires-in-loop-from : goal.word_start-from-requires-in-loop-from
 word_start-from-requires-in-loop-from c = inside (goal.at.word_start-from-requires-in-loop-from c).After-take_word
 
 pub loop-from-smaller : goal.loop-from-smaller
-loop-from-smaller c = omega (arith, c.word_start-from-in-loop-from.ensures, forward (goal.at.loop-from-smaller c).After-take_word, here (goal.at.loop-from-smaller c).After-take_word)
+loop-from-smaller c =
+    let d = (goal.at.loop-from-smaller c).After-take_word in
+    omega (arith, c.word_start-from-in-loop-from.ensures, forward d, here d)
 
 pub loop-from-preserved : goal.loop-from-preserved
 loop-from-preserved c =
+    let d = (goal.at.loop-from-preserved c).After-take_word in
     rw c.word_start-from-in-loop-from.ensures (
-      c.kept-1.given ∙ c.loop-from.invariant.0,
-      start_le (at (goal.at.loop-from-preserved c).After-take_word) (line (goal.at.loop-from-preserved c).After-take_word) (end (goal.at.loop-from-preserved c).After-take_word) (inside (goal.at.loop-from-preserved c).After-take_word),
-      start_stops (at (goal.at.loop-from-preserved c).After-take_word) (line (goal.at.loop-from-preserved c).After-take_word) (end (goal.at.loop-from-preserved c).After-take_word),
+      c.take_word.auto.kept ∙ c.loop-from.invariant.0,
+      start_le (at d) (line d) (end d) (inside d),
+      start_stops (at d) (line d) (end d),
       λ s k.
           let g = c.loop-from.invariant.3 s k in
-          goes_rest (words_start (at (goal.at.loop-from-preserved c).After-take_word) (line (goal.at.loop-from-preserved c).After-take_word) (end (goal.at.loop-from-preserved c).After-take_word))
-          (goes_next g (word (goal.at.loop-from-preserved c).After-take_word ∷ []) (words_from (at (goal.at.loop-from-preserved c).After-take_word) (line (goal.at.loop-from-preserved c).After-take_word) (end (goal.at.loop-from-preserved c).After-take_word)) (parts (goal.at.loop-from-preserved c).After-take_word) _ _
-          (one_step _ _ _ _ (word (goal.at.loop-from-preserved c).After-take_word) (keeps_step g.keeps _ _ (λ m. take_word m (word (goal.at.loop-from-preserved c).After-take_word)) c.take_word.ensures)) _ c.in-Next.is),
+          goes_rest (words_start (at d) (line d) (end d))
+          (goes_next g (word d ∷ []) (words_from (at d) (line d) (end d)) (parts d) _ _
+          (one_step _ _ _ _ (word d) (keeps_step g.keeps _ _ (λ m. take_word m (word d)) c.take_word.ensures)) _ c.in-Next.is),
     )
 
 pub shape_of-kept : goal.shape_of-kept

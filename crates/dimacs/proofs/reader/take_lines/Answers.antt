@@ -1,5 +1,5 @@
 -- `take_lines`: of the words behind the p line, those behind the line that ends at `at` are left.
-use Prim.Native.Nat.{ℕ, ◌+◌, ◌-◌, ◌≤◌, ◌<◌}
+use Prim.Native.Nat.{ℕ, ◌+◌, ◌≤◌, ◌<◌}
 use mathlib.Core.List.{List, ◌++◌}
 use mathlib.Core.Path.{◌≡◌, refl, ◌∙◌}
 use native.Mathlib.Omega.{arith}
@@ -43,26 +43,31 @@ take_other-requires c =
     (omega arith, c.line_end-at.ensures, keeps_ready (c.loop-at.invariant.2 r.progress r.keeps).keeps)
 
 pub loop-at-smaller : goal.loop-at-smaller
-loop-at-smaller c = omega (arith, ends (goal.at.loop-at-smaller c).After-take_other, here (goal.at.loop-at-smaller c).After-take_other, inside (goal.at.loop-at-smaller c).After-take_other)
+loop-at-smaller c =
+    let d = (goal.at.loop-at-smaller c).After-take_other in
+    omega (arith, ends d, here d, inside d)
 
 pub loop-at-preserved : goal.loop-at-preserved
-loop-at-preserved c = (
-  c.kept-1.given ∙ c.loop-at.invariant.0,
-  inside (goal.at.loop-at-preserved c).After-take_other,
-  λ s k.
-      let g = c.loop-at.invariant.2 s k in
-      goes_next g (other_words (text (goal.at.loop-at-preserved c).After-take_other) (last (goal.at.loop-at-preserved c).After-take_other + 1)) (words_behind (text (goal.at.loop-at-preserved c).After-take_other) (end (goal.at.loop-at-preserved c).After-take_other)) (parts (goal.at.loop-at-preserved c).After-take_other) _ _
-      (keeps_step g.keeps _ _ (λ m. take_words m (other_words (text (goal.at.loop-at-preserved c).After-take_other) (last (goal.at.loop-at-preserved c).After-take_other + 1))) c.take_other.ensures) _ c.in-Next.is,
-)
+loop-at-preserved c =
+    let d = (goal.at.loop-at-preserved c).After-take_other in (
+      c.take_other.auto.kept ∙ c.loop-at.invariant.0,
+      inside d,
+      λ s k.
+          let g = c.loop-at.invariant.2 s k in
+          goes_next g (other_words (text d) (last d + 1)) (words_behind (text d) (end d)) (parts d) _ _
+          (keeps_step g.keeps _ _ (λ m. take_words m (other_words (text d) (last d + 1))) c.take_other.ensures) _ c.in-Next.is,
+    )
 
 pub shape_of-kept-in-Stopped : goal.shape_of-kept-in-Stopped
-shape_of-kept-in-Stopped c = c.kept-1.given ∙ c.loop-at.invariant.0
+shape_of-kept-in-Stopped c = c.take_other.auto.kept ∙ c.loop-at.invariant.0
 
 pub returns-in-Stopped : goal.returns-in-Stopped
-returns-in-Stopped c = λ s k.
+returns-in-Stopped c =
+    let d = (goal.at.returns-in-Stopped c).After-take_other in
+    λ s k.
     let g = c.loop-at.invariant.2 s k in
-    goes_stop g (other_words (text (goal.at.returns-in-Stopped c).After-take_other) (last (goal.at.returns-in-Stopped c).After-take_other + 1)) (words_behind (text (goal.at.returns-in-Stopped c).After-take_other) (end (goal.at.returns-in-Stopped c).After-take_other)) (parts (goal.at.returns-in-Stopped c).After-take_other) _ _
-    (keeps_step g.keeps _ _ (λ m. take_words m (other_words (text (goal.at.returns-in-Stopped c).After-take_other) (last (goal.at.returns-in-Stopped c).After-take_other + 1))) c.take_other.ensures) _ c.in-Stopped.is
+    goes_stop g (other_words (text d) (last d + 1)) (words_behind (text d) (end d)) (parts d) _ _
+    (keeps_step g.keeps _ _ (λ m. take_words m (other_words (text d) (last d + 1))) c.take_other.ensures) _ c.in-Stopped.is
 
 pub shape_of-kept : goal.shape_of-kept
 shape_of-kept c = c.loop-at.invariant.0

@@ -9,7 +9,6 @@ use Rattle.dimacs.proofs.KeepLaws.{literal_above, literal_complement, literal_re
 use Rattle.dimacs.proofs.reader.take_literal.Goals.{After-member, After-member-2}
 use Rattle.dimacs.proofs.reader.take_literal.Goals as goal
 
--- `take_literal`: by the three tests.
 -- behind the first test: the variable is below
 below : (d : After-member) → (let a = d.args in a.k ≤ a.r.variables)
 below d = omega (arith, d.if-r-k.false)
@@ -26,17 +25,24 @@ pub returns-then-r-k : goal.returns-then-r-k
 returns-then-r-k c = λ s k. let a = c.args in literal_above k a.at a.sign a.k c.if-r-k.true
 
 pub returns-then-member : goal.returns-then-member
-returns-then-member c = λ s k. let a = c.args in literal_complement k a.at a.sign a.k (below (goal.at.returns-then-member c).After-member) (complement (goal.at.returns-then-member c).After-member true c.if-member.true)
+returns-then-member c =
+    let d = (goal.at.returns-then-member c).After-member in
+    λ s k. let a = c.args in literal_complement k a.at a.sign a.k (below d) (complement d true c.if-member.true)
 
 pub returns-then-member-2 : goal.returns-then-member-2
-returns-then-member-2 c = λ s k. let a = c.args in literal_repeat k a.at a.sign a.k (below (goal.at.returns-then-member-2 c).After-member) (complement (goal.at.returns-then-member-2 c).After-member false c.if-member.false) (named (goal.at.returns-then-member-2 c).After-member-2 true c.if-member-2.true)
+returns-then-member-2 c =
+    let d = (goal.at.returns-then-member-2 c).After-member in
+    λ s k. let a = c.args in literal_repeat k a.at a.sign a.k (below d) (complement d false c.if-member.false) (named (goal.at.returns-then-member-2 c).After-member-2 true c.if-member-2.true)
 
 pub keep_literal-requires : goal.keep_literal-requires
 keep_literal-requires c =
+    let d = (goal.at.keep_literal-requires c).After-member in
     let k = c.requires.1.keeps in
-    (c.requires.0, omega (arith, below (goal.at.keep_literal-requires c).After-member, k.sized.most), literal_room k 0 c.args.sign c.args.k (below (goal.at.keep_literal-requires c).After-member) (complement (goal.at.keep_literal-requires c).After-member false c.if-member.false) c.requires.0 (named (goal.at.keep_literal-requires c).After-member-2 false c.if-member-2.false))
+    (c.requires.0, omega (arith, below d, k.sized.most), literal_room k 0 c.args.sign c.args.k (below d) (complement d false c.if-member.false) c.requires.0 (named (goal.at.keep_literal-requires c).After-member-2 false c.if-member-2.false))
 
 pub returns : goal.returns
-returns c = λ s k.
+returns c =
+    let d = (goal.at.returns c).After-member in
+    λ s k.
     let a = c.args in
-    literal_kept k a.at a.sign a.k (below (goal.at.returns c).After-member) (complement (goal.at.returns c).After-member false c.if-member.false) c.requires.0 (named (goal.at.returns c).After-member-2 false c.if-member-2.false) _ _ c.keep_literal.ensures.0 c.keep_literal.ensures.1
+    literal_kept k a.at a.sign a.k (below d) (complement d false c.if-member.false) c.requires.0 (named (goal.at.returns c).After-member-2 false c.if-member-2.false) _ _ c.keep_literal.ensures.0 c.keep_literal.ensures.1

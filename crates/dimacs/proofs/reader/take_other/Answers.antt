@@ -15,6 +15,9 @@ returns-then-is_comment c = λ s k. let a = c.args in goes_end (other_none a.tex
 pub slice_bounds-take_line-count : goal.slice_bounds-take_line-count
 slice_bounds-take_line-count c = omega (arith, c.requires.1)
 
+pub slice_bounds-take_line-end : goal.slice_bounds-take_line-end
+slice_bounds-take_line-end c = omega (arith, c.requires.1, end_le c.args.text.now c.args.from c.requires.0)
+
 pub take_line-requires : goal.take_line-requires
 take_line-requires c =
     let e = end_le c.args.text.now c.args.from c.requires.0 in

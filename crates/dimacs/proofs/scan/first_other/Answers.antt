@@ -1,5 +1,5 @@
 -- `first_other`: up to `from` there are only comments, so the text is read from there as from its start.
-use Prim.Native.Nat.{ℕ, ◌-◌, ◌≤◌, ◌<◌}
+use Prim.Native.Nat.{ℕ, ◌≤◌, ◌<◌}
 use mathlib.Core.Bool.{true}
 use mathlib.Core.List.{List}
 use mathlib.Core.Path.{◌≡◌, sym, ◌∙◌}
@@ -32,19 +32,24 @@ loop-end-init c = (omega arith, reads_start _)
 
 pub returns-then-end-text : goal.returns-then-end-text
 returns-then-end-text c =
-    rw c.if-end-text.true (opens_none (text (goal.at.returns-then-end-text c).After-line_end-end) (from (goal.at.returns-then-end-text c).After-line_end-end) (inside (goal.at.returns-then-end-text c).After-line_end-end) (here (goal.at.returns-then-end-text c).After-line_end-end) (omega (arith, c.if-end-text.true, ends (goal.at.returns-then-end-text c).After-line_end-end)) c.loop-end.invariant.1)
+    let d = (goal.at.returns-then-end-text c).After-line_end-end in
+    rw c.if-end-text.true (opens_none (text d) (from d) (inside d) (here d) (omega (arith, c.if-end-text.true, ends d)) c.loop-end.invariant.1)
 
 pub overflow_add-from : goal.overflow_add-from
-overflow_add-from c = omega (arith, c.if-end-text.false, ends (goal.at.overflow_add-from c).After-line_end-end, end_le (text (goal.at.overflow_add-from c).After-line_end-end) (from (goal.at.overflow_add-from c).After-line_end-end) (inside (goal.at.overflow_add-from c).After-line_end-end))
+overflow_add-from c =
+    let d = (goal.at.overflow_add-from c).After-line_end-end in
+    omega (arith, c.if-end-text.false, ends d, end_le (text d) (from d) (inside d))
 
 pub loop-end-smaller : goal.loop-end-smaller
 loop-end-smaller c =
-    omega (arith, c.if-end-text.false, ends (goal.at.loop-end-smaller c).After-line_end-end, end_le (text (goal.at.loop-end-smaller c).After-line_end-end) (from (goal.at.loop-end-smaller c).After-line_end-end) (inside (goal.at.loop-end-smaller c).After-line_end-end), inside (goal.at.loop-end-smaller c).After-line_end-end)
+    let d = (goal.at.loop-end-smaller c).After-line_end-end in
+    omega (arith, c.if-end-text.false, ends d, end_le (text d) (from d) (inside d), inside d)
 
 pub loop-end-preserved : goal.loop-end-preserved
 loop-end-preserved c =
-    let l : end_of (text (goal.at.loop-end-preserved c).After-line_end-end) (from (goal.at.loop-end-preserved c).After-line_end-end) < length (text (goal.at.loop-end-preserved c).After-line_end-end) = omega (arith, c.if-end-text.false, ends (goal.at.loop-end-preserved c).After-line_end-end, end_le (text (goal.at.loop-end-preserved c).After-line_end-end) (from (goal.at.loop-end-preserved c).After-line_end-end) (inside (goal.at.loop-end-preserved c).After-line_end-end)) in
-    rw (ends (goal.at.loop-end-preserved c).After-line_end-end) (omega arith, reads_next (text (goal.at.loop-end-preserved c).After-line_end-end) (from (goal.at.loop-end-preserved c).After-line_end-end) (inside (goal.at.loop-end-preserved c).After-line_end-end) (here (goal.at.loop-end-preserved c).After-line_end-end) l c.loop-end.invariant.1)
+    let d = (goal.at.loop-end-preserved c).After-line_end-end in
+    let l : end_of (text d) (from d) < length (text d) = omega (arith, c.if-end-text.false, ends d, end_le (text d) (from d) (inside d)) in
+    rw (ends d) (omega arith, reads_next (text d) (from d) (inside d) (here d) l c.loop-end.invariant.1)
 
 pub returns : goal.returns
 returns c =

@@ -1,7 +1,5 @@
 -- `put_clause`: the invariant is that the line is written up to the literals that are left. The measure is the number of bytes that are left.
-use Prim.Native.Nat.{◌-◌}
 use native.Mathlib.Omega.{arith}
-use lib.ListN.{length}
 use Rattle.writing.proofs.PlacedLaws.{wrote_length}
 use Rattle.dimacs.proofs.LineLaws.{Ahead, ahead, Lining, lining_first, lining_inside, literal_room, lining_more, end_room, lining_last}
 use Rattle.dimacs.proofs.writer.put_clause.Goals.{At-loop-i, In-loop-i}
@@ -15,7 +13,9 @@ going l = let v = l.requires in l.loop-i.invariant v.clause v.rest v.bytes v.ove
 -- the literal at i
 literal : (t : In-loop-i)
     → (Ahead t.args.input.now t.requires.rest t.loop-i.i (going (goal.at.In-loop-i t).At-loop-i).left)
-literal t = ahead _ _ t.loop-i.i (going (goal.at.In-loop-i t).At-loop-i).left (going (goal.at.In-loop-i t).At-loop-i).bytes t.loop-i-test.true
+literal t =
+    let d = (goal.at.In-loop-i t).At-loop-i in
+    ahead _ _ t.loop-i.i (going d).left (going d).bytes t.loop-i-test.true
 
 pub loop-i-init : goal.loop-i-init
 loop-i-init c = λ w rest e o. let a = c.args in lining_first a.input.now rest a.from w a.at a.buffer.now e o
