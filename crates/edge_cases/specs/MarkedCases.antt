@@ -145,6 +145,6 @@ pub record MarkedCases : Type 0 where
   -- a byte behind kind 5: 9 at offset 3
   pub tail_byte : refusal_of (decode (1 ∷ 1 ∷ 5 ∷ 0 ∷ [])) ≡ number_at 9 3
   -- S8.2: an accepted formula with something to assign, from the start checkpoint, on budget 0: spent, with no step made and the checkpoint
-  -- unchanged. With nothing to assign the model comes: `None-first` in specs/UnnamedCases.antt
+  -- unchanged. With nothing to assign the model comes: `none_first` in specs/UnnamedCases.antt
   pub start_zero : (s : List ℕ) (us : List Assumption) (n : ℕ) (cs : List (List Literal)) → Encodes s n cs → NoneBad n us
       → (vs : List ℕ) → Pairs (left_of n (map literal_of us) cs) vs → 0 < to_assign (under n (map literal_of us) cs) → walk_call s us start 0 ≡ answered spent 0 0 start

@@ -167,9 +167,9 @@ module _ (s : List ℕ) (us : List Assumption) (b : List ℕ) where
 
     alike_formula : (n : ℕ) (t : List Literal) (cs : List (List Literal)) → decode s ≡ readable n cs → assumed n us ≡ literals t → {a : Acceptance} → FormulaComes n t cs a
         → acceptance s us ≡ a → ((judge s us b).answer.number ≡ 10 → ⊥) → Alike
-    alike_formula n t cs reads assumes (paired vs w) e ne = alike_accepted n t cs _ e (weigh_under s us b l n cs reads t assumes)
-    alike_formula n t cs reads assumes (strips vs none w) e ne = alike_accepted n t cs _ e (weigh_under s us b l n cs reads t assumes)
-    alike_formula n t cs reads assumes (unpaired ms v none) e ne = absurd (ne (ap (λ (j : Judged). j.answer.number) (judge_declined s us b l _ ms e)))
+    alike_formula k t ds reads assumes (paired vs w) e ne = alike_accepted k t ds _ e (weigh_under s us b l k ds reads t assumes)
+    alike_formula k t ds reads assumes (strips vs none w) e ne = alike_accepted k t ds _ e (weigh_under s us b l k ds reads t assumes)
+    alike_formula k t ds reads assumes (unpaired ms v none) e ne = absurd (ne (ap (λ (j : Judged). j.answer.number) (judge_declined s us b l _ ms e)))
 
     alike_long : {a : Acceptance} → Comes s us a → acceptance s us ≡ a → ((judge s us b).answer.number ≡ 10 → ⊥) → Alike
     alike_long (of_formula n t cs reads assumes f) e ne = alike_formula n t cs reads assumes f e ne

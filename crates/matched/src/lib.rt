@@ -248,7 +248,7 @@ pub fn find_matching_under(input: &[u8], u: Assumptions, buffer: &mut [u8]) -> J
     }
 }
 
-// S5.7, S17.2: the act judge. A slice of structs: proved by hand.
+// S5.7, S17.2: the act judge.
 pub fn find_matching(input: &[u8], list: &[Assumption], buffer: &mut [u8]) -> Judgement
     ensures { (judgement_values result ≡ (judge input.now list.now buffer.old).answer)
         × (buffer.new ≡ (judge input.now list.now buffer.old).buffer) }
@@ -326,7 +326,7 @@ pub fn weigh_marks_under(input: &[u8], u: Assumptions, buffer: &[u8]) -> Weighed
 }
 
 // S20.2: how many clauses the buffer marks, and how many variables, the assumed ones not counted, these name: of the marks that judge
-// leaves at refusal 10, one fewer. A slice of structs: proved by hand.
+// leaves at refusal 10, one fewer.
 pub fn weigh_marks(input: &[u8], list: &[Assumption], buffer: &[u8]) -> Weighed
     ensures { weighed_values result ≡ weighed input.now list.now buffer.now }
 {

@@ -17,7 +17,7 @@ use Rattle.lists.proofs.PaddedLaws.{padded_none, take_padded}
 use Rattle.lists.proofs.StoreLaws.{padded_store, held_length}
 use Rattle.masks.proofs.BitLaws.{bit_below}
 use Rattle.matching.specs.Sets.{Words}
-use Rattle.matching.specs.Search.{owner, Search, begin, front, search_from, rematch_from, search_bound, next_search, success, failure, match_rest, outcome, marks}
+use Rattle.matching.specs.Search.{owner, Search, begin, search_from, rematch_from, search_bound, next_search, success, failure, match_rest, outcome, marks}
 use Rattle.lists.proofs.TabulatedLaws.{tabulated_of}
 use Rattle.matching.specs.Inner.{at, owners_of, Partial, Tables, search_of, SearchSound, Owned, Augments, augmented, Augmented}
 use Rattle.matching.specs.Result.{Clauses, packed}

@@ -82,7 +82,7 @@ pub fn write_page_under(
     }
 }
 
-// S19.2: the act page, under a lent list of assumptions. A slice of structs: proved by hand.
+// S19.2: the act page, under a lent list of assumptions.
 pub fn write_page(
     input: &[u8],
     list: &[Assumption],

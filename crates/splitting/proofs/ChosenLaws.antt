@@ -10,7 +10,6 @@ use Rattle.splitting.specs.declared.Assignment.{Assignment}
 use Rattle.splitting.specs.declared.Reduced.{Reduced}
 use Rattle.splitting.specs.declared.Survey.{Survey}
 use Rattle.splitting.specs.InnerChoose.{node, survey_of, reduced, passing, busiest_first, greatest, listed_last, mask_choice}
-use Rattle.splitting.specs.Choosing.{last}
 
 -- ---- the choice
 

@@ -17,7 +17,7 @@ use Rattle.masks.specs.InnerMask.{without, lowest}
 use Rattle.masks.proofs.BitLaws.{minus_lt, bit-none, bit_below, bit-without, bit-without-same}
 use Rattle.masks.proofs.MembersLaws.{lowest_is, members-lowest}
 use Rattle.matching.specs.declared.Matching.{Matching}
-use Rattle.matching.specs.Search.{succeeds, expansions}
+use Rattle.matching.specs.Search.{succeeds}
 use Rattle.matching.proofs.ResultLaws.{packed_complete, packed-expansions}
 use Rattle.formula.specs.declared.Formula.{Formula}
 use Rattle.splitting.specs.declared.Assignment.{Assignment}

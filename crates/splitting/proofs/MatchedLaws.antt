@@ -16,7 +16,7 @@ use Rattle.masks.specs.Mask.{bit}
 use Rattle.matching.specs.InnerMatched.{Matches, Matched}
 use Rattle.matching.proofs.Counting.{count_all, pigeon}
 use Rattle.matching.proofs.Theorems.{sub_list_matched}
-use Rattle.formula.specs.Format.{Literal, names, names_as, distinct}
+use Rattle.formula.specs.Format.{Literal, names, names_as}
 use Rattle.formula.specs.Masked.{variables}
 use Rattle.formula.proofs.ClauseLaws.{named_as, variables-bit}
 use Rattle.splitting.specs.Nodes.{less, assign, named}

@@ -21,7 +21,6 @@ use Rattle.splitting.specs.declared.Assignment.{Assignment}
 use Rattle.splitting.specs.declared.Reduced.{Reduced}
 use Rattle.splitting.specs.declared.Survey.{Survey}
 use Rattle.splitting.specs.InnerChoose.{set_to, node, Small, surveys, survey_from, survey_of, reduced_at, pure_of, reduce_from, reduced, noted_from, stripping_at}
-use Rattle.splitting.specs.Choosing.{last}
 use Rattle.splitting.proofs.NodeMatchingLaws.{Word, WordClause, open_words}
 
 -- ---- pure literals

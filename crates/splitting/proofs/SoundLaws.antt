@@ -12,7 +12,7 @@ use Rattle.lists.proofs.SublistLaws.{Within, sub_within, no_elements}
 use Rattle.lists.proofs.TestLaws.{and_left, and_right, and_both, bool_cases, bool_clash, or_left, or_right}
 use Rattle.masks.specs.Mask.{full}
 use Rattle.matching.specs.InnerMatched.{Matched}
-use Rattle.formula.specs.Format.{Literal, names, names_as, distinct}
+use Rattle.formula.specs.Format.{Literal, names, names_as}
 use Rattle.formula.specs.Masked.{variables}
 use Rattle.formula.proofs.ClauseLaws.{named_as}
 use Rattle.splitting.specs.Nodes.{less, assign, occurs, named, upward}

@@ -16,7 +16,7 @@ use Rattle.matching.proofs.Counting.{count, count_except, except, except_i, exce
 use Rattle.formula.specs.Format.{Literal, names}
 use Rattle.formula.proofs.ClauseLaws.{named_as}
 use Rattle.formula.proofs.FormatLaws.{distinct_rest}
-use Rattle.splitting.specs.Nodes.{remaining, less}
+use Rattle.splitting.specs.Nodes.{remaining}
 use Rattle.splitting.specs.Terms.{Sound, Trail, Covers, Unassigned, Assigns}
 use Rattle.splitting.proofs.ClauseLaws.{named_by}
 use Rattle.splitting.proofs.CountLaws.{except_of, count_drop, count_lacks, count_none, size_count}

@@ -18,6 +18,7 @@ pub returns-in-Accepted : goal.returns-in-Accepted
 returns-in-Accepted c =
     sym (counted_deficiency _ _ (read (goal.at.returns-in-Accepted c).In-Accepted) _ c.clause_masks-sets.ensures _ c.match_most-k.ensures)
 
+-- ---- what is asked on the way
 pub clause_masks-sets-requires : goal.clause_masks-sets-requires
 clause_masks-sets-requires c = (read (goal.at.clause_masks-sets-requires c).In-Accepted).fits.few
 

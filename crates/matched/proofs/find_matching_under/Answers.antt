@@ -29,6 +29,7 @@ pub returns-in-Accepted : goal.returns-in-Accepted
 returns-in-Accepted c us g =
     told (accepted_judged _ us _ c.if-buffer-lt-MAX_CLAUSES.false _ _ (represented (goal.at.returns-in-Accepted c).After-accept-row us g) c.in-Accepted.is) c.write.ensures
 
+-- ---- what is asked on the way
 pub accept-row-requires : goal.accept-row-requires
 accept-row-requires c =
     (_, c.requires.0, c.decode-d.ensures, c.requires.1)

@@ -1,6 +1,5 @@
 -- `matched::first_noted` meets its contract. The loop's invariant: the clause names none of the first i noted variables.
 use borrow.Author.Rules.{rules}
-use Prim.Native.Nat.{◌-◌}
 use native.Mathlib.Omega.{arith}
 use mathlib.Core.Path.{refl, sym, ◌∙◌}
 use Rattle.matched.proofs.TellLaws.{noted_here, noted_later, noted_none}

@@ -1,6 +1,6 @@
 -- `matched::spread` meets its contract. The loop's invariant: the bytes of the first i clauses are written.
 use borrow.Author.Rules.{rules}
-use Prim.Native.Nat.{◌<◌, ◌-◌}
+use Prim.Native.Nat.{◌<◌}
 use native.Mathlib.Omega.{arith}
 use mathlib.Core.Path.{◌≡◌, refl, sym, ◌∙◌}
 use Rattle.limits.specs.Limits.{max_clauses}
@@ -29,12 +29,12 @@ loop-i-preserved c =
     let b = c.args in
     let inside : c.loop-i.i < max_clauses = omega (arith, c.requires.0) in
     elim c.if-not-is_satisfied.branch [
-      then-not-is_satisfied w ↦
-    let g = spread_open b.f.clauses b.a b.answers b.k c.loop-i.i c.loop-i.next c.loop-i.table c.loop-i.invariant.2 c.loop-i.invariant.3 inside (sym c.is_satisfied.ensures ∙ w.if-not-is_satisfied.true) in
-    (omega arith, omega arith, w.next-is ∙ g.0, w.table-is ∙ g.1)
-    | else-not-is_satisfied w ↦
-    let g = spread_gone b.f.clauses b.a b.answers b.k c.loop-i.i c.loop-i.next c.loop-i.table c.loop-i.invariant.2 c.loop-i.invariant.3 inside (sym c.is_satisfied.ensures ∙ w.if-not-is_satisfied.false) in
-    (omega arith, omega arith, w.next-is ∙ g.0, w.table-is ∙ g.1)
+      | then-not-is_satisfied w ↦
+          let g = spread_open b.f.clauses b.a b.answers b.k c.loop-i.i c.loop-i.next c.loop-i.table c.loop-i.invariant.2 c.loop-i.invariant.3 inside (sym c.is_satisfied.ensures ∙ w.if-not-is_satisfied.true) in
+          (omega arith, omega arith, w.next-is ∙ g.0, w.table-is ∙ g.1)
+      | else-not-is_satisfied w ↦
+          let g = spread_gone b.f.clauses b.a b.answers b.k c.loop-i.i c.loop-i.next c.loop-i.table c.loop-i.invariant.2 c.loop-i.invariant.3 inside (sym c.is_satisfied.ensures ∙ w.if-not-is_satisfied.false) in
+          (omega arith, omega arith, w.next-is ∙ g.0, w.table-is ∙ g.1)
     ]
 
 pub returns : goal.returns

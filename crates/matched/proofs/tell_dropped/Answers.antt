@@ -1,6 +1,5 @@
 -- `matched::tell_dropped` meets its contract. The loop's invariant: the bytes of the first i clauses are written.
 use borrow.Author.Rules.{rules}
-use Prim.Native.Nat.{◌-◌}
 use native.Mathlib.Omega.{arith}
 use mathlib.Core.Path.{◌≡◌, refl}
 use Rattle.lists.specs.Padded.{padded}

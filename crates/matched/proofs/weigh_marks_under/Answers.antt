@@ -35,6 +35,7 @@ returns-else-u c us g =
     (sym (counted_weighed _ us _ c.if-buffer-lt-MAX_CLAUSES.false _ g _ (read (goal.at.returns-else-u c).In-Accepted) c.if-u.false _ _
     c.count_marked.ensures c.named_by.ensures))
 
+-- ---- what is asked on the way
 pub named_by-requires : goal.named_by-requires
 named_by-requires c = ((read (goal.at.named_by-requires c).In-Accepted).fits.few, bytes (goal.at.named_by-requires c).In-Accepted)
 

@@ -1,10 +1,9 @@
 -- `matched::write` meets its contract. The loop's invariant: the first i bytes are written.
 use borrow.Author.Rules.{rules}
-use Prim.Native.Nat.{◌<◌, ◌-◌}
+use Prim.Native.Nat.{◌<◌}
 use native.Mathlib.Omega.{arith}
 use mathlib.Core.Path.{◌≡◌, refl}
 use lib.ListN.{length, take, length-set}
-use Rattle.lists.specs.Over.{over}
 use Rattle.matched.proofs.SpreadLaws.{over_more, taken_length, taken_more}
 use Rattle.matched.proofs.write.Goals as goal
 

@@ -1,7 +1,5 @@
 -- `find_path` is the definition's search.
-use Prim.Native.Nat.{◌-◌}
 use native.Mathlib.Omega.{arith}
-use Rattle.matching.specs.Search.{begin}
 use Rattle.matching.specs.Inner.{at}
 use Rattle.matching.proofs.FrontLaws.{sound_tail, searching_begin, searching_expand, searching_on, searching_found, searching_none}
 use Rattle.matching.proofs.find_path.Goals as goal

@@ -3,7 +3,6 @@ use borrow.Author.Rules.{rules}
 use native.Mathlib.Omega.{arith}
 use Rattle.limits.specs.Limits.{max_clauses}
 use Rattle.matching.proofs.WholeLaws.{marks_next}
-use Prim.Native.Nat.{◌-◌}
 use mathlib.Core.Path.{◌≡◌}
 use Rattle.matching.specs.Search.{marks}
 use Rattle.matching.proofs.mark.Goals as goal

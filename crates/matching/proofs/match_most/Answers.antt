@@ -1,5 +1,4 @@
 -- `match_most` gives the most clauses that can be matched together.
-use Prim.Native.Nat.{◌-◌}
 use mathlib.Core.Path.{◌≡◌}
 use native.Mathlib.Omega.{arith}
 use Rattle.matching.proofs.MostLoopLaws.{holding_begin, more_words, more_tables, holding_leave, holding_more, holding_done}

@@ -1,5 +1,5 @@
 -- `match_sets` is the definition's outcome.
-use Prim.Native.Nat.{◌+◌, ◌-◌, ◌≤◌}
+use Prim.Native.Nat.{◌+◌, ◌≤◌}
 use native.Mathlib.Omega.{arith}
 use Rattle.matching.proofs.WholeLaws.{running_begin, head_le, running_on, queue_low, failed, finished}
 use Rattle.matching.proofs.match_sets.Goals.{After-augment-front}

@@ -3,7 +3,7 @@
 use mathlib.Core.Path.{◌≡◌}
 use lib.ListN.{take}
 use Rattle.matching.specs.Search.{search_bound, rematch_from as rematched}
-use Rattle.matching.specs.Inner.{at, distance, Augments}
+use Rattle.matching.specs.Inner.{distance, Augments}
 use Rattle.matching.proofs.rematch.Given as goal
 
 abbrev pub invariant-loop-clause : goal.invariant-loop-clause

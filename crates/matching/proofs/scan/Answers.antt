@@ -1,6 +1,5 @@
 -- `scan` goes through the unseen variables by the lowest member of what is left.
 use mathlib.Core.Path.{refl}
-use Rattle.matching.specs.Inner.{at}
 use Rattle.matching.proofs.FrontLaws.{Next, next_is, going_on, going_found, going_none}
 use Rattle.matching.proofs.scan.Goals.{After-lowest-v}
 use Rattle.matching.proofs.scan.Goals as goal

@@ -1,7 +1,5 @@
 -- `all_satisfied` tells whether each clause is satisfied.
-use Prim.Native.Nat.{◌-◌}
 use native.Mathlib.Omega.{arith}
-use mathlib.Core.Bool.{true}
 use mathlib.Core.Path.{◌≡◌, refl, sym, ◌∙◌}
 use Rattle.formula.specs.InnerCheck.{all_first}
 use Rattle.formula.proofs.CheckLaws.{all_more, all_fails}

@@ -1,9 +1,8 @@
 -- `compact` keeps what is left of the open clauses.
-use Prim.Native.Nat.{◌-◌}
 use native.Mathlib.Omega.{arith}
 use mathlib.Core.Path.{◌≡◌, refl, sym, ◌∙◌}
 use borrow.Author.Rules.{rules}
-use lib.ListN.{length, length-set}
+use lib.ListN.{length-set}
 use Rattle.lists.specs.Tabulated.{tabulated}
 use Rattle.splitting.specs.InnerChoose.{clauses_in, open_clauses}
 use Rattle.splitting.proofs.OpenClauseLaws.{clause_read, clause_kept, formula_held, open_gone, keep_more}

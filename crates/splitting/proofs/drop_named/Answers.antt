@@ -1,10 +1,9 @@
 -- `drop_named` keeps the clauses that do not name v.
-use Prim.Native.Nat.{◌-◌}
 use native.Mathlib.Omega.{arith}
 use mathlib.Core.Path.{◌≡◌, refl, sym, ◌∙◌}
 use borrow.Author.Rules.{rules}
-use lib.ListN.{length, length-set}
-use Rattle.splitting.specs.InnerChoose.{clauses_in, unnamed}
+use lib.ListN.{length-set}
+use Rattle.splitting.specs.InnerChoose.{clauses_in}
 use Rattle.splitting.proofs.OpenClauseLaws.{clause_read, clause_kept, unnamed_gone, unnamed_more}
 use Rattle.splitting.proofs.drop_named.Goals.{then-not-member, else-not-member}
 use Rattle.splitting.proofs.drop_named.Goals as goal

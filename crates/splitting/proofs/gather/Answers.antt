@@ -1,9 +1,8 @@
 -- `gather` writes what each clause of the node names.
-use Prim.Native.Nat.{◌-◌}
 use native.Mathlib.Omega.{arith}
 use mathlib.Core.Path.{◌≡◌, refl, sym, ◌∙◌}
 use borrow.Author.Rules.{rules}
-use lib.ListN.{length, length-set}
+use lib.ListN.{length-set}
 use Rattle.splitting.specs.InnerChoose.{clauses_in, open_clauses}
 use Rattle.splitting.proofs.OpenClauseLaws.{clause_read, open_gone, gather_more}
 use Rattle.splitting.proofs.gather.Goals.{then-not-is_satisfied, else-not-is_satisfied}

@@ -1,9 +1,7 @@
 -- `has_empty` tells whether a clause of the node is empty.
-use Prim.Native.Nat.{◌-◌}
 use native.Mathlib.Omega.{arith}
 use mathlib.Core.Path.{◌≡◌, refl, sym, ap, ◌∙◌}
 use borrow.Author.Rules.{rules}
-use mathlib.Core.Bool.{false}
 use Rattle.formula.specs.InnerFits.{clause_variables}
 use Rattle.splitting.specs.InnerChoose.{clauses_in, open_clauses, some_empty}
 use Rattle.splitting.proofs.OpenClauseLaws.{clause_read, open_gone, empty_found, empty_passed}

@@ -1,9 +1,8 @@
 -- `open_node` writes what is left of the open clauses.
-use Prim.Native.Nat.{◌-◌}
 use native.Mathlib.Omega.{arith}
 use mathlib.Core.Path.{◌≡◌, refl, sym, ◌∙◌}
 use borrow.Author.Rules.{rules}
-use lib.ListN.{length, length-set}
+use lib.ListN.{length-set}
 use Rattle.lists.specs.Tabulated.{tabulated}
 use Rattle.splitting.specs.InnerChoose.{open_clauses}
 use Rattle.splitting.proofs.OpenClauseLaws.{formula_held, open_gone, keep_more}

@@ -1,6 +1,6 @@
 -- `writing::put_decimal` meets its contract. Its measure is the number.
 use native.Mathlib.Omega.{arith}
-use mathlib.Core.Path.{◌≡◌, ap}
+use mathlib.Core.Path.{ap}
 use Prim.Native.Nat.{◌/◌, ◌≤◌}
 use lib.ListN.{length}
 use Rattle.writing.specs.Placed.{Room}

@@ -1,10 +1,10 @@
 -- `writing::put_blanks` meets its contract. The loop's invariant: the first i blanks are written.
 use borrow.Author.Rules.{rules}
-use Prim.Native.Nat.{ℕ, ◌-◌}
+use Prim.Native.Nat.{ℕ}
 use native.Mathlib.Omega.{arith}
 use mathlib.Core.Path.{◌≡◌, refl, sym, ap, ◌∙◌}
 use mathlib.Core.List.{List}
-use lib.ListN.{length, length-set}
+use lib.ListN.{length-set}
 use Rattle.lists.specs.Tabulated.{tabulated}
 use Rattle.writing.specs.Placed.{placed}
 use Rattle.writing.specs.Text.{blank, blanks}

@@ -2,7 +2,6 @@
 use native.Mathlib.Omega.{arith}
 use mathlib.Core.Path.{ap}
 use lib.ListN.{length}
-use Rattle.writing.specs.Text.{decimal}
 use Rattle.writing.proofs.DecimalLaws.{smaller, decimal-length, decimal_one, decimal_some, more_length}
 use Rattle.writing.proofs.width_of.Goals as goal
 

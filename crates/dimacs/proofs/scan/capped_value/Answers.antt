@@ -4,8 +4,6 @@ use mathlib.Core.Path.{refl, ◌∙◌}
 use native.Mathlib.Omega.{arith}
 use lib.ListN.{get_or}
 use Rattle.writing.specs.Text.{digit_zero}
-use Rattle.dimacs.specs.Text.{value}
-use Rattle.dimacs.specs.InnerScan.{cap, capped}
 use Rattle.dimacs.proofs.ScanLaws.{capped_le, value_next, value_end}
 use Rattle.dimacs.proofs.scan.capped_value.Goals as goal
 

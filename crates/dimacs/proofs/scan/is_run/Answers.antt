@@ -1,5 +1,4 @@
 -- `is_run`: the bytes up to i are digits, so what is left decides.
-use Prim.Native.Nat.{◌-◌}
 use mathlib.Core.Path.{refl, sym, ◌∙◌}
 use native.Mathlib.Omega.{arith}
 use borrow.Author.Tests.{eq-eqb}

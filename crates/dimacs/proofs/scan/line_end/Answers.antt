@@ -1,10 +1,8 @@
 -- `line_end`: what the bytes up to i add, and what is left, is what the whole gives.
 use borrow.Author.Tests.{eq-eqb, ne_eqb}
-use Prim.Native.Nat.{◌-◌}
 use mathlib.Core.Path.{refl, ◌∙◌}
 use native.Mathlib.Omega.{arith}
 use Rattle.dimacs.specs.Text.{ends_line}
-use Rattle.dimacs.specs.InnerScan.{until}
 use Rattle.dimacs.proofs.ScanLaws.{until_end, until_here, until_next}
 use Rattle.dimacs.proofs.scan.line_end.Goals as goal
 

@@ -1,9 +1,6 @@
 -- `same`: the bytes up to i are the same, so what is left decides.
-use Prim.Native.Nat.{◌-◌}
 use mathlib.Core.Path.{refl, sym, ◌∙◌}
 use native.Mathlib.Omega.{arith}
-use lib.ListN.{length}
-use Rattle.dimacs.specs.Text.{same}
 use Rattle.dimacs.proofs.ScanLaws.{same_length, same_next, same_bad, same_end}
 use Rattle.dimacs.proofs.scan.same.Goals as goal
 

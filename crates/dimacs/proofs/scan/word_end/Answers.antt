@@ -1,9 +1,7 @@
 -- `word_end`: what the bytes up to i add, and what is left, is what the whole gives.
-use Prim.Native.Nat.{◌-◌}
 use mathlib.Core.Path.{refl, sym, ◌∙◌}
 use native.Mathlib.Omega.{arith}
 use Rattle.dimacs.specs.Text.{parts_words}
-use Rattle.dimacs.specs.InnerScan.{until}
 use Rattle.dimacs.proofs.ScanLaws.{until_end, until_here, until_next}
 use Rattle.dimacs.proofs.scan.word_end.Goals as goal
 

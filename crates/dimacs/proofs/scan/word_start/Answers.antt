@@ -1,9 +1,8 @@
 -- `word_start`: what the bytes up to i add, and what is left, is what the whole gives.
-use Prim.Native.Nat.{◌-◌}
 use mathlib.Core.Bool.{not}
 use mathlib.Core.Path.{refl, sym, ap, ◌∙◌}
 use native.Mathlib.Omega.{arith}
-use Rattle.dimacs.specs.InnerScan.{until, in_word}
+use Rattle.dimacs.specs.InnerScan.{in_word}
 use Rattle.dimacs.proofs.ScanLaws.{until_end, until_here, until_next}
 use Rattle.dimacs.proofs.scan.word_start.Goals as goal
 

@@ -1,9 +1,7 @@
 -- `put_clauses`: the invariant is that the lines are written up to the clauses that are left. The measure is their number.
 use Prim.Native.Nat.{◌+◌, ◌-◌}
-use mathlib.Core.List.{List}
 use mathlib.Core.Path.{◌≡◌}
 use native.Mathlib.Omega.{arith}
-use lib.ListN.{length}
 use Rattle.writing.proofs.PlacedLaws.{wrote_length}
 use Rattle.dimacs.proofs.LineLaws.{Listing, listing-first, listing_clause, listing_more, listing_last}
 use Rattle.dimacs.proofs.writer.put_clauses.Goals.{At-loop-i}

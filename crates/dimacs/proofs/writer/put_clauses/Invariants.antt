@@ -1,5 +1,5 @@
 -- `put_clauses`: the invariant is that the lines are written up to the clauses that are left. The measure is their number.
-use Prim.Native.Nat.{ℕ, ◌+◌, ◌-◌}
+use Prim.Native.Nat.{ℕ, ◌-◌}
 use mathlib.Core.List.{List, ◌++◌}
 use mathlib.Core.Path.{◌≡◌}
 use lib.ListN.{length, drop}
