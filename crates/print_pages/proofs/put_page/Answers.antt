@@ -16,5 +16,5 @@ pub returns : goal.returns
 returns c =
     let k : c.args.from + page_size - c.args.from ≡ page_size = omega arith in
     put_told c.args.input.now [] (checkpoint_values c.args.checkpoint) c.args.serial c.args.from (c.args.from + page_size - c.args.from) c.args.buffer.now
-    c.write_page_under.new.page c.write_page_under.result k c.requires c.write_page_under.auto.1.1.1.1.0
+    c.write_page_under.new.page c.write_page_under.result k c.requires c.write_page_under.auto.page
     (c.write_page_under.ensures [] (c.none_assumed-none.ensures ∙ given_none _))

@@ -14,7 +14,7 @@ put_page-p-requires c = omega (arith, c.loop-left.invariant.0, c.loop-left.invar
 
 pub put_refused_line-requires : goal.put_refused_line-requires
 put_refused_line-requires c =
-    omega (arith, c.loop-left.invariant.0, c.loop-left.invariant.1, c.put_page-p.auto.1.1.1.0, numbers-length 19 19 c.number_of-number.result c.place_of-place.result (omega arith) (omega arith))
+    omega (arith, c.loop-left.invariant.0, c.loop-left.invariant.1, c.put_page-p.auto.buffer, numbers-length 19 19 c.number_of-number.result c.place_of-place.result (omega arith) (omega arith))
 
 pub returns-in-Refused : goal.returns-in-Refused
 returns-in-Refused c =
@@ -33,7 +33,7 @@ overflow_add-serial c = omega (arith, c.loop-left.invariant.2)
 
 pub loop-left-preserved : goal.loop-left-preserved
 loop-left-preserved c = (
-  c.put_page-p.auto.1.1.1.0 ∙ c.loop-left.invariant.0,
+  c.put_page-p.auto.buffer ∙ c.loop-left.invariant.0,
   omega (arith, c.loop-left.invariant.1),
   omega (arith, c.loop-left.invariant.2),
   going_more _ _ _ _ _ _ _ c.loop-left.invariant.3 (omega arith) _ _ c.put_page-p.ensures _ c.in-Filled.is (omega arith),
