@@ -1,12 +1,10 @@
 -- Laws of the walk's calls and comparisons: each from what its parts ensure.
 use Prim.Native.Nat.{ℕ, zero, suc, ◌+◌, ◌-◌, ◌≤◌}
-use mathlib.Core.List.{List, [], ◌∷◌, ◌++◌, append-nil}
-use mathlib.Core.Path.{◌≡◌, refl, ◌∙◌}
+use mathlib.Core.List.{List, ◌∷◌}
+use mathlib.Core.Path.{◌≡◌, refl}
 use native.Mathlib.Omega.{arith}
 use lib.Dec.{eqb}
-use lib.ListN.{length, get_or, take, drop, length-drop}
-use lib.Seq.{length-take-le, take-length, drop-length}
-use Rattle.lists.specs.Over.{over}
+use lib.ListN.{length, get_or}
 use Rattle.walk.specs.Checkpoints.{Checkpoint, start}
 use Rattle.walk.specs.WalkCall.{walk_call}
 use Rattle.walk.specs.Results.{Result}
@@ -27,26 +25,6 @@ pub past_two :
 past_two mode length trail zero h = absurd (omega arith)
 past_two mode length trail (suc zero) h = absurd (omega arith)
 past_two mode length trail (suc (suc i)) h = let e : suc (suc i) - 2 ≡ i = omega arith in rw e
-
--- what was copied from a part of a list stands over the beginning of an array,
-pub copied_over :
-    (k : ℕ) (s old new : List ℕ) (at : ℕ) →
-    (let part = take (at + k - at) (drop at s) in new ≡ take (length part) part ++ drop (length part) old) →
-    new ≡ over (take k (drop at s)) old
-copied_over k s old new at f = let d : at + k - at ≡ k = omega arith in f ∙ rw (d, take-length)
-
--- and is the whole of one of the part's length
-pub copied :
-    (k : ℕ) (s old new : List ℕ) (at : ℕ) →
-    at + k ≤ length s →
-    length old ≡ k →
-    (let part = take (at + k - at) (drop at s) in new ≡ take (length part) part ++ drop (length part) old) →
-    new ≡ take k (drop at s)
-copied k s old new at h l f =
-    let m : k ≤ length (drop at s) = rw length-drop (omega arith) in
-    let n : length (take k (drop at s)) ≡ k = length-take-le k (drop at s) m in
-    let z : drop k old ≡ [] = rw (← l) (drop-length old) in
-    copied_over k s old new at f ∙ rw (n, z, append-nil)
 
 -- the values of an answer have the checkpoint beside it
 pub kept : (a : Answer) (s e : ℕ) (c : Checkpoint) → (answer_values a s e c).checkpoint ≡ c

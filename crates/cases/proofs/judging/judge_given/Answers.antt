@@ -9,7 +9,6 @@ use borrow.Author.Rules.{rules}
 use Rattle.cases.proofs.judging.judge_given.Goals.{Then-are_two}
 use Rattle.cases.proofs.judging.judge_given.Goals as goal
 
--- `judge_given`: what the call ensures of the vector's assumptions, lent or read.
 -- the vector has two
 two : (c : Then-are_two) → let v = c.args.v in eqb (v.output - v.middle) 4 ≡ true
 two c = sym c.are_two.ensures ∙ c.if-are_two.true

@@ -1,9 +1,7 @@
 -- `first_other`: the invariant is that no model before i is wrong. The measure is the number of places that are left.
-use Prim.Native.Nat.{◌-◌}
 use mathlib.Core.Path.{sym, ◌∙◌}
 use native.Mathlib.Omega.{arith}
 use Rattle.vectors.proofs.ComparingLaws.{from_first, wrong_here, right_here, none_wrong}
-use Rattle.cases.specs.Listing.{wanted_model}
 use Rattle.cases.proofs.listing.first_other.Goals as goal
 
 pub loop-i-init : goal.loop-i-init

@@ -9,7 +9,6 @@ use Rattle.cases.proofs.ListingLaws.{listed_as}
 use Rattle.cases.proofs.listing.list_of.Goals.{Then-are_two}
 use Rattle.cases.proofs.listing.list_of.Goals as goal
 
--- `list_of`: the list is that of `listed_by`, since each argument is what its function ensures.
 -- the vector has two
 two : (c : Then-are_two) → let v = c.args.v in eqb (v.output - v.middle) 4 ≡ true
 two c = sym c.are_two.ensures ∙ c.if-are_two.true

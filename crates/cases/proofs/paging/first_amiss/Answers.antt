@@ -1,9 +1,7 @@
 -- `first_amiss`: the invariant is that no byte before i is wrong. The measure is the number of bytes that are left.
-use Prim.Native.Nat.{◌-◌}
 use mathlib.Core.Path.{sym, ◌∙◌}
 use native.Mathlib.Omega.{arith}
 use Rattle.vectors.proofs.ComparingLaws.{from_first, wrong_here, right_here, none_wrong}
-use Rattle.cases.specs.Paging.{page_byte}
 use Rattle.cases.proofs.paging.first_amiss.Goals as goal
 
 pub loop-i-init : goal.loop-i-init

@@ -6,7 +6,6 @@ use borrow.Author.Rules.{rules}
 use Rattle.cases.proofs.waiting.next_call.Goals.{After-call_from-q}
 use Rattle.cases.proofs.waiting.next_call.Goals as goal
 
--- `next_call`: a call of the list of calls.
 -- the call's steps are below 2 ^ 32
 kept : (c : After-call_from-q) → c.call_from-q.result.steps < 4294967296
 kept c =

@@ -6,7 +6,6 @@ use Rattle.cases.proofs.WaitingLaws.{other_variable, same_if_true, same_if_false
 use Rattle.cases.proofs.waiting.same_literal.Goals.{Else-variable_of}
 use Rattle.cases.proofs.waiting.same_literal.Goals as goal
 
--- `same_literal`: by the variables, and where these are the same by the values.
 -- the variables are the same
 same : (c : Else-variable_of) → byte_number c.args.a - 1 ≡ byte_number c.args.b - 1
 same c = sym c.variable_of.ensures ∙ c.if-variable_of.false ∙ c.variable_of-2.ensures

@@ -1,9 +1,7 @@
 -- `shared_of`: the invariant is that what is shared is what lies before i and what is shared from i on. The measure is what is left of the
 -- first trail.
-use Prim.Native.Nat.{◌-◌}
 use mathlib.Core.Path.{sym, ap₂, ◌∙◌}
 use native.Mathlib.Omega.{arith}
-use borrow.Author.Tests.{not-true, not-false}
 use Rattle.walk.specs.Gaps.{shared}
 use Rattle.cases.proofs.WaitingLaws.{shares_first, shares_ended, shares_other_ended, shares_stop, shares_more}
 use borrow.Author.Rules.{rules}
@@ -22,14 +20,14 @@ pub returns-then-not-same_literal : goal.returns-then-not-same_literal
 returns-then-not-same_literal c =
     let n = c.length_of-end.ensures in
     let m = c.length_of-other_end.ensures in
-    shares_stop c.loop-i.invariant.1 (search rules) n.small (search rules) m.small (omega arith) (omega arith) (sym c.same_literal.ensures ∙ not-true _ c.if-not-same_literal.true-raw)
+    shares_stop c.loop-i.invariant.1 (search rules) n.small (search rules) m.small (omega arith) (omega arith) (sym c.same_literal.ensures ∙ c.if-not-same_literal.true)
     ∙ sym (ap₂ shared n.trail m.trail)
 
 pub loop-i-preserved : goal.loop-i-preserved
 loop-i-preserved c =
     let n = c.length_of-end.ensures in
     let m = c.length_of-other_end.ensures in
-    (omega arith, shares_more c.loop-i.invariant.1 (search rules) n.small (search rules) m.small (omega arith) (omega arith) (sym c.same_literal.ensures ∙ not-false _ c.if-not-same_literal.false-raw))
+    (omega arith, shares_more c.loop-i.invariant.1 (search rules) n.small (search rules) m.small (omega arith) (omega arith) (sym c.same_literal.ensures ∙ c.if-not-same_literal.false))
 
 pub returns : goal.returns
 returns c =

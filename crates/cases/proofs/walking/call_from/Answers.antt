@@ -8,7 +8,6 @@ use Rattle.cases.proofs.AssumingLaws.{two_end, two_of}
 use Rattle.cases.proofs.walking.call_from.Goals.{Then-are_two}
 use Rattle.cases.proofs.walking.call_from.Goals as goal
 
--- `call_from`: what the walk ensures of the vector's assumptions, lent or read.
 -- the vector has two
 two : (c : Then-are_two) → let v = c.args.v in eqb (v.output - v.middle) 4 ≡ true
 two c = sym c.are_two.ensures ∙ c.if-are_two.true

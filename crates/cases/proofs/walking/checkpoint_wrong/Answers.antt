@@ -1,5 +1,4 @@
 -- `checkpoint_wrong`: each return by the tests that led to it.
-use native.Mathlib.Omega.{arith}
 use borrow.Author.Tests.{eq-eqb, ne_eqb}
 use Rattle.cases.specs.Walking.{checkpoint_wrong}
 use Rattle.cases.proofs.walking.checkpoint_wrong.Goals as goal

@@ -8,7 +8,6 @@ use Rattle.cases.proofs.AssumingLaws.{two_of}
 use Rattle.cases.proofs.weighing.weigh_given.Goals.{Then-are_two}
 use Rattle.cases.proofs.weighing.weigh_given.Goals as goal
 
--- `weigh_given`: what the act ensures of the vector's assumptions, lent or read.
 -- the vector has two
 two : (c : Then-are_two) → let v = c.args.v in eqb (v.output - v.middle) 4 ≡ true
 two c = sym c.are_two.ensures ∙ c.if-are_two.true
