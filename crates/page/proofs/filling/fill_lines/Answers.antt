@@ -23,6 +23,7 @@ few g =
     let v = g.requires.valid in
     run_steps _ _ _ (ran g v.tree v.follows v.holds)
 
+-- a run that brings none
 brings_none : (c : In_default) (m : ℕ) → c.go_on-r.result.ending ≡ Model m → ⊥
 brings_none c m e = c.in_default.not-Model m e
 
