@@ -1,5 +1,5 @@
 -- `fill_lines` writes the lines of the next models. The invariant: i lines are written, and the others go on from s.
-use Prim.Native.Nat.{ℕ, ◌-◌, ◌<◌}
+use Prim.Native.Nat.{ℕ, ◌<◌}
 use mathlib.Core.Path.{◌≡◌, refl, ◌∙◌}
 use native.Mathlib.Omega.{arith}
 use Rattle.walk.specs.Gaps.{ample_budget}
