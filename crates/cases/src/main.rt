@@ -88,7 +88,8 @@ fn run_file<R: Files + Print>(rt: &R, t: Totals, name: &str, act: Act) -> io::Re
 // The files of an act, whose names end in a, b and so on up to z, and then the line that sums them up.
 fn run_files<R: Files + Print + Alloc>(rt: &R, name: &str, act: Act, unit: &str) -> io::Result<()> {
     let mut t = totals::none();
-    for letter in 'a'..='z' {
+    for i in 0..26u8 {
+        let letter = char::from(b'a' + i);
         let path = format!(in rt.alloc(); "{name}{letter}")?;
         t = run_file(rt, t, path.as_str(), act)?;
     }

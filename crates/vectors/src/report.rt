@@ -1,8 +1,7 @@
 // The lines that the program `cases` prints.
 use crate::answers::Answer;
 use crate::totals::Totals;
-use std::fmt;
-use std::io;
+use std::{fmt, io};
 
 // What an answer says, in words.
 fn words_of(says: u64) -> &'static str {

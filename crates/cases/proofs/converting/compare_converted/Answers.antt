@@ -2,15 +2,16 @@
 use mathlib.Core.Path.{◌≡◌, sym, ◌∙◌}
 use Rattle.cases.specs.Converting.{converts}
 use Rattle.cases.proofs.ConvertingLaws.{compared}
+use Rattle.cases.proofs.converting.compare_converted.Given.{Over}
 use Rattle.cases.proofs.converting.compare_converted.Goals.{After-agree}
 use Rattle.cases.proofs.converting.compare_converted.Goals as goal
 
 -- what the comparison gives
 told :
-    (c : After-agree) →
+    (g : Over) (c : After-agree g) →
     let a = c.args in
     c.agree.result ≡ converts a.reads a.bytes.now a.v a.fill a.buffer.now
-told c =
+told g c =
     c.agree.ensures
     ∙ compared _ _ _ _ _ _ _ _ _
     c.expected_at-wanted.ensures
@@ -19,10 +20,10 @@ told c =
     c.convert-got.auto.1.1.0
 
 pub returns-then-agree : goal.returns-then-agree
-returns-then-agree c = sym c.if-agree.true ∙ told c.before
+returns-then-agree g c = sym c.if-agree.true ∙ told g (goal.at.returns-then-agree g c).After-agree
 
 pub returns-then-wrong-buffer : goal.returns-then-wrong-buffer
-returns-then-wrong-buffer c = sym c.if-agree.false ∙ told e.before
+returns-then-wrong-buffer g c = sym c.if-agree.false ∙ told g (goal.at.returns-then-wrong-buffer g c).After-agree
 
 pub returns-else-wrong-buffer : goal.returns-else-wrong-buffer
-returns-else-wrong-buffer c = sym c.if-agree.false ∙ told e.before
+returns-else-wrong-buffer g c = sym c.if-agree.false ∙ told g (goal.at.returns-else-wrong-buffer g c).After-agree

@@ -6,10 +6,10 @@ use Rattle.cases.proofs.ConvertingLaws.{filled-length, converting_of}
 use Rattle.cases.proofs.converting.convert_vector.Goals as goal
 
 pub slice_bounds-compare_converted-end : goal.slice_bounds-compare_converted-end
-slice_bounds-compare_converted-end c =
+slice_bounds-compare_converted-end g c =
     let l = filled-length _ _ c.filled-array.ensures in
     sym (length-take-le _ _ (omega arith))
 
 pub returns : goal.returns
-returns c =
+returns g c =
     converting_of _ _ _ _ _ _ c.filled-array.ensures c.two_bytes-size.ensures.value c.compare_converted.ensures

@@ -2,14 +2,15 @@
 use mathlib.Core.Path.{◌≡◌, sym, ◌∙◌}
 use Rattle.cases.specs.Judging.{judge_agrees}
 use Rattle.cases.proofs.JudgingLaws.{compared}
+use Rattle.cases.proofs.judging.judge_vector.Given.{Over}
 use Rattle.cases.proofs.judging.judge_vector.Goals.{After-agree}
 use Rattle.cases.proofs.judging.judge_vector.Goals as goal
 
 -- what the comparison gives
 told :
-    (c : After-agree) →
+    (g : Over) (c : After-agree g) →
     c.agree.result ≡ judge_agrees c.args.bytes.now c.args.v
-told c =
+told g c =
     c.agree.ensures
     ∙ compared _ _ _ _ _ _
     c.expected_at-wanted.ensures
@@ -18,10 +19,10 @@ told c =
     c.first_wrong-wrong.ensures.place
 
 pub returns-then-agree : goal.returns-then-agree
-returns-then-agree c = sym c.if-agree.true ∙ told c.before
+returns-then-agree g c = sym c.if-agree.true ∙ told g (goal.at.returns-then-agree g c).After-agree
 
 pub returns-then-wrong-lt256 : goal.returns-then-wrong-lt256
-returns-then-wrong-lt256 c = sym c.if-agree.false ∙ told c.before.before.before.before.before
+returns-then-wrong-lt256 g c = sym c.if-agree.false ∙ told g (goal.at.returns-then-wrong-lt256 g c).After-agree
 
 pub returns-else-wrong-lt256 : goal.returns-else-wrong-lt256
-returns-else-wrong-lt256 c = sym c.if-agree.false ∙ told c.before.before.before
+returns-else-wrong-lt256 g c = sym c.if-agree.false ∙ told g (goal.at.returns-else-wrong-lt256 g c).After-agree

@@ -4,14 +4,15 @@ use native.Mathlib.Omega.{arith}
 use Rattle.enumeration.specs.Values.{checkpoint_values}
 use Rattle.cases.specs.Paging.{paged, pages}
 use Rattle.cases.proofs.PagingLaws.{compared, returned}
+use Rattle.cases.proofs.paging.compare_page.Given.{Over}
 use Rattle.cases.proofs.paging.compare_page.Goals.{After-page_agree}
 use Rattle.cases.proofs.paging.compare_page.Goals as goal
 
 -- what the comparison gives
-told : (c : After-page_agree)
+told : (g : Over) (c : After-page_agree g)
     → let a = c.args in
     c.page_agree.result ≡ pages a.bytes.now a.v (checkpoint_values a.last) a.fill a.page.now
-told c =
+told g c =
     c.page_agree.ensures
     ∙ compared _ _ _ _ _ _ c.page_of-told.result _ _ _ _ _
     c.expected_at-wanted.ensures
@@ -23,22 +24,22 @@ told c =
     c.page_of-told.auto.1.1.1.0
 
 -- the checkpoint that the call returned
-left : (c : After-page_agree)
+left : (g : Over) (c : After-page_agree g)
     → let a = c.args in
     checkpoint_values c.page_of-told.result.checkpoint ≡ (paged a.bytes.now a.v (checkpoint_values a.last) a.page.now).checkpoint
-left c = returned _ _ _ _ _ c.page_of-told.result c.page_of-told.ensures
+left g c = returned _ _ _ _ _ c.page_of-told.result c.page_of-told.ensures
 
 pub returns-then-page_agree : goal.returns-then-page_agree
-returns-then-page_agree c = record { agrees = sym c.if-page_agree.true ∙ told (goal.at.returns-then-page_agree c).After-page_agree; leaves = left (goal.at.returns-then-page_agree c).After-page_agree }
+returns-then-page_agree g c = record { agrees = sym c.if-page_agree.true ∙ told g (goal.at.returns-then-page_agree g c).After-page_agree; leaves = left g (goal.at.returns-then-page_agree g c).After-page_agree }
 
 pub report_byte-requires : goal.report_byte-requires
-report_byte-requires c = omega (arith, c.requires.whole)
+report_byte-requires g c = omega (arith, c.requires.whole)
 
 pub page_byte-requires : goal.page_byte-requires
-page_byte-requires c = let l = c.requires in omega (arith, l.bytes, l.whole)
+page_byte-requires g c = let l = c.requires in omega (arith, l.bytes, l.whole)
 
 pub returns-then-wrong-page : goal.returns-then-wrong-page
-returns-then-wrong-page c = record { agrees = sym c.if-page_agree.false ∙ told (goal.at.returns-then-wrong-page c).After-page_agree; leaves = left (goal.at.returns-then-wrong-page c).After-page_agree }
+returns-then-wrong-page g c = record { agrees = sym c.if-page_agree.false ∙ told g (goal.at.returns-then-wrong-page g c).After-page_agree; leaves = left g (goal.at.returns-then-wrong-page g c).After-page_agree }
 
 pub returns-else-wrong-page : goal.returns-else-wrong-page
-returns-else-wrong-page c = record { agrees = sym c.if-page_agree.false ∙ told (goal.at.returns-else-wrong-page c).After-page_agree; leaves = left (goal.at.returns-else-wrong-page c).After-page_agree }
+returns-else-wrong-page g c = record { agrees = sym c.if-page_agree.false ∙ told g (goal.at.returns-else-wrong-page g c).After-page_agree; leaves = left g (goal.at.returns-else-wrong-page g c).After-page_agree }

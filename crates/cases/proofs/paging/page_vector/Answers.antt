@@ -7,10 +7,10 @@ use Rattle.cases.proofs.PagingLaws.{paging_of}
 use Rattle.cases.proofs.paging.page_vector.Goals as goal
 
 pub slice_bounds-compare_page-end : goal.slice_bounds-compare_page-end
-slice_bounds-compare_page-end c =
+slice_bounds-compare_page-end g c =
     let l = filled-length _ _ c.filled-array.ensures in
     sym (length-take-le _ _ (omega arith))
 
 pub returns : goal.returns
-returns c =
+returns g c =
     paging_of _ _ _ _ _ _ c.filled-array.ensures c.two_bytes-size.ensures.value c.compare_page.ensures

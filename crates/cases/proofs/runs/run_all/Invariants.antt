@@ -10,8 +10,8 @@ use Rattle.cases.proofs.RunLaws.{Stands}
 use Rattle.cases.proofs.runs.run_all.Given as goal
 
 abbrev pub invariant-loop-at : goal.invariant-loop-at
-invariant-loop-at l = (l.at ≤ length l.bytes) × Grown l.at l.initial.counts l.counts × Stands l.act l.bytes l.initial.counts l.at l.counts (checkpoint_values l.last)
+invariant-loop-at g l = (l.at ≤ length l.bytes) × Grown l.at l.initial.counts l.counts × Stands l.act l.bytes l.initial.counts l.at l.counts (checkpoint_values l.last)
     × (l.fields ≡ size_of l.act)
 
 abbrev pub decreases-loop-at : goal.decreases-loop-at
-decreases-loop-at l = length l.bytes - l.at
+decreases-loop-at g l = length l.bytes - l.at

@@ -4,15 +4,16 @@ use Rattle.walk.specs.Results.{Result}
 use Rattle.enumeration.specs.Values.{checkpoint_values}
 use Rattle.cases.specs.Walking.{walk_agrees, walk_leaves}
 use Rattle.cases.proofs.WalkingLaws.{checkpoint_kept, compared}
+use Rattle.cases.proofs.walking.walk_vector.Given.{Over}
 use Rattle.cases.proofs.walking.walk_vector.Goals.{After-agree}
 use Rattle.cases.proofs.walking.walk_vector.Goals as goal
 
 -- what the comparison gives
 told :
-    (c : After-agree) →
+    (g : Over) (c : After-agree g) →
     c.agree.result ≡
     walk_agrees c.args.bytes.now c.args.v (checkpoint_values c.args.last)
-told c =
+told g c =
     c.agree.ensures
     ∙ compared _ _ _ _ _ _ _ _
     c.expected_call-wanted.ensures
@@ -23,15 +24,15 @@ told c =
 
 -- the checkpoint that the call returned
 left :
-    (c : After-agree) →
+    (g : Over) (c : After-agree g) →
     checkpoint_values c.call-walked.result.checkpoint ≡
     walk_leaves c.args.bytes.now c.args.v (checkpoint_values c.args.last)
 unfolding walk_leaves
-left c =
+left g c =
     sym (checkpoint_kept c.call-walked.result) ∙ ap (λ (r : Result). r.checkpoint) c.call-walked.ensures
 
 pub returns-then-agree : goal.returns-then-agree
-returns-then-agree c = record { agrees = sym c.if-agree.true ∙ told c.before; leaves = left c.before }
+returns-then-agree g c = record { agrees = sym c.if-agree.true ∙ told g (goal.at.returns-then-agree g c).After-agree; leaves = left g (goal.at.returns-then-agree g c).After-agree }
 
 pub returns : goal.returns
-returns c = record { agrees = sym c.if-agree.false ∙ told e.before; leaves = left e.before }
+returns g c = record { agrees = sym c.if-agree.false ∙ told g (goal.at.returns g c).After-agree; leaves = left g (goal.at.returns g c).After-agree }

@@ -1,19 +1,14 @@
 -- `enter` meets its contract: by what comes of the input, then by the checkpoint's test.
-use Prim.Native.Nat.{ℕ}
-use mathlib.Core.Path.{◌≡◌, ap, ◌∙◌}
-use native.Mathlib.Omega.{arith}
+use mathlib.Core.Path.{◌≡◌}
 use borrow.Author.Rules.{rules}
 use lib.ListN.{length}
 use Rattle.limits.specs.Limits.{max_variables}
-use Rattle.formula.specs.declared.Refusal.{Refusal}
-use Rattle.walk.specs.Results.{refusing}
 use Rattle.walk.specs.InnerStack.{tree}
 use Rattle.enumeration.specs.Values.{checkpoint_values}
 use Rattle.enumeration.proofs.EnterLaws.{walked_follows, entered_begun, entered_foreign}
 use Rattle.enumeration.proofs.entering.enter.Goals.{Start}
 use Rattle.enumeration.proofs.entering.enter.Goals as goal
 
--- `enter` meets its contract: by what comes of the input, then by the checkpoint's test.
 -- a checkpoint's array has 48 bytes
 all_bytes : (b : Start) → length b.args.c.bytes ≡ max_variables
 all_bytes b = search (rules, b.well_formed)
@@ -23,16 +18,6 @@ enter_formula-requires c =
     let p = c.requires in
     let w = p.2.walked c.in-Accepted.is in
     (w.fits, record { tree = tree w.task; follows = walked_follows p.0 p.1 _ _ w })
-
-pub returns-in-Refused : goal.returns-in-Refused
-returns-in-Refused c = λ s us k.
-    let x = c.in-Refused.refusal in
-    record {
-      begun = λ q. let z : ◌≡◌ {A = ℕ} 0 1 = cc q in absurd (omega arith);
-      refused = λ e q b.
-          let t : x ≡ e = cc q in
-          k.declined x c.in-Refused.is _ b ∙ ap (λ (y : Refusal). refusing y (checkpoint_values c.args.c)) t;
-    }
 
 pub returns-in-Accepted : goal.returns-in-Accepted
 returns-in-Accepted c = λ s us k.

@@ -3,12 +3,6 @@ use mathlib.Core.Path.{refl, sym, ◌∙◌}
 use Rattle.enumeration.proofs.PlaceLaws.{taken_unformed, taken_unreplayed, taken_read}
 use Rattle.enumeration.proofs.reading.read_checkpoint.Goals as goal
 
-pub replay-t-requires : goal.replay-t-requires
-replay-t-requires c = (c.requires.0, c.requires.1, sym c.well_formed-2.ensures.answer ∙ c.if-well_formed.true, c.well_formed-2.ensures.full c.if-well_formed.true)
-
-pub take_place-requires : goal.take_place-requires
-take_place-requires c = let l = c.requires.1 in (c.requires.0, record { tree = l.tree; follows = l.follows; holds = ((c.replay-t.ensures l.tree l.follows).node c.if-t.true).holds })
-
 pub returns-then-t : goal.returns-then-t
 returns-then-t c = λ K F. taken_read K _ _ (sym c.well_formed-2.ensures.answer ∙ c.if-well_formed.true) _ ((c.replay-t.ensures K F).node c.if-t.true) (c.take_place.ensures K F)
 

@@ -14,10 +14,6 @@ use Rattle.enumeration.proofs.ReplayLaws.{node_replayed, replayed_next, replayed
 use Rattle.enumeration.proofs.reading.replay.Goals.{After-replay_byte-t, At-loop-i, In-loop-i}
 use Rattle.enumeration.proofs.reading.replay.Goals as goal
 
-pub loop-i-init : goal.loop-i-init
-unfolding pushed
-loop-i-init c = (search rules, λ K F. c.root-s.ensures K (let e = F.size in omega (arith, F.most)) F.before)
-
 node : (l : At-loop-i) (K : Tree) → Follows l.args.f l.args.z K → Node K (pushed empty (take l.loop-i.i l.args.c.bytes)) l.loop-i.s
 node l K F = l.loop-i.invariant.1 K F
 

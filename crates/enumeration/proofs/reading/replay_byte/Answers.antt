@@ -8,7 +8,7 @@ use Rattle.limits.specs.Limits.{max_variables}
 use Rattle.walk.specs.InnerStack.{Tree}
 use Rattle.enumeration.specs.declared.state.State.{State}
 use Rattle.enumeration.specs.InnerState.{Follows, Holds, pushing, stack_in}
-use Rattle.enumeration.proofs.ReplayLaws.{choice_is, replayed_full, replayed_other, replayed_chosen, valid_short, valid_room, valid_low}
+use Rattle.enumeration.proofs.ReplayLaws.{choice_is, replayed_full, replayed_other, replayed_chosen, valid_low}
 use Rattle.enumeration.proofs.reading.replay_byte.Goals.{After-pick-p}
 use Rattle.enumeration.proofs.reading.replay_byte.Goals as goal
 
@@ -16,22 +16,12 @@ use Rattle.enumeration.proofs.reading.replay_byte.Goals as goal
 choice : (c : After-pick-p) (K : Tree) → Follows c.args.f c.args.z K → Holds K c.args.s → c.pick-p.result.choice ≡ K.choose (stack_in c.args.s)
 choice c K F h = choice_is _ _ K F _ h c.if-s-z.false _ c.pick-p.ensures.choice
 
--- there is room, and the chosen variable is low
-short : (c : After-pick-p) → c.args.s.length < max_variables
-short c = valid_room _ _ _ c.requires.1 c.if-s-z.false
-
+-- the chosen variable is low
 low : (c : After-pick-p) → c.pick-p.result.choice.variable < max_variables
 low c = valid_low _ _ _ c.requires.1 c.if-s-z.false _ c.pick-p.ensures.choice
 
 pub returns-then-s-z : goal.returns-then-s-z
 returns-then-s-z c = λ K F h. rw c.unknown.ensures (replayed_full _ _ K F _ h _ _ c.if-s-z.true)
-
-pub pick-p-requires : goal.pick-p-requires
-pick-p-requires c =
-    (c.requires.0, c.requires.1, valid_short _ _ _ c.requires.1 c.if-s-z.false)
-
-pub overflow_add-c : goal.overflow_add-c
-overflow_add-c c = record { fits = let l = low (goal.at.overflow_add-c c).After-pick-p in omega arith }
 
 pub returns-then-number_of-c : goal.returns-then-number_of-c
 returns-then-number_of-c c =
@@ -40,33 +30,12 @@ returns-then-number_of-c c =
     (replayed_other _ _ K F _ h c.if-s-z.false _ (choice (goal.at.returns-then-number_of-c c).After-pick-p K F h) _ _
     (λ q. c.if-number_of-c.true (let e = c.number_of.ensures in let o = c.requires.2 in omega arith)))
 
-pub note-marked-requires : goal.note-marked-requires
-note-marked-requires c = short (goal.at.note-marked-requires c).After-pick-p
-
-pub push-requires : goal.push-requires
-push-requires c =
-    let k = short (goal.at.push-requires c).After-pick-p in
-    let e = ap (λ (u : State). u.length) c.note-marked.ensures in
-    (low (goal.at.push-requires c).After-pick-p, omega arith)
-
-pub apply-requires : goal.apply-requires
-apply-requires c = c.push.ensures.inside
-
 pub returns-then-b-ge128 : goal.returns-then-b-ge128
 returns-then-b-ge128 c =
     λ K F h.
     replayed_chosen _ _ K F _ h c.if-s-z.false _ (choice (goal.at.returns-then-b-ge128 c).After-pick-p K F h) _ _ true _ _ (c.pick-p.ensures.right K F h)
     (let e = c.number_of.ensures in let q = c.if-number_of-c.false in omega arith) (le-leb _ _ c.if-b-ge128.true)
     (c.apply.ensures ∙ c.push.ensures.state ∙ ap (λ (u : State). pushing u c.pick-p.result.choice.variable true) c.note-marked.ensures)
-
-pub push-requires-2 : goal.push-requires-2
-push-requires-2 c =
-    let k = short (goal.at.push-requires-2 c).After-pick-p in
-    let e = ap (λ (u : State). u.length) c.note-marked.ensures in
-    (low (goal.at.push-requires-2 c).After-pick-p, omega arith)
-
-pub apply-requires-2 : goal.apply-requires-2
-apply-requires-2 c = c.push-2.ensures.inside
 
 pub returns : goal.returns
 returns c =

@@ -11,11 +11,5 @@ returns-then-s-z c = λ K F n. taken_model _ _ K F _ n _ c.if-mode-eq1.true c.if
 pub returns-then-mode-eq1 : goal.returns-then-mode-eq1
 returns-then-mode-eq1 c = λ K F n. taken_assigned _ _ K F _ n _ c.if-mode-eq1.true c.if-s-z.false
 
-pub returns-then-mode-eq2 : goal.returns-then-mode-eq2
-returns-then-mode-eq2 c = λ K F n. rw c.if-mode-eq2.true (c.take_undone.ensures K F n)
-
-pub returns-then-mode-eq3 : goal.returns-then-mode-eq3
-returns-then-mode-eq3 c = λ K F n. rw c.if-mode-eq3.true (c.take_undone-then-mode-eq3.ensures K F n)
-
 pub returns : goal.returns
 returns c = λ K F n. taken_end _ _ K F _ n _ c.if-mode-eq0.false c.if-mode-eq1.false c.if-mode-eq2.false c.if-mode-eq3.false _ c.placed-2.ensures

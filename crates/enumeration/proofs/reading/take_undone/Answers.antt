@@ -1,11 +1,9 @@
 -- `enumeration::take_undone` meets its contract: by the length, then by the value and what is open.
 use mathlib.Core.Path.{◌≡◌, refl}
-use mathlib.Core.Logic.{⊎_elim}
-use native.Mathlib.Omega.{arith}
 use borrow.Author.Tests.{not-true, not-false}
 use Rattle.walk.specs.InnerStack.{Tree}
 use Rattle.enumeration.specs.InnerState.{Follows, Holds, stack_in}
-use Rattle.enumeration.proofs.ReplayLaws.{choice_is, valid_room}
+use Rattle.enumeration.proofs.ReplayLaws.{choice_is}
 use Rattle.enumeration.proofs.PlaceLaws.{taken_full, taken_true_root, taken_true, taken_false_root, taken_false}
 use Rattle.enumeration.proofs.reading.take_undone.Goals.{After-pick_by_clauses-p, then-s-eq0-2+else-not-c, else-s-eq0-2}
 use Rattle.enumeration.proofs.reading.take_undone.Goals as goal
@@ -34,11 +32,6 @@ returns-then-not-c c =
     λ K F n.
     rw (c.if-value.false, c.unknown-then-not-c.ensures)
     (taken_false_root _ _ K F _ n c.if-s-z.false _ (choice (goal.at.returns-then-not-c c).After-pick_by_clauses-p K F n.holds) c.if-s-eq0-2.true (not-true _ c.if-not-c.true))
-
-pub mark-requires : goal.mark-requires
-mark-requires c =
-    let l = valid_room _ _ _ c.requires.1 c.if-s-z.false in
-    omega arith
 
 pub returns : goal.returns
 returns c =
