@@ -49,9 +49,9 @@ filled-length l fill e = ap length e ∙ length-replicate 65536 fill
 
 -- the conversion of a vector, from what its parts give
 pub converting_of :
-    (reads : Bool) (s : List ℕ) (v : Vector) (array : List ℕ) (size : ℕ) (r : Bool) →
+    (reads : Bool) (s : List ℕ) (v : Vector) (array : List ℕ) (size : ℕ) →
     array ≡ replicate 65536 (get_or s (v.end + 8) 0) →
     size ≡ two_bytes s (v.end + 6) →
-    r ≡ converts reads s v (get_or s (v.end + 8) 0) (take size array) → r ≡ convert_agrees reads s v
+    converts reads s v (get_or s (v.end + 8) 0) (take size array) ≡ convert_agrees reads s v
 unfolding convert_agrees
-converting_of reads s v array size r a z e = e ∙ rw (a, z)
+converting_of reads s v array size a z = rw (a, z)

@@ -1,7 +1,6 @@
 pub mod AssumingLaws
 pub mod ConvertingLaws
 pub mod JudgingLaws
-pub mod LendLaws
 pub mod ListingLaws
 pub mod MeasuringLaws
 pub mod PagingLaws

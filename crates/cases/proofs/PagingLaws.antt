@@ -15,10 +15,9 @@ use Rattle.vectors.specs.declared.answers.Answer.{Answer}
 use Rattle.vectors.specs.declared.corpus.Vector.{Vector}
 use Rattle.vectors.specs.Answers.{plain, refused_answer, expected}
 use Rattle.vectors.specs.Corpus.{two_bytes, four_bytes, input_of}
-use Rattle.cases.specs.declared.walking.Compared.{Compared}
 use Rattle.cases.specs.Assuming.{assumptions_of}
 use Rattle.cases.specs.Paging.{page_written, written_size, first_amiss, page_alike, paged, pages, page_agrees, page_leaves}
-use Rattle.cases.specs.Walking.{origin, checkpoint_wrong, Gives}
+use Rattle.cases.specs.Walking.{origin, checkpoint_wrong}
 use Rattle.cases.proofs.JudgingLaws.{refusal_code}
 
 -- the answers of the two cases
@@ -58,12 +57,13 @@ pub returned :
     paged s v last before ≡ page_told r after → checkpoint_values r.checkpoint ≡ (paged s v last before).checkpoint
 returned s v last before after r e = sym (ap (λ (p : PageCall). p.checkpoint) e)
 
--- the page of a vector, from what its parts give
-pub paging_of :
-    (s : List ℕ) (v : Vector) (last : Checkpoint) (array : List ℕ) (size : ℕ) (r : Compared) →
-    array ≡ replicate 65536 (get_or s (v.end + 113) 0) →
-    size ≡ two_bytes s (v.end + 111) →
-    Gives (pages s v last (get_or s (v.end + 113) 0) (take size array)) (paged s v last (take size array)).checkpoint r →
-    Gives (page_agrees s v last) (page_leaves s v last) r
-unfolding page_agrees page_leaves
-paging_of s v last array size r a z g = rw (a, z) at g
+-- the page of a vector and the checkpoint that it returns, from what its parts give
+module _ (s : List ℕ) (v : Vector) (last : Checkpoint) (array : List ℕ) (size : ℕ)
+    (a : array ≡ replicate 65536 (get_or s (v.end + 113) 0)) (z : size ≡ two_bytes s (v.end + 111)) where
+  pub paging_of : pages s v last (get_or s (v.end + 113) 0) (take size array) ≡ page_agrees s v last
+  unfolding page_agrees
+  paging_of = rw (a, z)
+
+  pub paging_left : (paged s v last (take size array)).checkpoint ≡ page_leaves s v last
+  unfolding page_leaves
+  paging_left = rw (a, z)

@@ -17,13 +17,14 @@ told g c =
     c.expected_at-wanted.ensures
     c.convert-got.ensures
     c.first_wrong-wrong.ensures.place
-    c.convert-got.auto.1.1.0
+    c.convert-got.auto.buffer
 
 pub returns-then-agree : goal.returns-then-agree
 returns-then-agree g c = sym c.if-agree.true ∙ told g (goal.at.returns-then-agree g c).After-agree
 
-pub returns-then-wrong-buffer : goal.returns-then-wrong-buffer
-returns-then-wrong-buffer g c = sym c.if-agree.false ∙ told g (goal.at.returns-then-wrong-buffer g c).After-agree
+
+pub returns-in_ok-wrong_byte : goal.returns-in_ok-wrong_byte
+returns-in_ok-wrong_byte g c = sym c.if-agree.false ∙ told g (goal.at.returns-in_ok-wrong_byte g c).After-agree
 
 pub returns-else-wrong-buffer : goal.returns-else-wrong-buffer
 returns-else-wrong-buffer g c = sym c.if-agree.false ∙ told g (goal.at.returns-else-wrong-buffer g c).After-agree

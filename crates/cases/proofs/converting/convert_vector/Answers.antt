@@ -12,4 +12,5 @@ slice_bounds-compare_converted-end g c =
 
 pub returns : goal.returns
 returns g c =
-    converting_of _ _ _ _ _ _ c.filled-array.ensures c.two_bytes-size.ensures.value c.compare_converted.ensures
+    rw (converting_of c.args.reads c.args.bytes.now c.args.v _ _ c.filled-array.ensures c.two_bytes-size.ensures.value) at
+    c.compare_converted.ensures

@@ -16,6 +16,6 @@ pub find_matching_under-requires : goal.find_matching_under-requires
 find_matching_under-requires c = c.requires.1
 
 pub returns : goal.returns
-returns c =
+returns c = λ us g.
     let j = c.find_matching_under.ensures us g in
     judge_filled_of _ us _ _ _ _ _ _ c.filled-array.ensures c.answer_of-answer.ensures j.0 j.1

@@ -16,5 +16,5 @@ pub list_under-l-requires : goal.list_under-l-requires
 list_under-l-requires c = c.requires.1
 
 pub returns : goal.returns
-returns c =
+returns c = λ us g.
     fills_of _ us _ _ _ _ _ _ _ c.requires.0 c.places-array.ensures (c.told_of.ensures ∙ ap walk_written c.last_of.ensures) (c.list_under-l.ensures us g)

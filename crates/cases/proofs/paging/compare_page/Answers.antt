@@ -21,7 +21,7 @@ told g c =
     c.answer_of-got.ensures
     c.checkpoint_wrong-other.ensures
     c.first_amiss-wrong.ensures.place
-    c.page_of-told.auto.1.1.1.0
+    c.page_of-told.auto.page
 
 -- the checkpoint that the call returned
 left : (g : Over) (c : After-page_agree g)
@@ -38,8 +38,8 @@ report_byte-requires g c = omega (arith, c.requires.whole)
 pub page_byte-requires : goal.page_byte-requires
 page_byte-requires g c = let l = c.requires in omega (arith, l.bytes, l.whole)
 
-pub returns-then-wrong-page : goal.returns-then-wrong-page
-returns-then-wrong-page g c = record { agrees = sym c.if-page_agree.false ∙ told g (goal.at.returns-then-wrong-page g c).After-page_agree; leaves = left g (goal.at.returns-then-wrong-page g c).After-page_agree }
+pub returns-in_ok-wrong_byte : goal.returns-in_ok-wrong_byte
+returns-in_ok-wrong_byte g c = record { agrees = sym c.if-page_agree.false ∙ told g (goal.at.returns-in_ok-wrong_byte g c).After-page_agree; leaves = left g (goal.at.returns-in_ok-wrong_byte g c).After-page_agree }
 
 pub returns-else-wrong-page : goal.returns-else-wrong-page
 returns-else-wrong-page g c = record { agrees = sym c.if-page_agree.false ∙ told g (goal.at.returns-else-wrong-page g c).After-page_agree; leaves = left g (goal.at.returns-else-wrong-page g c).After-page_agree }

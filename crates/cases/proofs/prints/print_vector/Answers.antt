@@ -1,5 +1,7 @@
 -- `print_vector`: the bytes that print counts are the text, and the comparison is that of `print_agrees`.
+use Prim.Native.Nat.{ℕ}
 use mathlib.Core.Path.{◌≡◌, sym, ◌∙◌, refl}
+use lib.ListN.{length-replicate}
 use lib.Seq.{length-take-le}
 use Rattle.printing.proofs.PrintLaws.{count_within}
 use Rattle.cases.specs.Prints.{print_agrees}
@@ -15,7 +17,7 @@ told :
     c.agree.result ≡ print_agrees a.bytes.now a.v
 told g c =
     c.agree.ensures
-    ∙ text_compared _ _ _ _ _ _ _ c.large_buffer-buffer.ensures c.print-count.ensures refl c.first_wrong-wrong.ensures.place
+    ∙ text_compared _ _ _ _ _ _ _ (sym (length-replicate {A = ℕ} 65536 0)) c.print-count.ensures refl c.first_wrong-wrong.ensures.place
 
 pub slice_bounds-buffer-end : goal.slice_bounds-buffer-end
 slice_bounds-buffer-end g c = count_within _ _ _ _ c.print-count.ensures

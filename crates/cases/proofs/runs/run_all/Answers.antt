@@ -27,8 +27,8 @@ returns-in-Broken g c =
       grown = record { vectors = omega arith; differences = omega arith };
     }
 
-pub run_vector-compared-requires : goal.run_vector-compared-requires
-run_vector-compared-requires g c =
+pub run_vector-requires : goal.run_vector-compared-requires
+run_vector-requires g c =
     let w : Within c.args.bytes.now c.loop-at.at c.fields_of-fields.result c.in-Whole.v =
     within _ _ _ _ (sym c.frame.ensures ∙ c.in-Whole.is) in
     (rw c.loop-at.invariant.3 at w.lies, search rules)
@@ -46,7 +46,19 @@ loop-at-smaller g c =
     omega arith
 
 pub loop-at-preserved : goal.loop-at-preserved
-loop-at-preserved g c = ?
+loop-at-preserved g c =
+    let e : framed c.args.bytes.now c.loop-at.at c.fields_of-fields.result ≡ Whole c.in-Whole.v = sym c.frame.ensures ∙ c.in-Whole.is in
+    let w : Within c.args.bytes.now c.loop-at.at c.fields_of-fields.result c.in-Whole.v = within _ _ _ _ e in
+    let o = c.in_ok-compared-in-Whole in
+    let b = counted_grown c.loop-at.counts o.compared.agrees in
+    rw c.count-counts.ensures (
+      omega arith,
+      record { vectors = omega arith; differences = omega arith },
+      rw (o.ensures.agrees, o.ensures.leaves)
+          (rw c.loop-at.invariant.3
+          (stands_next _ _ _ _ _ _ c.loop-at.invariant.2 _ c.loop-at-test.true (rw c.loop-at.invariant.3 at e))),
+      c.loop-at.invariant.3,
+    )
 
 pub returns : goal.returns
 returns g c = record {

@@ -1,5 +1,4 @@
 -- `run_vector`: by the act.
-use mathlib.Core.Path.{refl}
 use Rattle.cases.proofs.runs.run_vector.Goals as goal
 
 pub check_vector-requires : goal.check_vector-requires
@@ -44,32 +43,8 @@ compare_vector-requires g c = rw c.in-Compare.is at c.requires.0
 pub print_vector-requires : goal.print_vector-requires
 print_vector-requires g c = rw c.in-Print.is at c.requires.0
 
-pub returns-in-Check : goal.returns-in-Check
-returns-in-Check g c = rw c.in-Check.is (record { agrees = c.check_vector.ensures; leaves = refl })
-
-pub returns-in-Judge : goal.returns-in-Judge
-returns-in-Judge g c = rw c.in-Judge.is (record { agrees = c.judge_vector.ensures; leaves = refl })
-
-pub returns-in-Weigh : goal.returns-in-Weigh
-returns-in-Weigh g c = rw c.in-Weigh.is (record { agrees = c.weigh_vector.ensures; leaves = refl })
-
-pub returns-in-Deficiency : goal.returns-in-Deficiency
-returns-in-Deficiency g c = rw c.in-Deficiency.is (record { agrees = c.deficiency_vector.ensures; leaves = refl })
-
-pub returns-in-ReadText : goal.returns-in-ReadText
-returns-in-ReadText g c = rw c.in-ReadText.is (record { agrees = c.convert_vector.ensures; leaves = refl })
-
-pub returns-in-WriteText : goal.returns-in-WriteText
-returns-in-WriteText g c = rw c.in-WriteText.is (record { agrees = c.convert_vector-in-WriteText.ensures; leaves = refl })
-
-pub returns-in-Start : goal.returns-in-Start
-returns-in-Start g c = rw c.in-Start.is (record { agrees = c.start_vector.ensures; leaves = refl })
-
 pub returns-in-Walk : goal.returns-in-Walk
 returns-in-Walk g c = rw c.in-Walk.is c.walk_vector.ensures
-
-pub returns-in-Wait : goal.returns-in-Wait
-returns-in-Wait g c = rw c.in-Wait.is (record { agrees = c.wait_vector.ensures; leaves = refl })
 
 pub returns-in-Listing : goal.returns-in-Listing
 returns-in-Listing g c = rw c.in-Listing.is c.listing_vector.ensures
@@ -79,9 +54,3 @@ returns-in-Models g c = rw c.in-Models.is c.list_vector.ensures
 
 pub returns-in-Page : goal.returns-in-Page
 returns-in-Page g c = rw c.in-Page.is c.page_vector.ensures
-
-pub returns-in-Compare : goal.returns-in-Compare
-returns-in-Compare g c = rw c.in-Compare.is (record { agrees = c.compare_vector.ensures; leaves = refl })
-
-pub returns-in-Print : goal.returns-in-Print
-returns-in-Print g c = rw c.in-Print.is (record { agrees = c.print_vector.ensures; leaves = refl })

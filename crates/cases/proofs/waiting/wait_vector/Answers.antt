@@ -8,7 +8,7 @@ use Rattle.cases.proofs.waiting.wait_vector.Goals as goal
 
 -- what the comparison gives
 told : (g : Over) (c : After-both g) → c.both.result ≡ waits_agree c.args.bytes.now c.args.v
-told g c = c.both.ensures ∙ compared _ _ c.waits_of-w.result _ _ c.waits_of-w.ensures c.All-right.ensures c.four_bytes-wanted.ensures.value
+told g c = c.both.ensures ∙ compared _ _ c.waits_of-w.result _ _ c.waits_of-w.ensures c.all_right.ensures c.four_bytes-wanted.ensures.value
 
 pub returns-then-both : goal.returns-then-both
 returns-then-both g c = sym c.if-both.true ∙ told g (goal.at.returns-then-both g c).After-both

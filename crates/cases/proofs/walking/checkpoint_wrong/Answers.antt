@@ -12,9 +12,6 @@ pub returns-then-c-bytes-2 : goal.returns-then-c-bytes-2
 unfolding checkpoint_wrong
 returns-then-c-bytes-2 c = rw (eq-eqb _ _ c.if-c-bytes.false, ne_eqb _ _ c.if-c-bytes-2.true)
 
-pub overflow_add-result : goal.overflow_add-result
-overflow_add-result c = let l = slice-aggregate-first-wrong c.before in omega (arith, c.first_wrong.ensures.within)
-
 pub returns : goal.returns
 unfolding checkpoint_wrong
 returns c =
