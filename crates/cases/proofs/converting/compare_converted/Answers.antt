@@ -22,7 +22,6 @@ told g c =
 pub returns-then-agree : goal.returns-then-agree
 returns-then-agree g c = sym c.if-agree.true ∙ told g (goal.at.returns-then-agree g c).After-agree
 
-
 pub returns-in_ok-wrong_byte : goal.returns-in_ok-wrong_byte
 returns-in_ok-wrong_byte g c = sym c.if-agree.false ∙ told g (goal.at.returns-in_ok-wrong_byte g c).After-agree
 

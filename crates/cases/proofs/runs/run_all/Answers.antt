@@ -27,7 +27,7 @@ returns-in-Broken g c =
       grown = record { vectors = omega arith; differences = omega arith };
     }
 
-pub run_vector-requires : goal.run_vector-compared-requires
+pub run_vector-requires : goal.run_vector-requires
 run_vector-requires g c =
     let w : Within c.args.bytes.now c.loop-at.at c.fields_of-fields.result c.in-Whole.v =
     within _ _ _ _ (sym c.frame.ensures ∙ c.in-Whole.is) in
