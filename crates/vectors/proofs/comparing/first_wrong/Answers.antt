@@ -1,8 +1,6 @@
 -- `first_wrong`: the invariant is that no byte before i is wrong. The measure is the number of bytes that are left.
-use Prim.Native.Nat.{◌-◌}
 use mathlib.Core.Path.{sym, ◌∙◌}
 use native.Mathlib.Omega.{arith}
-use Rattle.vectors.specs.Comparing.{wanted_byte}
 use Rattle.vectors.proofs.ComparingLaws.{from_first, wrong_here, right_here, none_wrong}
 use Rattle.vectors.proofs.comparing.first_wrong.Goals as goal
 
