@@ -1,5 +1,4 @@
 pub mod AssumedLaws
-pub mod CallLaws
 pub mod Demands
 pub mod PairsLaws
 pub mod SplitLaws

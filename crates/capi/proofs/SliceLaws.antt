@@ -19,7 +19,7 @@ pub overwritten :
 overwritten l a b c d e f h =
     sets-eq (a ∷ b ∷ c ∷ d ∷ e ∷ f ∷ []) l 0 (omega arith) ∙ rw (behind l 6 h)
 
--- two stores, and as many bytes as lie behind them copied there
+-- two stores, and 48 bytes copied behind them
 pub written :
     (s trail new : List ℕ) (mode size : ℕ) →
     length s ≡ checkpoint_size →

@@ -53,10 +53,11 @@ mod waiting;
 mod walking;
 mod weighing;
 
-ghost use Rattle.std.specs.Prelude.{IfOk};
+ghost use Rattle.std.specs.Prelude.{◌<◌, length, IfOk};
 ghost use Rattle.cases.specs.Runs.{AfterFile};
 ghost use Rattle.vectors.specs.Totals.{RoomFor};
 
+use arrayvec::ArrayString;
 use runs::{Act, run_all};
 use std::rt::Files;
 use std::{fs, io};
@@ -85,12 +86,18 @@ fn run_file<R: Files + Print>(rt: &R, t: Totals, name: &str, act: Act) -> io::Re
     Ok(run.totals)
 }
 
+// Room for a file's name.
+const MAX_NAME: usize = 16;
+
 // The files of an act, whose names end in a, b and so on up to z, and then the line that sums them up.
-fn run_files<R: Files + Print + Alloc>(rt: &R, name: &str, act: Act, unit: &str) -> io::Result<()> {
+fn run_files<R: Files + Print>(rt: &R, name: &str, act: Act, unit: &str) -> io::Result<()>
+    requires { length name.now < 16 }
+{
     let mut t = totals::none();
     for i in 0..26u8 {
-        let letter = char::from(b'a' + i);
-        let path = format!(in rt.alloc(); "{name}{letter}")?;
+        let mut path = ArrayString::<MAX_NAME>::new();
+        path.push_str(name);
+        path.push(char::from(b'a' + i));
         t = run_file(rt, t, path.as_str(), act)?;
     }
     report::summary(rt, name, unit, t)

@@ -13,7 +13,6 @@ use Rattle.formula.specs.InnerMasked.{formula_of}
 use Rattle.assumptions.specs.declared.Assumption.{Assumption}
 use Rattle.assumptions.specs.declared.Assumptions.{Assumptions}
 use Rattle.assumptions.specs.InnerAssumed.{MasksOf}
-use Rattle.splitting.specs.declared.Assignment.{Assignment}
 use Rattle.matched.specs.Acceptance.{accepted}
 use Rattle.matched.specs.InnerAccept.{assigned_by, Takes, Decides}
 use Rattle.matched.proofs.AcceptLaws.{given_assignment}

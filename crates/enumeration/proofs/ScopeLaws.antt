@@ -1,27 +1,23 @@
 -- What the code takes to be assigned is what a task has.
 use Prim.Native.Nat.{ℕ, ◌≤◌}
 use mathlib.Core.List.{List, map}
-use mathlib.Core.Path.{◌≡◌, refl, ap, ap₂, ◌∙◌}
+use mathlib.Core.Path.{◌≡◌, refl, ap, ap₂}
 use native.Mathlib.Omega.{arith}
 use lib.Bits.{bit_or}
-use lib.ListN.{take}
 use Rattle.limits.specs.Limits.{max_clauses}
 use Rattle.masks.specs.Mask.{minus, size}
 use Rattle.formula.specs.declared.Decoded.{Decoded}
-use Rattle.formula.specs.declared.Formula.{Formula}
 use Rattle.formula.specs.Decoding.{Decoding, readable, refused}
 use Rattle.formula.specs.Format.{Literal}
 use Rattle.formula.specs.Masked.{variables}
 use Rattle.formula.specs.InnerDecode.{decode}
-use Rattle.formula.specs.InnerFits.{clause_variables}
 use Rattle.formula.specs.InnerMasked.{held, decoded, formula_of}
 use Rattle.formula.proofs.Demands.{accepted_fits}
 use Rattle.matching.specs.Sets.{union}
-use Rattle.splitting.specs.InnerChoose.{assigned, assignment_of}
+use Rattle.splitting.specs.InnerChoose.{assignment_of}
 use Rattle.splitting.proofs.MaskNodeLaws.{assigned-variables}
 use Rattle.matched.proofs.PairingLaws.{array_masks}
 use Rattle.walk.specs.Task.{Task, under, visible}
-use Rattle.enumeration.specs.declared.scope.Scope.{Scope}
 use Rattle.enumeration.specs.InnerScope.{named_less, scope_under, visible_in, task_scope}
 
 -- a trail is assigned before, and what the clauses name besides is to be assigned

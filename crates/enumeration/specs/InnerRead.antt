@@ -4,7 +4,6 @@ use Rattle.limits.specs.Limits.{max_variables}
 use Rattle.formula.specs.declared.Formula.{Formula}
 use Rattle.walk.specs.InnerStack.{Stack, Tree}
 use Rattle.walk.specs.InnerTest.{replays, position_of, formed}
-use Rattle.walk.specs.Checkpoints.{Checkpoint}
 use Rattle.enumeration.specs.Values.{checkpoint_values}
 use Rattle.enumeration.specs.InnerState.{stack_in, position_in, Follows, Holds, marked_as}
 use Rattle.enumeration.specs.declared.checkpoint.Checkpoint as code

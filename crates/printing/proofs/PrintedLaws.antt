@@ -12,7 +12,6 @@ use Rattle.formula.specs.declared.Refusal.TheVariants.{Unmatched}
 use Rattle.formula.specs.InnerDecode.{decode}
 use Rattle.formula.specs.Decoding.{readable, refused}
 use Rattle.formula.specs.Format.{Literal, Encodes}
-use Rattle.formula.specs.Masked.{variables}
 use Rattle.formula.specs.Refusals.{table_row}
 use Rattle.formula.specs.Table.{Beginning, written, Given, no_kind, kind_unknown, kind_misplaced, no_body, count_bad, variable_unknown, literal_complementary, clause_extra, byte_extra}
 use Rattle.formula.proofs.Demands.{accepted_only, accepted_all, accepted_fits, refused_only, numbers}

@@ -10,7 +10,7 @@ use Rattle.walk.specs.Plain.{Entry, assigns, undoes, model, end}
 use Rattle.walk.specs.Checkpoints.{Behind, past, past_all}
 use Rattle.walk.specs.PlainMachine.{Answer, found, spent, ended, Call, at_once, after_step, go_on}
 use Rattle.walk.specs.InnerStack.{empty, trail_of, Tree}
-use Rattle.walk.specs.InnerMachine.{Position, down, over, steps, next, Resumed, halted, stepped, resume}
+use Rattle.walk.specs.InnerMachine.{Position, down, over, next, Resumed, halted, stepped, resume}
 use Rattle.walk.proofs.RestLaws.{seen, Stops, walk, node, after_node, rest, Reachable, Live, Goes, Step, step}
 use Rattle.walk.proofs.PositionLaws.{behind_of, past_next, StopsBehind, stops_behind}
 

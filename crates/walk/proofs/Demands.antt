@@ -7,7 +7,7 @@ use mathlib.Core.Path.{◌≡◌, sym, ap, ◌∙◌}
 use native.Mathlib.Omega.{arith}
 use lib.Bits.{bit_and}
 use lib.ListN.{length, length-map, replicate}
-use Rattle.limits.specs.Limits.{max_variables, max_clauses}
+use Rattle.limits.specs.Limits.{max_clauses}
 use Rattle.lists.specs.Distinct.{Distinct}
 use Rattle.lists.specs.Every.{Every}
 use Rattle.lists.proofs.TestLaws.{or_cases, or_left, or-none, or_right, bool_clash}

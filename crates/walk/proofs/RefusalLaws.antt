@@ -12,7 +12,6 @@ use Rattle.formula.specs.InnerDecode.{decode}
 use Rattle.formula.specs.Decoding.{readable, refused}
 use Rattle.formula.specs.Format.{Literal, Encodes}
 use Rattle.formula.specs.Refusals.{table_row}
-use Rattle.formula.specs.Masked.{variables}
 use Rattle.assumptions.specs.declared.Assumption.{Assumption}
 use Rattle.assumptions.specs.FirstBad.{NoneBad, FirstBad}
 use Rattle.assumptions.specs.Assumed.{literals, bad, literal_of, assumed}

@@ -29,7 +29,7 @@ use Rattle.splitting.proofs.NodeLaws.{named-remaining}
 use Rattle.splitting.proofs.TrailLaws.{trail_count}
 use Rattle.splitting.proofs.Theorems.{formula_below}
 use Rattle.matched.specs.Pairing.{named_but}
-use Rattle.matched.proofs.PairingLaws.{bit-union, bit-named}
+use Rattle.matched.proofs.PairingLaws.{bit-named}
 use Rattle.walk.specs.Task.{whole, under, to_assign, visible, ModelFor, Posed}
 
 -- the first k variables hold those to assign and those that t names, apart from each other

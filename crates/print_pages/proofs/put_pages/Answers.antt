@@ -1,7 +1,6 @@
 -- `put_pages` writes page after page. The invariant: the pages so far are written, and the others go on from the checkpoint.
 use mathlib.Core.Path.{refl, ◌∙◌}
 use native.Mathlib.Omega.{arith}
-use lib.ListN.{length}
 use Rattle.writing.proofs.LineLaws.{numbers-length}
 use Rattle.print_pages.proofs.GoingLaws.{going_first, going_refused, going_last, going_more, going_stop}
 use Rattle.print_pages.proofs.put_pages.Goals as goal

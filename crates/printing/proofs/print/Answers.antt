@@ -15,11 +15,11 @@ use Rattle.printing.proofs.PrintLaws.{declined_prints, print_short, print_long, 
 use Rattle.printing.proofs.print.Goals.{After-accept-row}
 use Rattle.printing.proofs.print.Goals as goal
 
--- `print` by its three answers: nothing is written, the refusal, or the print of the formula.
 -- every print fits
 room : (s b : List ℕ) → length s ≤ max_input → max_print ≤ length b → Room 0 (printed s) b
 room s b h k = let l = printed-length s h in omega arith
 
+-- what comes of the input
 abbrev decided : (d : After-accept-row) → Decides d.args.input.now [] d.accept-row.result.outcome d.decode-d.result.formula
 decided d = decides _ [] _ _ (d.accept-row.ensures _ [] d.decode-d.ensures (d.none_assumed.ensures ∙ given_none _))
 

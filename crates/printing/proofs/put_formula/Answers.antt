@@ -19,6 +19,7 @@ use Rattle.printing.proofs.PrintLaws.{accepted_prints}
 use Rattle.printing.proofs.put_formula.Goals.{After-scope_of-z, After-visible_in-mask}
 use Rattle.printing.proofs.put_formula.Goals as goal
 
+-- the scope has the named variables, and the mask is what it shows
 scope : (c : After-scope_of-z) → c.scope_of-z.result ≡ scope_under c.args.f unassigned
 scope c = c.scope_of-z.ensures ∙ ap (scope_under c.args.f) c.no_assignment.ensures
 

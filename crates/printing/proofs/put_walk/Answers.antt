@@ -3,7 +3,6 @@ use Prim.Native.Nat.{ℕ, ◌-◌}
 use mathlib.Core.List.{[], append-nil}
 use mathlib.Core.Path.{◌≡◌, refl, sym, ◌∙◌}
 use native.Mathlib.Omega.{arith}
-use lib.ListN.{length}
 use Rattle.walk.specs.Gaps.{ample_budget}
 use Rattle.walk.specs.InnerStack.{Tree}
 use Rattle.walk.specs.InnerMachine.{resume}
@@ -58,7 +57,6 @@ shape_of-buffer-in-Ended c =
 pub returns-in-Ended : goal.returns-in-Ended
 returns-in-Ended c =
     λ K F.
-    let v = c.requires.room in
     going_last _ _ _ _ _ _ _ _ _ (c.loop-left.invariant.1 K F) _ _ _ (omega arith)
     (lines_end _ c.args.f.variables c.args.mask _ c.loop-left.s _ (ran (goal.at.returns-in-Ended c).After-go_on-r K F) (omega arith) c.in-Ended.is) c.put_end_line.ensures
 
@@ -77,7 +75,6 @@ put_model_line-next-requires c =
 
 pub loop-left-preserved : goal.loop-left-preserved
 loop-left-preserved c =
-    let v = c.requires.room in
     let m = c.in-Model.model in
     let e = c.in-Model.is in
     let w = c.put_model_line-next.ensures in (
@@ -104,5 +101,4 @@ shape_of-buffer c =
 pub returns : goal.returns
 returns c =
     λ K F.
-    let v = c.requires.room in
     going_last _ _ _ _ _ _ _ _ _ (c.loop-left.invariant.1 K F) _ _ _ (omega arith) (lines_more _ c.args.f.variables c.args.mask _ _ (omega arith)) c.put_more_line.ensures

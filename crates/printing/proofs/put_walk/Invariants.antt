@@ -1,5 +1,4 @@
 -- `put_walk` writes the lines of a walk. The invariant: the lines so far are written, and the others go on from s.
-use Prim.Native.Nat.{◌-◌}
 use mathlib.Core.Path.{◌≡◌}
 use lib.ListN.{length}
 use Rattle.walk.specs.InnerStack.{Tree}

@@ -1,6 +1,5 @@
 -- `enumeration::has_numbers` meets its contract. The invariant: no byte before i has the number 0.
 use borrow.Author.Rules.{rules}
-use Prim.Native.Nat.{◌-◌}
 use mathlib.Core.Path.{sym, ◌∙◌}
 use native.Mathlib.Omega.{arith}
 use Rattle.enumeration.proofs.FormLaws.{all_numbered, none_numbered}

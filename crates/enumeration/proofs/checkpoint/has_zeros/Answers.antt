@@ -1,6 +1,5 @@
 -- `enumeration::has_zeros` meets its contract. The invariant: the bytes from the end to i are 0.
 use borrow.Author.Rules.{rules}
-use Prim.Native.Nat.{◌-◌}
 use mathlib.Core.Path.{sym}
 use native.Mathlib.Omega.{arith}
 use Rattle.enumeration.proofs.FormLaws.{all_zeros, none_zeros}

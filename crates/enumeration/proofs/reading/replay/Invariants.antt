@@ -1,6 +1,6 @@
 -- `enumeration::replay` meets its contract. The invariant: the state is the node of the first i bytes.
 use Prim.Native.Nat.{◌-◌, ◌≤◌}
-use lib.ListN.{length, take}
+use lib.ListN.{take}
 use Rattle.walk.specs.InnerStack.{empty, Tree}
 use Rattle.walk.specs.InnerTest.{pushed}
 use Rattle.enumeration.specs.InnerState.{Follows}

@@ -1,6 +1,5 @@
 -- `page::filling::blank_rest` meets its contract. The loop's invariant: lines i to j - 1 are blank.
 use borrow.Author.Rules.{rules}
-use Prim.Native.Nat.{◌-◌}
 use native.Mathlib.Omega.{arith}
 use mathlib.Core.Path.{◌≡◌, refl, ◌∙◌}
 use Rattle.page.specs.PageLines.{page_lines}

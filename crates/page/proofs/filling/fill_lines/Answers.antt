@@ -1,5 +1,5 @@
 -- `fill_lines` writes the lines of the next models. The invariant: i lines are written, and the others go on from s.
-use Prim.Native.Nat.{ℕ, ◌-◌, ◌<◌}
+use Prim.Native.Nat.{ℕ, ◌<◌}
 use mathlib.Core.Path.{◌≡◌, refl, ◌∙◌}
 use native.Mathlib.Omega.{arith}
 use Rattle.walk.specs.Gaps.{ample_budget}
@@ -23,6 +23,7 @@ few g =
     let v = g.requires.valid in
     run_steps _ _ _ (ran g v.tree v.follows v.holds)
 
+-- a run that brings none
 brings_none : (c : In_default) (m : ℕ) → c.go_on-r.result.ending ≡ Model m → ⊥
 brings_none c m e = c.in_default.not-Model m e
 
