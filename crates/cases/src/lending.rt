@@ -1,4 +1,4 @@
-// The acts on a lent list of two assumptions, as a caller in Rattle names them. A reference to structs: each is proved by hand.
+// The acts on a lent list of two assumptions, as a caller in Rattle names them.
 ghost use Rattle.std.specs.Prelude.{[], ◌∷◌, ◌≡◌, length};
 ghost use Rattle.matched.specs.Judge.{judgement_values, judge};
 ghost use Rattle.matched.specs.Weigh.{weighed_values, weighed};

@@ -227,8 +227,8 @@ pub fn list_vector(
         });
     }
     report_call(rt, v.number, wanted, got)?;
-    report::numbers(rt, "models", models as u64, filled.count as u64)?;
-    report::numbers(rt, "first other model", 256, other as u64)?;
+    report::numbers(rt, b"models", models as u64, filled.count as u64)?;
+    report::numbers(rt, b"first other model", 256, other as u64)?;
     report_byte(rt, bytes, at, returned, wrong)?;
     Ok(Compared {
         agrees: false,

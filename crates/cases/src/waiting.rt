@@ -251,6 +251,6 @@ pub fn wait_vector(rt: &impl Print, bytes: &[u8], v: Vector) -> io::Result<bool>
         return Ok(true);
     }
     report::other_waits(rt, v.number)?;
-    report::numbers(rt, "waits over", wanted, got)?;
+    report::numbers(rt, b"waits over", wanted, got)?;
     Ok(false)
 }

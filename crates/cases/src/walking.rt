@@ -214,9 +214,9 @@ pub fn report_call(rt: &impl Print, vector: u64, wanted: Told, got: Told) -> io:
     let wanted_answer = wanted.answer;
     let answer = got.answer;
     report::difference(rt, vector, wanted_answer, answer)?;
-    report::numbers(rt, "model", wanted.model, got.model)?;
-    report::numbers(rt, "steps", wanted.steps, got.steps)?;
-    report::numbers(rt, "expansions", wanted.expansions, got.expansions)
+    report::numbers(rt, b"model", wanted.model, got.model)?;
+    report::numbers(rt, b"steps", wanted.steps, got.steps)?;
+    report::numbers(rt, b"expansions", wanted.expansions, got.expansions)
 }
 
 // Whether the start checkpoint is the expected one; a difference is printed.

@@ -64,8 +64,10 @@ pub fn other_text(
 }
 
 // One of the vector's numbers.
-pub fn numbers(rt: &impl Print, name: &str, wanted: u64, got: u64) -> io::Result<()> {
-    println!(rt; "  {name}: expected {wanted}, got {got}")
+pub fn numbers(rt: &impl Print, name: &[u8], wanted: u64, got: u64) -> io::Result<()> {
+    rt.write_all(b"  ")?;
+    rt.write_all(name)?;
+    println!(rt; ": expected {wanted}, got {got}")
 }
 
 // The first wrong byte of the vector's buffer or checkpoint, from 0.
@@ -74,13 +76,17 @@ pub fn wrong_byte(rt: &impl Print, at: usize, wanted: u8, got: u8) -> io::Result
 }
 
 // A file whose vector at an offset runs past its end.
-pub fn broken(rt: &impl Print, name: &str, at: usize) -> io::Result<()> {
-    println!(rt; "{name}: broken at {at}")
+pub fn broken(rt: &impl Print, name: &[u8], at: usize) -> io::Result<()> {
+    rt.write_all(name)?;
+    println!(rt; ": broken at {at}")
 }
 
 // How many vectors, or calls, were run.
-pub fn summary(rt: &impl Print, name: &str, unit: &str, t: Totals) -> io::Result<()> {
+pub fn summary(rt: &impl Print, name: &[u8], unit: &[u8], t: Totals) -> io::Result<()> {
     let vectors = t.vectors;
     let differences = t.differences;
-    println!(rt; "{name}: {vectors} {unit}, {differences} differences")
+    rt.write_all(name)?;
+    print!(rt; ": {vectors} ")?;
+    rt.write_all(unit)?;
+    println!(rt; ", {differences} differences")
 }
