@@ -1,9 +1,10 @@
--- `read_full`: what is read lies within the buffer. The measure is the number of bytes that are left.
-use Rattle.std.proofs.Common.{length, ◌-◌, ◌≤◌}
+-- `read_full`: what is read lies within the buffer, and is what the reader gave. The measure is the number of bytes that are left.
+use Rattle.std.proofs.Common.{length, ◌-◌, ◌≤◌, take}
+use Rattle.std.specs.Io.KnownBytes.{Consumes}
 use Rattle.reading.proofs.read_full.Given as goal
 
 abbrev pub invariant-loop-done : goal.invariant-loop-done
-invariant-loop-done g l = l.done ≤ length l.buffer
+invariant-loop-done g l = (l.done ≤ length l.buffer) × Consumes (g.R.Read.remaining l.initial.reader) (g.R.Read.remaining l.reader) (take l.done l.buffer)
 
 abbrev pub decreases-loop-done : goal.decreases-loop-done
 decreases-loop-done g l = length l.buffer - l.done
