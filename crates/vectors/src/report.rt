@@ -3,29 +3,25 @@ use crate::answers::Answer;
 use crate::totals::Totals;
 use std::{fmt, io};
 
-// What an answer says, in words.
-fn words_of(says: u64) -> &'static str {
-    match says {
-        0 => "no",
-        1 => "yes",
-        2 => "refused",
-        3 => "accepted",
-        4 => "model",
-        5 => "spent",
-        6 => "ended",
-        7 => "not compared",
-        8 => "models",
-        9 => "other models",
-        10 => "written",
-        11 => "filled",
-        12 => "counted",
-        _ => "unknown",
-    }
-}
-
+// What an answer says, in words, and its numbers.
 impl fmt::Display for Answer {
     fn fmt<W: fmt::Write>(&self, f: &mut fmt::Formatter<W>) -> fmt::Result {
-        let words = words_of(self.says);
+        let words = match self.says {
+            0 => "no",
+            1 => "yes",
+            2 => "refused",
+            3 => "accepted",
+            4 => "model",
+            5 => "spent",
+            6 => "ended",
+            7 => "not compared",
+            8 => "models",
+            9 => "other models",
+            10 => "written",
+            11 => "filled",
+            12 => "counted",
+            _ => "unknown",
+        };
         let number = self.number;
         let place = self.place;
         let variables = self.variables;
