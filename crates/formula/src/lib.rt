@@ -333,7 +333,9 @@ fn take_literal(input: &[u8], r: Reader) -> Reader
 {
     Reader {
         at: r.at + 2,
-        current: r.current.with_literal(usize::from(input[r.at + 1]) - 1, input[r.at] == 2),
+        current: r
+            .current
+            .with_literal(usize::from(input[r.at + 1]) - 1, input[r.at] == 2),
         ..r
     }
 }
