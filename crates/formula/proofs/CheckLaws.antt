@@ -1,22 +1,13 @@
 -- Clauses as masks hold where clauses as lists of literals hold.
-use Prim.Native.Nat.{ℕ, zero, suc, ◌+◌, ◌≤◌, ◌<◌}
-use mathlib.Core.Bool.{Bool, true, false, not, cond, ◌&&◌, ◌||◌, beq, or_assoc, or-false, and_assoc, and-false, and-true}
+use Prim.Native.Nat.{ℕ}
+use mathlib.Core.Bool.{Bool, true, false, not, cond, ◌||◌, beq, or_assoc, or-false}
 use mathlib.Core.List.{List, [], ◌∷◌, map}
 use mathlib.Core.Logic.{inl, inr, ⊎_elim}
 use mathlib.Core.Path.{◌≡◌, refl, sym, ap, ◌∙◌}
-use native.Mathlib.Decide.{dec_lt}
-use native.Mathlib.Numerals.{add-one}
-use native.Mathlib.Omega.{arith}
 use lib.Bits.{bit_and}
 use lib.Dec.{eqb}
-use lib.ListN.{length, length-map, get_or, take}
 use Rattle.std.specs.Prelude.{Ok}
-use Rattle.std.specs.List.{list_all}
-use Rattle.std.proofs.lemmas.List.Folds.{list_all_more}
 use borrow.Author.Tests.{eqb-true}
-use Rattle.limits.specs.Limits.{max_clauses}
-use Rattle.lists.specs.Padded.{padded}
-use Rattle.lists.proofs.PaddedLaws.{get_or_padded}
 use Rattle.lists.proofs.TestLaws.{and_left, and_right, and_both, or_cases, or_swap}
 use Rattle.masks.specs.Mask.{bit, with, minus}
 use Rattle.masks.proofs.BitLaws.{bit-and, bit-minus, bit-with, bit-with-same}
@@ -29,7 +20,7 @@ use Rattle.formula.specs.Check.{said_yes, said_no, verdict_said, verdict_refused
 use Rattle.formula.specs.InnerDecode.{decode}
 use Rattle.formula.specs.Decoding.{refused}
 use Rattle.formula.specs.Format.{Literal}
-use Rattle.formula.specs.InnerCheck.{clause_holds, all_first, clauses_hold}
+use Rattle.formula.specs.InnerCheck.{clause_holds, clauses_hold}
 use Rattle.formula.specs.InnerMasked.{no_clause, with_literal, with_literals, clause_of}
 use Rattle.formula.specs.InnerModels.{stands, holds, satisfied, stray}
 use Rattle.formula.proofs.MaskedLaws.{Accepts}
@@ -93,53 +84,17 @@ clause_holds_of a c = with_literals_holds a no_clause c
 
 -- ---- all clauses
 
--- one clause more that passes a test
-pub all_more : (test : Clause → Bool) (cs : List Clause) (i : ℕ) → all_first test cs i ≡ true → test (get_or cs i no_clause) ≡ true → all_first test cs (i + 1) ≡ true
-unfolding all_first
-all_more test cs i p q = rw (add-one, all_first, p, q)
-
--- one that does not pass
-pub all_fails : (test : Clause → Bool) (cs : List Clause) (i n : ℕ) → i < n → test (get_or cs i no_clause) ≡ false → all_first test cs n ≡ false
-unfolding all_first
-all_fails test cs i zero l e = absurd (omega arith)
-all_fails test cs i (suc n) l e = go (dec_lt i n) (all_fails test cs i n)
-  where
-    go : Dec (i < n) → (i < n → test (get_or cs i no_clause) ≡ false → all_first test cs n ≡ false) → all_first test cs n && test (get_or cs n no_clause) ≡ false
-    go (yes k) ih = rw (ih k e)
-    go (no k) ih = let q : n ≡ i = omega arith in rw (q, e) (and-false (all_first test cs i))
-
--- the first n clauses are a part of the array
-pub all_taken : (test : Clause → Bool) (cs : List Clause) (n : ℕ) → n ≤ length cs → all_first test cs n ≡ list_all test (take n cs)
-unfolding all_first
-all_taken test cs zero l = refl
-all_taken test cs (suc n) l = rw (all_taken test cs n (omega arith), ← add-one) (sym (list_all_more test cs n no_clause l))
-
-clauses_hold_cons : (a : ℕ) (c : Clause) (cs : List Clause) (n : ℕ) → clauses_hold a (c ∷ cs) (suc n) ≡ clause_holds a c && clauses_hold a cs n
-unfolding all_first
-clauses_hold_cons a c cs zero = sym (and-true (clause_holds a c))
-clauses_hold_cons a c cs (suc n) = ap (λ (b : Bool). b && clause_holds a (get_or cs n no_clause)) (clauses_hold_cons a c cs n) ∙ and_assoc (clause_holds a c) (clauses_hold a cs n) (clause_holds a (get_or cs n no_clause))
-
-clauses_hold_padded : (a k : ℕ) (cs : List Clause) (n : ℕ) → n ≤ length cs → clauses_hold a (padded k no_clause cs) n ≡ clauses_hold a cs n
-unfolding all_first
-clauses_hold_padded a k cs zero l = refl
-clauses_hold_padded a k cs (suc n) l = rw (clauses_hold_padded a k cs n (omega arith), get_or_padded k no_clause cs n no_clause l)
-
-clauses_hold_map : (a : ℕ) (cs : List (List Literal)) → clauses_hold a (map clause_of cs) (length cs) ≡ satisfied a cs
-unfolding satisfied all_first
-clauses_hold_map a [] = refl
-clauses_hold_map a (c ∷ cs) = clauses_hold_cons a (clause_of c) (map clause_of cs) (length cs) ∙ rw (clause_holds_of a c, clauses_hold_map a cs)
-
 -- the clauses of a formula hold exactly if it is satisfied
-pub clauses_hold_of : (a : ℕ) (cs : List (List Literal)) → clauses_hold a (padded max_clauses no_clause (map clause_of cs)) (length cs) ≡ satisfied a cs
-clauses_hold_of a cs =
-    let m : length cs ≤ length (map clause_of cs) = omega (arith, length-map cs clause_of) in
-    clauses_hold_padded a max_clauses (map clause_of cs) (length cs) m ∙ clauses_hold_map a cs
+pub clauses_hold_of : (a : ℕ) (cs : List (List Literal)) → clauses_hold a (map clause_of cs) ≡ satisfied a cs
+unfolding satisfied
+clauses_hold_of a [] = refl
+clauses_hold_of a (c ∷ cs) = rw (clause_holds_of a c, clauses_hold_of a cs)
 
 -- ---- check
 
 -- what check says of an accepted input
 pub checked_accepted : (s : List ℕ) (f : Formula) (a : ℕ) → Accepts s f
-    → checked s a ≡ cond (stray f.variables a) (verdict_refused (StrayVariable 0)) (cond (clauses_hold a f.clauses f.count) (verdict_said said_yes) (verdict_said said_no))
+    → checked s a ≡ cond (stray f.variables a) (verdict_refused (StrayVariable 0)) (cond (clauses_hold a f.clauses.items) (verdict_said said_yes) (verdict_said said_no))
 unfolding checked
 checked_accepted s f a w = rw (w.reads, w.formula, clauses_hold_of a w.clauses)
 

@@ -1,18 +1,16 @@
 -- The masks of a formula, and what the reader's contract says of an accepted input.
 use Prim.Native.Nat.{ℕ, ◌<◌}
 use Rattle.std.specs.Prelude.{Ok, Err}
-use mathlib.Core.List.{List, [], map}
+use mathlib.Core.List.{List, []}
 use mathlib.Core.Path.{◌≡◌, refl}
 use lib.ListN.{length, length-map, get_or-map}
-use Rattle.limits.specs.Limits.{max_clauses}
 use Rattle.lists.proofs.EveryLaws.{every_get_or}
-use Rattle.lists.proofs.PaddedLaws.{get_or_padded}
 use Rattle.formula.specs.declared.Formula.{Formula}
 use Rattle.formula.specs.declared.Refusal.{Refusal}
 use Rattle.formula.specs.InnerDecode.{decode}
 use Rattle.formula.specs.Decoding.{Decoding, readable, refused}
 use Rattle.formula.specs.Format.{Literal, ClauseOver, Sized, Encodes}
-use Rattle.formula.specs.InnerMasked.{no_clause, with_literals, clause_of, formula_of, held, decoded}
+use Rattle.formula.specs.InnerMasked.{with_literals, clause_of, formula_of, held, decoded}
 use Rattle.formula.specs.InnerFits.{FormulaFits}
 use Rattle.formula.proofs.ClauseLaws.{clause_fits}
 use Rattle.formula.proofs.OutcomeLaws.{decode_means}
@@ -24,10 +22,10 @@ unfolding with_literals
 formula_fits {n} {cs} z = record {
   some = z.some;
   most = z.most;
-  few = z.few;
-  clauses = λ i l.
-      let m : i < length (map clause_of cs) = rw (length-map cs clause_of) l in
-      rw (get_or_padded max_clauses no_clause (map clause_of cs) i no_clause m, get_or-map clause_of cs i [])
+  few = rw (length-map cs clause_of) z.few;
+  clauses = λ i h.
+      let l : i < length cs = rw (length-map cs clause_of) at h in
+      rw (get_or-map clause_of cs i [])
       (clause_fits (every_get_or (ClauseOver n) cs i [] l z.clauses));
 }
 

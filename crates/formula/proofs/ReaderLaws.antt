@@ -7,7 +7,7 @@ use mathlib.Core.Path.{◌≡◌, refl, sym, ap, ◌∙◌, subst}
 use native.Mathlib.Decide.{dec_lt}
 use native.Mathlib.Omega.{arith}
 use lib.Dec.{eqb, ltb, leb}
-use lib.ListN.{length, length-map, get_or, drop, set, length-append, drop_of_length-le}
+use lib.ListN.{length, length-map, get_or, drop, length-append, drop_of_length-le}
 use lib.Seq.{drop-cons}
 use borrow.Author.Tests.{eqb-true, eqb-false, ltb-true, leb-true, lt-ltb, le-ltb}
 use Rattle.limits.specs.Limits.{max_variables, max_clauses}
@@ -17,13 +17,11 @@ use Rattle.formula.specs.declared.Refusal.{Refusal}
 use Rattle.formula.specs.declared.Refusal.TheVariants.{Truncated, UnknownKind, Misplaced, BadVariableCount, NoSuchVariable, ComplementaryLiteral, TooManyClauses, TrailingByte}
 use Rattle.formula.specs.InnerDecode.{Kind, variable_count, literal, clause_end, formula_end, unknown, kind_of, known, allowed, Reading, reading_start, Step, next, stop, refuse, none_yet, one_to, after_kind, variable_count_body, literal_added, literal_body, clause_ends, formula_ends, read_record, records, decode}
 use Rattle.formula.specs.Decoding.{readable, refused}
-use Rattle.formula.specs.Format.{Literal, names_as}
+use Rattle.formula.specs.Format.{names_as}
 use Rattle.formula.specs.InnerReader.{count_event, variable_event, literal_event, end_event, finish_event, kind_event, record_event, reader_of, Reads}
 use Rattle.formula.proofs.ClauseLaws.{clause_side, clause_empty}
 use Rattle.formula.proofs.RepeatLaws.{add_masks}
 use Rattle.formula.specs.InnerMasked.{no_clause, with_literals, clause_of, held}
-use Rattle.lists.specs.Padded.{padded}
-use Rattle.lists.proofs.PaddedLaws.{padded_set}
 use Rattle.lists.proofs.TestLaws.{and_right}
 
 -- ---- one record
@@ -171,7 +169,7 @@ follows s g small = go (front s g.at (g.at + 1) (omega arith))
 -- ---- the loop
 
 -- before the first record
-pub reads_start : (s : List ℕ) → Reads s (record { at = 0; variables = 0; count = 0; current = no_clause }) (padded max_clauses no_clause [])
+pub reads_start : (s : List ℕ) → Reads s (record { at = 0; variables = 0; count = 0; current = no_clause }) []
 unfolding decode with_literals
 reads_start s = record {
   reading = reading_start;
@@ -190,17 +188,17 @@ pub record Turn (s : List ℕ) (r : Reader) (clauses : List Clause) (r' : Reader
   pub forward : r.at < r'.at
   pub inside : r'.at ≤ length s
   pub small : r'.variables ≤ max_variables
-  pub stored : r.count < r'.count → (r.count < max_clauses) × Reads s r' (set clauses r.count r.current)
+  pub stored : r.count < r'.count → (length clauses < max_clauses) × Reads s r' (clauses ++ (r.current ∷ []))
   pub kept : r'.count ≤ r.count → Reads s r' clauses
 
 -- what each record means for the whole input
 pub data Whole (s : List ℕ) (r : Reader) (clauses : List Clause) : Result (Option Reader) Refusal → Type 0 where
   goes_on : {r' : Reader} → Turn s r clauses r' → Whole s r clauses (Ok (Some r'))
-  accepts : held (decode s) ≡ Ok (record { variables = r.variables; count = r.count; clauses = clauses }) → Whole s r clauses (Ok None)
+  accepts : held (decode s) ≡ Ok (record { variables = r.variables; clauses = record { items = clauses } }) → Whole s r clauses (Ok None)
   refuses : (x : Refusal) → decode s ≡ refused x → Whole s r clauses (Err x)
 
 array : Reading → List Clause
-array g = padded max_clauses no_clause (map clause_of g.ended)
+array g = map clause_of g.ended
 
 module _ (s : List ℕ) (g : Reading) (few : length g.ended ≤ max_clauses) where
   -- where the step goes on, the loop's turn keeps what `Reads` says
@@ -229,20 +227,16 @@ module _ (s : List ℕ) (g : Reading) (few : length g.ended ≤ max_clauses) whe
         rest = rest;
       }
 
-      stores : length g.ended < max_clauses → h.ended ≡ g.ended ++ (g.current ∷ []) → set (array g) (length g.ended) (clause_of g.current) ≡ array h
-      stores n e =
-          let m : length (map clause_of g.ended) ≡ length g.ended = length-map g.ended clause_of in
-          ap (λ (i : ℕ). set (array g) i (clause_of g.current)) (sym m)
-          ∙ padded_set max_clauses no_clause (map clause_of g.ended) (clause_of g.current) (rw m n)
-          ∙ ap (padded max_clauses no_clause) (sym (map-append clause_of g.ended (g.current ∷ [])) ∙ ap (map clause_of) (sym e))
+      stores : h.ended ≡ g.ended ++ (g.current ∷ []) → array g ++ (clause_of g.current ∷ []) ≡ array h
+      stores e = sym (map-append clause_of g.ended (g.current ∷ [])) ∙ ap (map clause_of) (sym e)
 
       stored : Kept g h → length g.ended < length h.ended
-          → (length g.ended < max_clauses) × Reads s (reader_of h) (set (array g) (length g.ended) (clause_of g.current))
+          → (length (array g) < max_clauses) × Reads s (reader_of h) (array g ++ (clause_of g.current ∷ []))
       stored (same e) c = absurd (omega (arith, ap length e))
-      stored (more n e) c = (n, reads (set (array g) (length g.ended) (clause_of g.current)) (stores n e) (rw (e, length-append) (omega arith)))
+      stored (more n e) c = (rw (length-map g.ended clause_of) n, reads (array g ++ (clause_of g.current ∷ [])) (stores e) (rw (e, length-append) (omega arith)))
 
       unchanged : Kept g h → length h.ended ≤ length g.ended → Reads s (reader_of h) (array g)
-      unchanged (same e) c = reads (array g) (ap (λ (cs : List (List Literal)). padded max_clauses no_clause (map clause_of cs)) (sym e)) (rw e few)
+      unchanged (same e) c = reads (array g) (ap (map clause_of) (sym e)) (rw e few)
       unchanged (more n e) c = absurd (omega (arith, ap length e ∙ length-append g.ended (g.current ∷ [])))
 
   whole_at : g.variables ≤ max_variables → g.at ≤ length s → (k : ℕ) → length s ≤ g.at + k → records k (length s) g (drop g.at s) ≡ decode s
@@ -271,7 +265,7 @@ turn_next (accepts h) q = absurd cc
 turn_next (refuses x h) q = absurd cc
 
 pub turn_finished : {s : List ℕ} {r : Reader} {clauses : List Clause} {e : Result (Option Reader) Refusal} → Whole s r clauses e → e ≡ Ok None
-    → held (decode s) ≡ Ok (record { variables = r.variables; count = r.count; clauses = clauses })
+    → held (decode s) ≡ Ok (record { variables = r.variables; clauses = record { items = clauses } })
 turn_finished (goes_on t) q = absurd cc
 turn_finished (accepts h) q = h
 turn_finished (refuses x h) q = absurd cc

@@ -1,6 +1,6 @@
 -- What the code asks of a clause and of a formula in masks. `formula_fits` in proofs/MaskedLaws.antt: the formula of every readable input
 -- is so.
-use Rattle.std.specs.Prelude.{ℕ, ◌^◌, ◌<◌, ◌≤◌, Bool, true, false, ◌≡◌, get_or}
+use Rattle.std.specs.Prelude.{ℕ, ◌^◌, ◌<◌, ◌≤◌, Bool, true, false, ◌≡◌, get_or, length}
 use Rattle.std.specs.Int.Bits.{bit_or}
 use Rattle.limits.specs.Limits.{max_variables, max_clauses}
 use Rattle.masks.specs.InnerMask.{meets}
@@ -26,5 +26,5 @@ pub record ClauseFits (n : ℕ) (c : Clause) : Type 0 where
 pub record FormulaFits (f : Formula) : Type 0 where
   pub some : 1 ≤ f.variables
   pub most : f.variables ≤ max_variables
-  pub few : f.count ≤ max_clauses
-  pub clauses : (i : ℕ) → i < f.count → ClauseFits f.variables (get_or f.clauses i no_clause)
+  pub few : length f.clauses.items ≤ max_clauses
+  pub clauses : (i : ℕ) → i < length f.clauses.items → ClauseFits f.variables (get_or f.clauses.items i no_clause)

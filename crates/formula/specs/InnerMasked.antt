@@ -1,7 +1,5 @@
 -- A formula as the code holds it: a clause is two masks, the clauses an array of 96.
-use Rattle.std.specs.Prelude.{ℕ, Bool, true, false, List, [], ◌∷◌, map, length, Result, Ok, Err}
-use Rattle.limits.specs.Limits.{max_clauses}
-use Rattle.lists.specs.Padded.{padded}
+use Rattle.std.specs.Prelude.{ℕ, Bool, true, false, List, [], ◌∷◌, map, Result, Ok, Err}
 use Rattle.masks.specs.Mask.{with}
 use Rattle.formula.specs.declared.Clause.{Clause}
 use Rattle.formula.specs.declared.Formula.{Formula}
@@ -29,7 +27,7 @@ abbrev pub clause_of : List Literal → Clause
 clause_of c = with_literals no_clause c
 
 abbrev pub formula_of : ℕ → List (List Literal) → Formula
-formula_of n cs = record { variables = n; count = length cs; clauses = padded max_clauses no_clause (map clause_of cs) }
+formula_of n cs = record { variables = n; clauses = record { items = map clause_of cs } }
 
 -- an input that is read gives its formula, and a refused one its refusal
 abbrev pub held : Decoding → Result Formula Refusal

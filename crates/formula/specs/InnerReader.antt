@@ -1,7 +1,6 @@
 -- What the reader's functions compute over masks, record by record; proofs/ReaderLaws.antt ties it to InnerDecode.
 use Rattle.std.specs.Prelude.{ℕ, ◌+◌, ◌-◌, ◌≤◌, Bool, false, not, cond, ◌&&◌, ◌||◌, List, map, ◌≡◌, eqb, ltb, length, get_or, drop, Option, Some, None, Result, Ok, Err}
 use Rattle.limits.specs.Limits.{max_variables, max_clauses}
-use Rattle.lists.specs.Padded.{padded}
 use Rattle.masks.specs.Mask.{bit}
 use Rattle.formula.specs.declared.Clause.{Clause}
 use Rattle.formula.specs.declared.Kind as code
@@ -104,7 +103,7 @@ reader_of g = record { at = g.at; variables = g.variables; count = length g.ende
 pub record Reads (s : List ℕ) (r : Reader) (clauses : List Clause) : Type 0 where
   pub reading : Reading
   pub is : r ≡ reader_of reading
-  pub kept : clauses ≡ padded max_clauses no_clause (map clause_of reading.ended)
+  pub kept : clauses ≡ map clause_of reading.ended
   pub inside : reading.at ≤ length s
   pub small : reading.variables ≤ max_variables
   pub few : length reading.ended ≤ max_clauses

@@ -13,23 +13,23 @@ ghost use Rattle.formula.specs.InnerReader.{kind_held, count_event, variable_eve
 
 mod assignment;
 
+use arrayvec::ArrayVec;
 pub use assignment::Assignment;
 use limits::{MAX_CLAUSES, MAX_VARIABLES};
 use std::fmt;
 
 // A clause (request: rule): the variables that it names as true (request: on) and those that it names as false.
-#[derive(Clone, Copy)]
+#[derive(Clone, Copy, Default)]
 pub struct Clause {
     pub positive: u64,
     pub negative: u64,
 }
 
-// A formula (request: sheet): the first `count` clauses; the others are empty.
-#[derive(Clone, Copy)]
+// A formula (request: sheet): its number of variables, and its clauses in order.
+#[derive(Drop)]
 pub struct Formula {
     pub variables: usize,
-    pub count: usize,
-    pub clauses: [Clause; MAX_CLAUSES],
+    pub clauses: ArrayVec<Clause, MAX_CLAUSES>,
 }
 
 // S3.1: the refusals, in the order of their numbers; each holds its place.
@@ -355,7 +355,7 @@ fn read_literals(input: &[u8], r: Reader) -> Reader
 pub fn decode(input: &[u8]) -> Result<Formula, Refusal>
     ensures { result ≡ decoded input.now }
 {
-    let mut clauses = [Clause::empty(); MAX_CLAUSES];
+    let mut clauses = ArrayVec::new();
     let start = Reader {
         variables: 0,
         at: 0,
@@ -365,23 +365,21 @@ pub fn decode(input: &[u8]) -> Result<Formula, Refusal>
     let mut reader = read_literals(input, start);
     while let Some(after) = read_record(input, reader)? {
         if reader.count < after.count {
-            clauses[reader.count] = reader.current;
+            clauses.push(reader.current);
         }
         reader = read_literals(input, after);
     }
     Ok(Formula {
         variables: usize::from(reader.variables),
-        count: reader.count,
         clauses,
     })
 }
 
 // Every clause of the formula holds.
 pub fn all_hold(f: &Formula, assignment: u64) -> bool
-    requires { f.now.count ≤ max_clauses }
-    ensures { result ≡ clauses_hold assignment f.now.clauses f.now.count }
+    ensures { result ≡ clauses_hold assignment f.now.clauses.items }
 {
-    f.clauses[..f.count].iter().all(|c| c.holds(assignment))
+    f.clauses.iter().all(|c| c.holds(assignment))
 }
 
 // S4.3: the act check: whether the assignment is a model of the encoded formula, accepted or not.

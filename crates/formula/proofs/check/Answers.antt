@@ -22,9 +22,6 @@ overflow_shr-assignment c = omega (arith, (accepted (goal.at.overflow_shr-assign
 pub returns-then-assignment-f-ne0 : goal.returns-then-assignment-f-ne0
 returns-then-assignment-f-ne0 c = sym (checked_accepted _ _ _ (accepted (goal.at.returns-then-assignment-f-ne0 c).In_ok-f) ∙ rw (ne_eqb _ 0 c.if-assignment-f-ne0.true))
 
-pub all_hold-requires : goal.all_hold-requires
-all_hold-requires c = (accepted (goal.at.all_hold-requires c).In_ok-f).fits.few
-
 pub returns : goal.returns
 returns c =
     rw c.all_hold.ensures

@@ -1,20 +1,19 @@
 -- `formula::decode` meets its contract. The loop keeps `Reads`: what is left to read gives what the whole gives.
 use mathlib.Core.Path.{sym, ap, ◌∙◌}
+use borrow.Author.Rules.{rules}
 use Rattle.std.specs.Prelude.{Ok}
 use Rattle.std.proofs.lemmas.Result.{err_from_is_err_and}
-use Rattle.lists.specs.Padded.{padded}
 use Rattle.formula.specs.InnerMasked.{held, decoded}
 use Rattle.formula.proofs.ReaderLaws.{reads_start, whole, Turn, turn_next, turn_finished, turn_stopped}
 use Rattle.formula.proofs.decode.Goals.{In-Some, then-reader-after, else-reader-after}
 use Rattle.formula.proofs.decode.Goals as goal
 
 -- a record after which reading goes on
-turn : (c : In-Some) → Turn c.args.input.now c.loop-after.reader c.loop-after.clauses c.in-Some.after
+turn : (c : In-Some) → Turn c.args.input.now c.loop-after.reader c.loop-after.clauses.items c.in-Some.after
 turn c = turn_next (whole _ _ _ c.loop-after.invariant) (sym c.read_record.ensures ∙ c.in_ok-after.was ∙ ap Ok c.in-Some.is)
 
 pub loop-after-init : goal.loop-after-init
-unfolding padded
-loop-after-init c = c.read_literals-reader.ensures.passes.reads _ (rw (c.empty-clauses.ensures, c.empty.ensures) (reads_start c.args.input.now))
+loop-after-init c = c.read_literals-reader.ensures.passes.reads _ (rw (c.new-clauses.ensures, c.empty.ensures) (reads_start c.args.input.now))
 
 pub returns-in_err-after : goal.returns-in_err-after
 unfolding decoded
@@ -27,12 +26,15 @@ read_literals-reader-requires-in-Some c =
     let t = turn (goal.at.read_literals-reader-requires-in-Some c).In-Some in
     (t.inside, t.small)
 
+pub push-requires : goal.push-requires
+push-requires c = (search rules, ((turn (goal.at.push-requires c).In-Some).stored c.if-reader-after.true).0)
+
 pub loop-after-preserved : goal.loop-after-preserved
 loop-after-preserved c =
     let t = turn (goal.at.loop-after-preserved c).In-Some in
     c.read_literals-reader-in-Some.ensures.passes.reads _
     (elim c.if-reader-after.branch [
-      | then-reader-after w ↦ rw w.clauses-is (t.stored w.if-reader-after.true).1
+      | then-reader-after w ↦ rw (w.clauses-is, w.push.ensures.items) (t.stored w.if-reader-after.true).1
       | else-reader-after w ↦ rw w.clauses-is (t.kept w.if-reader-after.false)
     ])
 

@@ -5,7 +5,7 @@ use Rattle.formula.specs.InnerReader.{Reads}
 use Rattle.formula.proofs.decode.Given as goal
 
 abbrev pub invariant-loop-after : goal.invariant-loop-after
-invariant-loop-after l = Reads l.input l.reader l.clauses
+invariant-loop-after l = Reads l.input l.reader l.clauses.items
 
 abbrev pub decreases-loop-after : goal.decreases-loop-after
 decreases-loop-after l = length l.input - l.reader.at
