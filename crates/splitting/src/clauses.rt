@@ -189,6 +189,7 @@ impl Clauses {
 
     // Matches the clauses of the node, from nothing.
     pub fn match_with(&self, a: Assignment) -> Matching
+        requires { Small (formula_in self.now) }
         ensures { result ≡ matching_at (formula_in self.now) a }
     {
         let mut sets = [0; MAX_CLAUSES];
@@ -199,6 +200,7 @@ impl Clauses {
     // Strips pure literals, the lowest first, until there is none, from a copy. No variable is noted twice, so that as many turns as
     // variables are enough.
     pub fn reduce(&self, variables: usize) -> Reduced
+        requires { Small (formula_in self.now) }
         ensures { result ≡ reduce_from variables (formula_in self.now) unassigned 0 0 }
     {
         let mut left = *self;
@@ -227,7 +229,7 @@ impl Clauses {
 
     // S6.3: a trial of v: the clauses are matched with v false and, unless this fails, also with v true.
     fn try_variable(&self, v: usize) -> Trial
-        requires { v < 64 }
+        requires { Small (formula_in self.now) × (v < 64) }
         ensures { result ≡ tried (formula_in self.now) unassigned v }
     {
         let when_false = self.match_with(Assignment::none().with(v, false));
@@ -257,6 +259,7 @@ impl Clauses {
 
     // Tries the counted variables, the busiest first and of equally busy ones the lowest, until one passes.
     pub fn first_passing(&self, counts: Counts) -> Choice
+        requires { Small (formula_in self.now) }
         ensures { result ≡ passing (formula_in self.now) unassigned (by_count (count_at counts) 64 max_count) 0 }
     {
         let mut rest = counts.counted();

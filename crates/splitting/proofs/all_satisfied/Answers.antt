@@ -1,0 +1,18 @@
+-- `all_satisfied` tells whether each clause is satisfied: the test of each clause of the slice.
+use mathlib.Core.Path.{sym, ◌∙◌}
+use borrow.Author.Rules.{rules}
+use borrow.Author.Tests.{tests}
+use lib.ListN.{take}
+use Rattle.std.proofs.lemmas.Iterator.{YieldsList-from_slice}
+use Rattle.std.proofs.lemmas.Iterator.Search.{all_from_yields_List}
+use Rattle.formula.specs.InnerAssignment.{satisfied_under}
+use Rattle.formula.proofs.CheckLaws.{all_taken}
+use Rattle.splitting.proofs.all_satisfied.Goals as goal
+
+pub returns : goal.returns
+returns c =
+    let f = c.args.f.now in
+    all_from_yields_List (satisfied_under c.args.a) _ _ c.all.result c.all.ensures.ran
+    (YieldsList-from_slice (take f.count f.clauses) cc)
+    (λ x b q k. search (rules, tests))
+    ∙ sym (all_taken (satisfied_under c.args.a) f.clauses f.count (let h = c.requires in ?))
