@@ -9,23 +9,25 @@ use native.Mathlib.Omega.{arith}
 use lib.Dec.{eqb, ltb}
 use lib.ListN.{length}
 use borrow.Author.Tests.{lt-ltb, ltb-true}
-use Rattle.limits.specs.Limits.{max_clauses}
 use Rattle.lists.proofs.TabulatedLaws.{length_tabulated}
 use Rattle.lists.proofs.TestLaws.{and_left, bool_cases, bool_clash}
 use Rattle.masks.specs.Mask.{bit, members, size}
 use Rattle.masks.specs.InnerMask.{without, lowest}
 use Rattle.masks.proofs.BitLaws.{minus_lt, bit-none, bit_below, bit-without, bit-without-same}
 use Rattle.masks.proofs.MembersLaws.{lowest_is, members-lowest}
+use Rattle.std.specs.Result.{is_ok}
 use Rattle.matching.specs.declared.Matching.{Matching}
 use Rattle.matching.specs.Search.{succeeds}
-use Rattle.matching.proofs.ResultLaws.{packed_complete, packed-expansions}
+use Rattle.matching.proofs.ResultLaws.{packed-found, packed-expansions}
 use Rattle.formula.specs.declared.Formula.{Formula}
-use Rattle.splitting.specs.declared.Assignment.{Assignment}
-use Rattle.splitting.specs.declared.Trial.{Trial}
-use Rattle.splitting.specs.declared.Counts.{Counts}
+use Rattle.formula.specs.declared.assignment.Assignment.{Assignment}
+use Rattle.splitting.specs.declared.clauses.Clauses.{Clauses}
+use Rattle.splitting.specs.declared.clauses.Trial.{Trial}
+use Rattle.splitting.specs.declared.counts.Counts.{Counts}
 use Rattle.splitting.specs.Choosing.{both_open, by_count, among}
 use Rattle.splitting.specs.Terms.{Ordered}
-use Rattle.splitting.specs.InnerChoose.{set_to, node, clause_in, clauses_in, Small, matched_node, matching_at, tried, passing, occurrences_in, busiest_first, count_at, max_count, Busiest}
+use Rattle.formula.specs.InnerAssignment.{set_to}
+use Rattle.splitting.specs.InnerChoose.{node, clause_in, clauses_of, Small, matched_node, matching_at, tried, passing, occurrences_in, busiest_first, count_at, max_count, Busiest}
 use Rattle.splitting.proofs.CountLaws.{count_le, count_drop, size_count}
 use Rattle.splitting.proofs.SearchLaws.{among_here, among_cases, among_none}
 use Rattle.splitting.proofs.OrderLaws.{before_once, ordered_behind, by_count_of, by_count_in, by_count_ordered, by_count_length, by_count_high, counted_to}
@@ -36,30 +38,30 @@ use Rattle.splitting.proofs.NodeMatchingLaws.{node_cost}
 
 module _ (f : Formula) (a : Assignment) (v : ℕ) where
   -- the matching with v false fails
-  pub tried_false : (m : Matching) → m ≡ matching_at f (set_to a v false) → m.complete ≡ false
+  pub tried_false : (m : Matching) → m ≡ matching_at f (set_to a v false) → is_ok m.found ≡ false
       → ◌≡◌ {A = Trial} (record { passes = false; cost = m.expansions }) (tried f a v)
   unfolding tried
   tried_false m e h =
       let o = matched_node f (set_to a v false) in
       let n = length (node f (set_to a v false)) in
-      let t : succeeds o ≡ false = sym (packed_complete n o) ∙ ap (λ (x : Matching). x.complete) (sym e) ∙ h in
+      let t : succeeds o ≡ false = sym (packed-found n o) ∙ ap (λ (x : Matching). is_ok x.found) (sym e) ∙ h in
       rw (e, packed-expansions, tried, t)
 
   -- it succeeds, and the one with v true decides
-  pub tried_true : (m n : Matching) → m ≡ matching_at f (set_to a v false) → m.complete ≡ true
+  pub tried_true : (m n : Matching) → m ≡ matching_at f (set_to a v false) → is_ok m.found ≡ true
       → n ≡ matching_at f (set_to a v true)
-      → ◌≡◌ {A = Trial} (record { passes = n.complete; cost = m.expansions + n.expansions }) (tried f a v)
+      → ◌≡◌ {A = Trial} (record { passes = is_ok n.found; cost = m.expansions + n.expansions }) (tried f a v)
   unfolding tried
   tried_true m n e h d =
       let o = matched_node f (set_to a v false) in
       let q = matched_node f (set_to a v true) in
-      let t : succeeds o ≡ true = sym (packed_complete (length (node f (set_to a v false))) o) ∙ ap (λ (x : Matching). x.complete) (sym e) ∙ h in
+      let t : succeeds o ≡ true = sym (packed-found (length (node f (set_to a v false))) o) ∙ ap (λ (x : Matching). is_ok x.found) (sym e) ∙ h in
       rw (
         e,
         d,
         packed-expansions (length (node f (set_to a v false))) o,
         packed-expansions (length (node f (set_to a v true))) q,
-        packed_complete (length (node f (set_to a v true))) q,
+        packed-found (length (node f (set_to a v true))) q,
         tried,
         t,
       )
@@ -153,11 +155,11 @@ lists_counted c m l h = record {
 }
 
 -- counted of the clauses in arrays they are in the order of trials there
-pub counted-first : (c : Counts) (p q : List ℕ) (k : ℕ) → k ≤ max_clauses → ((v : ℕ) → count_at c v ≡ occurrences_in (clauses_in p q k) v)
-    → by_count (count_at c) 64 max_count ≡ busiest_first (clauses_in p q k)
-counted-first c p q k few h =
-    let cs = clauses_in p q k in
-    let l = length_tabulated (clause_in p q) k in
+pub counted-first : (c : Counts) (s : Clauses) → ((v : ℕ) → count_at c v ≡ occurrences_in (clauses_of s) v)
+    → by_count (count_at c) 64 max_count ≡ busiest_first (clauses_of s)
+counted-first c s h =
+    let cs = clauses_of s in
+    let l = length_tabulated (clause_in s.positives s.negatives) s.count in
     let e : max_count ≡ max_count - length cs + length cs = omega arith in
     ap₂ (λ (f : ℕ → ℕ) (j : ℕ). by_count f 64 j) (λ i v. h v i) e ∙ by_count_high (occurrences_in cs) 64 (length cs) (max_count - length cs) (occurrences_few cs)
 

@@ -1,52 +1,45 @@
 -- `strip` is stripping at the node.
 use Prim.Native.Nat.{◌<◌}
-use mathlib.Core.Path.{◌≡◌, sym, ap, ◌∙◌}
+use mathlib.Core.Path.{◌≡◌, refl, sym, ap, ◌∙◌}
 use native.Mathlib.Omega.{arith}
 use lib.Bits.{bit_xor}
-use Rattle.splitting.specs.declared.Survey.{Survey}
+use Rattle.splitting.specs.declared.clauses.Survey.{Survey}
 use Rattle.splitting.specs.InnerChoose.{pure_of}
 use Rattle.splitting.proofs.NodeMatchingLaws.{small_of}
 use Rattle.splitting.proofs.ReduceLaws.{pure_lowest, stands_start, stands_more, stands_pure, stands_full}
-use Rattle.splitting.proofs.strip.Goals.{After-lowest-v, After-survey_open-s}
+use Rattle.splitting.proofs.strip.Goals.{After-lowest-v, After-survey_open-names}
 use Rattle.splitting.proofs.strip.Goals as goal
 
 -- the pure variables of a turn
-pure : (c : After-survey_open-s)
-    → bit_xor c.survey_open-s.result.positive c.survey_open-s.result.negative ≡ pure_of c.args.f c.loop-count.assignment
-pure c = ap (λ (t : Survey). bit_xor t.positive t.negative) c.survey_open-s.ensures
+pure : (c : After-survey_open-names)
+    → bit_xor c.survey_open-names.result.positive c.survey_open-names.result.negative ≡ pure_of c.args.f.now c.loop.s.assignment
+pure c = ap (λ (t : Survey). bit_xor t.positive t.negative) c.survey_open-names.ensures
 
 -- the lowest of them is below 64
 low : (c : After-lowest-v) → c.lowest-v.result < 64
 low c =
-    let s = (goal.at.After-lowest-v c).After-survey_open-s in
-    rw (c.lowest-v.ensures, pure s) (pure_lowest c.args.f (small_of _ c.requires) c.loop-count.assignment (λ z. c.if-pure-eq0.false (pure s ∙ z))).below
+    let p = pure (goal.at.After-lowest-v c).After-survey_open-names in
+    rw (c.lowest-v.ensures, p) (pure_lowest c.args.f.now (small_of _ c.requires) c.loop.s.assignment (λ z. c.if-pure-eq0.false (p ∙ z))).below
 
-pub loop-count-init : goal.loop-count-init
-loop-count-init c = stands_start c.args.f c.args.a
-
-pub survey_open-s-requires : goal.survey_open-s-requires
-survey_open-s-requires c = c.requires.few
+pub loop-init : goal.loop-init
+loop-init c = (refl, stands_start c.args.f.now c.args.a)
 
 pub returns-then-pure-eq0 : goal.returns-then-pure-eq0
 returns-then-pure-eq0 c =
-    stands_pure c.args.f c.args.a c.loop-count.assignment c.loop-count.count c.loop-count.order c.loop-count.invariant
-    (sym (pure (goal.at.returns-then-pure-eq0 c).After-survey_open-s) ∙ c.if-pure-eq0.true)
+    stands_pure c.args.f.now c.args.a c.loop.s c.loop.invariant.1 (sym (pure (goal.at.returns-then-pure-eq0 c).After-survey_open-names) ∙ c.if-pure-eq0.true)
 
-pub member-value-requires : goal.member-value-requires
-member-value-requires c = low c
+pub member-requires : goal.member-requires
+member-requires c = low (goal.at.member-requires c).After-lowest-v
 
-pub assign-assignment-requires : goal.assign-assignment-requires
-assign-assignment-requires c = low (goal.at.assign-assignment-requires c).After-lowest-v
+pub with-s-requires : goal.with-s-requires
+with-s-requires c = low (goal.at.with-s-requires c).After-lowest-v
 
-pub overflow_cast-order : goal.overflow_cast-order
-overflow_cast-order c = omega (arith, low (goal.at.overflow_cast-order c).After-lowest-v)
-
-pub loop-count-preserved : goal.loop-count-preserved
-loop-count-preserved c =
-    stands_more c.args.f c.args.a c.loop-count.assignment c.loop-count.count c.loop-count.order c.loop-count.invariant
-    c.survey_open-s.result c.lowest-v.result c.member-value.result c.assign-assignment.result c.requires.most c.loop-count-test.true
-    c.survey_open-s.ensures c.if-pure-eq0.false c.lowest-v.ensures c.member-value.ensures c.assign-assignment.ensures
+pub loop-preserved : goal.loop-preserved
+loop-preserved c = (
+  omega arith,
+  stands_more c.args.f.now c.args.a c.loop.s c.loop.invariant.1 c.survey_open-names.result c.lowest-v.result c.member.result c.with-s.result c.requires.most
+      (omega arith) c.survey_open-names.ensures c.if-pure-eq0.false c.lowest-v.ensures c.member.ensures c.with-s.ensures,
+)
 
 pub returns : goal.returns
-returns c =
-    stands_full c.args.f c.args.a c.loop-count.assignment c.loop-count.count c.loop-count.order c.loop-count.invariant c.loop-count-test.false
+returns c = stands_full c.args.f.now c.args.a c.loop.s c.loop.invariant.1 (omega arith)
