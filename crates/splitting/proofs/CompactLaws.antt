@@ -41,6 +41,7 @@ use Rattle.splitting.proofs.LastMemberLaws.{greatest_member}
 use Rattle.splitting.proofs.SearchLaws.{every_among}
 use Rattle.splitting.proofs.OrderLaws.{by_count_of}
 use Rattle.splitting.proofs.ChosenLaws.{chosen_passing, chosen_noted, chosen_other}
+use Rattle.splitting.proofs.OpenClauseLaws.{node_counted}
 use Rattle.splitting.proofs.MaskNodeLaws.{clause_same, meets-none, satisfied_more, survey_side, surveys-side, assign_masks, open_of, open_more, open_list, open_none, left_side, assigned_more}
 
 -- ---- one variable more
@@ -79,24 +80,24 @@ node_more g f b a v value e x y = step g b x ∙ ap (assign_masks v value) e ∙
   where
     step : (h : Formula) (c : Assignment) → Free c v → node h (set_to c v value) ≡ assign_masks v value (node h c)
     step h c z =
-        open_first h.clauses (set_to c v value) h.count
-        ∙ open_more c v value z (firsts h.clauses h.count)
-        ∙ ap (assign_masks v value) (sym (open_first h.clauses c h.count))
+        open_first h.clauses.items (set_to c v value) (length h.clauses.items)
+        ∙ open_more c v value z (firsts h.clauses.items (length h.clauses.items))
+        ∙ ap (assign_masks v value) (sym (open_first h.clauses.items c (length h.clauses.items)))
 
 -- the clauses of a formula, where nothing is assigned
-node_none : (f : Formula) → length f.clauses ≡ f.count → node f unassigned ≡ f.clauses
-node_none f e = ap (open_clauses f.clauses unassigned) (sym e) ∙ open_list unassigned f.clauses ∙ open_none f.clauses
+node_none : (f : Formula) → node f unassigned ≡ f.clauses.items
+node_none f = open_list unassigned f.clauses.items ∙ open_none f.clauses.items
 
 node_at : (f : Formula) (a : Assignment) → node (formula_at f a) unassigned ≡ node f a
-node_at f a = node_none (formula_at f a) refl
+node_at f a = node_none (formula_at f a)
 
 pub node_in : (s : Clauses) → node (formula_in s) unassigned ≡ clauses_of s
-node_in s = node_none (formula_in s) (length_tabulated (clause_in s.positives s.negatives) s.count)
+node_in s = node_none (formula_in s)
 
 -- the matching of the node, from the arrays of its clauses
 pub matching_in : (f : Formula) (a : Assignment) (s : Clauses) → formula_in s ≡ formula_at f a → matching_at (formula_in s) unassigned ≡ matching_at f a
 matching_in f a s e =
-    ap (λ (l : List Clause). packed (length l) (outcome (map clause_variables l))) (node_in s ∙ ap (λ (g : Formula). g.clauses) e)
+    ap (λ (l : List Clause). packed (length l) (outcome (map clause_variables l))) (node_in s ∙ ap (λ (g : Formula). g.clauses.items) e)
 
 -- ---- what a node names is not assigned
 
@@ -121,8 +122,8 @@ module _ (a : Assignment) (v : ℕ) (sign : Bool) where
 module _ (f : Formula) (a : Assignment) (v : ℕ) where
   side_free : (sign : Bool) → bit (survey_side (survey_of (node f a)) sign) v ≡ true → Free a v
   side_free sign e =
-      survey_free a v sign (record { positive = 0; negative = 0; any = false }) (firsts f.clauses f.count) (none sign)
-      (ap (λ (cs : List Clause). bit (survey_side (survey_of cs) sign) v) (sym (open_first f.clauses a f.count)) ∙ e)
+      survey_free a v sign (record { positive = 0; negative = 0; any = false }) (firsts f.clauses.items (length f.clauses.items)) (none sign)
+      (ap (λ (cs : List Clause). bit (survey_side (survey_of cs) sign) v) (sym (open_first f.clauses.items a (length f.clauses.items))) ∙ e)
     where
       none : (s : Bool) → bit (survey_side (record { positive = 0; negative = 0; any = false }) s) v ≡ true → Free a v
       none true k = bool_clash k (bit-none v)
@@ -229,6 +230,7 @@ pub strip_more : (f : Formula) → Small f → (a : Assignment) (s : Clauses) �
     → unnamed (clauses_of s) v s.count ≡ node f (set_to a v way)
 strip_more f small a s e z v l way w =
     dropped v way (clauses_of s) s.count (λ i m. every_get_or (λ c. bit (side c (not way)) v ≡ false) (clauses_of s) i no_clause (rw (length_tabulated (clause_in s.positives s.negatives) s.count) m) others)
+    ∙ node_counted s (set_to unassigned v way)
     ∙ node_more (formula_in s) f unassigned a v way (node_in s ∙ e) (free_none v) (rw l (pure_free f small a z))
   where
     is_pure : bit (pure_of f a) v ≡ true

@@ -216,11 +216,6 @@ open_list a (c ∷ cs) = open_cons a c cs (length cs) ∙ go (satisfied_under a 
     go true e = e
     go false e = ap (λ (l : List Clause). left_under a c ∷ l) e
 
-open_padded : (a : Assignment) (k : ℕ) (cs : List Clause) (n : ℕ) → n ≤ length cs → open_clauses (padded k no_clause cs) a n ≡ open_clauses cs a n
-unfolding open_clauses
-open_padded a k cs zero l = refl
-open_padded a k cs (suc n) l = rw (open_padded a k cs n (omega arith), get_or_padded k no_clause cs n no_clause l)
-
 pub meets-none : (p : ℕ) → meets p 0 ≡ false
 meets-none p =
     let e : bit_and p 0 ≡ 0 = mask_same (bit_and p 0) 0 (λ i. bit-and p 0 i ∙ rw (bit-none i) (and-false (bit p i))) in
@@ -238,8 +233,5 @@ open_none (c ∷ cs) =
 -- The node of a trail over masks has the masks of the clauses that remain there.
 pub node_masks : (n : ℕ) (cs : List (List Literal)) (t : List Literal) → distinct t ≡ true → node (formula_of n cs) (assignment_of t) ≡ map clause_of (remaining t cs)
 node_masks n cs t d =
-    let m : length (map clause_of cs) ≡ length cs = length-map cs clause_of in
-    open_padded (assignment_of t) max_clauses (map clause_of cs) (length cs) (omega arith)
-    ∙ ap (open_clauses (map clause_of cs) (assignment_of t)) (sym m)
-    ∙ open_list (assignment_of t) (map clause_of cs)
+    open_list (assignment_of t) (map clause_of cs)
     ∙ open_trail t (record { trues = 0; falses = 0 }) (map clause_of cs) cs d (λ i _. bit-none i) (open_none (map clause_of cs))

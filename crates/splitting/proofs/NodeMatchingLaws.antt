@@ -57,34 +57,34 @@ every_drop P (suc n) [] h = tt
 every_drop P (suc n) (x ∷ l) h = every_drop P n l h.1
 
 module _ (f : Formula) (fits : Small f) (a : Assignment) where
-  pub open_words : (n : ℕ) → n ≤ f.count → Every WordClause (open_clauses f.clauses a n)
+  pub open_words : (n : ℕ) → n ≤ length f.clauses.items → Every WordClause (open_clauses f.clauses.items a n)
   unfolding open_clauses
   open_words zero l = tt
-  open_words (suc n) l = every_append WordClause (open_clauses f.clauses a n) _ (open_words n (omega arith)) (go (satisfied_under a c))
+  open_words (suc n) l = every_append WordClause (open_clauses f.clauses.items a n) _ (open_words n (omega arith)) (go (satisfied_under a c))
     where
       c : Clause
-      c = get_or f.clauses n no_clause
+      c = get_or f.clauses.items n no_clause
 
       go : (b : Bool) → Every WordClause (cond b [] (left_under a c ∷ []))
       go true = tt
       go false =
           ((minus_lt 64 c.positive (assigned a) (fits.words n (omega arith) true), minus_lt 64 c.negative (assigned a) (fits.words n (omega arith) false)), tt)
 
-  open_length : (n : ℕ) → length (open_clauses f.clauses a n) ≤ n
+  open_length : (n : ℕ) → length (open_clauses f.clauses.items a n) ≤ n
   unfolding open_clauses
   open_length zero = omega arith
-  open_length (suc n) = simp length-append (go (satisfied_under a (get_or f.clauses n no_clause)) (open_length n))
+  open_length (suc n) = simp length-append (go (satisfied_under a (get_or f.clauses.items n no_clause)) (open_length n))
     where
-      go : (b : Bool) → length (open_clauses f.clauses a n) ≤ n
-          → length (open_clauses f.clauses a n) + length (cond b [] (left_under a (get_or f.clauses n no_clause) ∷ [])) ≤ suc n
+      go : (b : Bool) → length (open_clauses f.clauses.items a n) ≤ n
+          → length (open_clauses f.clauses.items a n) + length (cond b [] (left_under a (get_or f.clauses.items n no_clause) ∷ [])) ≤ suc n
       go true h = omega arith
       go false h = omega arith
 
   -- what is left at the node is as small
   pub small_at : Small (formula_at f a)
   small_at = record {
-    few = omega (arith, open_length f.count, fits.few);
-    words = λ i l sign. by_side (get_or (node f a) i no_clause) sign (every_get_or WordClause (node f a) i no_clause l (open_words f.count (omega arith)));
+    few = omega (arith, open_length (length f.clauses.items), fits.few);
+    words = λ i l sign. by_side (get_or (node f a) i no_clause) sign (every_get_or WordClause (node f a) i no_clause l (open_words (length f.clauses.items) (omega arith)));
   }
     where
       by_side : (c : Clause) (sign : Bool) → WordClause c → side c sign < 2 ^ 64
@@ -92,10 +92,10 @@ module _ (f : Formula) (fits : Small f) (a : Assignment) where
       by_side c false w = w.1
 
   pub node_words : Every Word (map clause_variables (node f a))
-  node_words = words_named (node f a) (open_words f.count (omega arith))
+  node_words = words_named (node f a) (open_words (length f.clauses.items) (omega arith))
 
   node_few : length (map clause_variables (node f a)) ≤ max_clauses
-  node_few = let e = length-map (node f a) clause_variables in omega (arith, open_length f.count, fits.few)
+  node_few = let e = length-map (node f a) clause_variables in omega (arith, open_length (length f.clauses.items), fits.few)
 
   -- over zeros, what the clauses name is what the matching asks
   pub node_clauses : (b : List ℕ) → b ≡ replicate max_clauses 0 → Clauses (over (map clause_variables (node f a)) b) (length (node f a))

@@ -19,9 +19,10 @@ use Rattle.formula.specs.declared.Formula.{Formula}
 use Rattle.formula.specs.InnerMasked.{no_clause}
 use Rattle.formula.specs.InnerFits.{clause_variables}
 use Rattle.formula.specs.declared.assignment.Assignment.{Assignment}
+use Rattle.splitting.specs.declared.clauses.Clauses.{Clauses}
 use Rattle.splitting.specs.declared.clauses.Survey.{Survey}
 use Rattle.formula.specs.InnerAssignment.{satisfied_under, left_under}
-use Rattle.splitting.specs.InnerChoose.{open_clauses, unnamed, clause_in, clauses_in, surveys, survey_from, survey_of, some_empty}
+use Rattle.splitting.specs.InnerChoose.{open_clauses, unnamed, node, clause_in, clauses_in, clauses_of, formula_in, surveys, survey_from, survey_of, some_empty}
 
 -- ---- clauses in arrays
 
@@ -44,10 +45,12 @@ module _ (p q : List ℕ) where
 
   -- they are a formula
   pub formula_held : (n : ℕ) (cs : List Clause) → clauses_in p q n ≡ cs
-      → ◌≡◌ {A = Formula} (record { variables = 64; count = n; clauses = clauses_in p q n }) (record { variables = 64; count = length cs; clauses = cs })
-  formula_held n cs e =
-      let m : n ≡ length cs = sym (length_tabulated (clause_in p q) n) ∙ ap length e in
-      λ i. record { variables = 64; count = m i; clauses = e i }
+      → ◌≡◌ {A = Formula} (record { variables = 64; clauses = record { items = clauses_in p q n } }) (record { variables = 64; clauses = record { items = cs } })
+  formula_held n cs e = λ i. record { variables = 64; clauses = record { items = e i } }
+
+-- the node of what clauses are left, by their number
+pub node_counted : (s : Clauses) (a : Assignment) → open_clauses (clauses_of s) a s.count ≡ node (formula_in s) a
+node_counted s a = ap (open_clauses (clauses_of s) a) (sym (length_tabulated (clause_in s.positives s.negatives) s.count))
 
 -- ---- one clause more
 

@@ -38,7 +38,7 @@ module _ (f : Formula) (fits : Small f) (a : Assignment) where
   pub pure_lowest : (pure_of f a ≡ 0 → ⊥) → Lowest (pure_of f a) (lowest (pure_of f a)) 64
   pure_lowest h =
       let s = survey_of (node f a) in
-      let w = survey_words (record { positive = 0; negative = 0; any = false }) (node f a) (omega arith) (omega arith) (open_words f fits a f.count (omega arith)) in
+      let w = survey_words (record { positive = 0; negative = 0; any = false }) (node f a) (omega arith) (omega arith) (open_words f fits a (length f.clauses.items) (omega arith)) in
       lowest_is 64 (pure_of f a) (xor_lt 64 s.positive s.negative w.0 w.1) (omega arith)
 
 -- the lowest pure variable has its value as well

@@ -1,5 +1,6 @@
 -- What the code of the choice computes over masks; proofs/MaskChoiceLaws.antt ties it to Choosing.
 use Rattle.std.specs.Prelude.{ℕ, zero, suc, ◌+◌, ◌*◌, ◌^◌, ◌<◌, ◌≤◌, Bool, true, false, not, cond, ◌||◌, ◌≡◌, List, [], ◌∷◌, ◌++◌, map, eqb, length, get_or}
+use Rattle.std.specs.List.{list_all}
 use Rattle.std.specs.Int.Bits.{bit_and, bit_or, bit_xor}
 use Rattle.limits.specs.Limits.{max_variables, max_clauses}
 use Rattle.lists.specs.Padded.{padded}
@@ -14,7 +15,6 @@ use Rattle.formula.specs.declared.Clause.{Clause}
 use Rattle.formula.specs.declared.Formula.{Formula}
 use Rattle.formula.specs.Format.{Literal}
 use Rattle.formula.specs.InnerAssignment.{assigned, unassigned, set_to, satisfied_under, left_under}
-use Rattle.formula.specs.InnerCheck.{all_first}
 use Rattle.formula.specs.InnerMasked.{no_clause}
 use Rattle.formula.specs.InnerFits.{side, clause_variables}
 use Rattle.splitting.specs.declared.Choice.{Choice}
@@ -36,11 +36,11 @@ open_clauses cs a (suc n) =
     open_clauses cs a n ++ cond (satisfied_under a (get_or cs n no_clause)) [] (left_under a (get_or cs n no_clause) ∷ [])
 
 abbrev pub node : Formula → Assignment → List Clause
-node f a = open_clauses f.clauses a f.count
+node f a = open_clauses f.clauses.items a (length f.clauses.items)
 
 -- no clause is left at the node
 abbrev pub all_satisfied : Formula → Assignment → Bool
-all_satisfied f a = all_first (satisfied_under a) f.clauses f.count
+all_satisfied f a = list_all (satisfied_under a) f.clauses.items
 
 -- those of the first n clauses that do not name v
 unfoldable pub unnamed : List Clause → ℕ → ℕ → List Clause
@@ -49,7 +49,7 @@ unnamed cs v (suc n) = unnamed cs v n ++ cond (bit (clause_variables (get_or cs 
 
 -- what is left at the node, as a formula over the 64 variables of a mask
 abbrev pub formula_at : Formula → Assignment → Formula
-formula_at f a = record { variables = 64; count = length (node f a); clauses = node f a }
+formula_at f a = record { variables = 64; clauses = record { items = node f a } }
 
 -- a clause, and the first k clauses, in an array for each side
 abbrev pub clause_in : List ℕ → List ℕ → ℕ → Clause
@@ -62,12 +62,12 @@ abbrev pub clauses_of : Clauses → List Clause
 clauses_of s = clauses_in s.positives s.negatives s.count
 
 abbrev pub formula_in : Clauses → Formula
-formula_in s = record { variables = 64; count = s.count; clauses = clauses_of s }
+formula_in s = record { variables = 64; clauses = record { items = clauses_of s } }
 
 -- at most 96 clauses, of 64-bit masks
 pub record Small (f : Formula) : Type 0 where
-  pub few : f.count ≤ max_clauses
-  pub words : (i : ℕ) → i < f.count → (sign : Bool) → side (get_or f.clauses i no_clause) sign < 2 ^ 64
+  pub few : length f.clauses.items ≤ max_clauses
+  pub words : (i : ℕ) → i < length f.clauses.items → (sign : Bool) → side (get_or f.clauses.items i no_clause) sign < 2 ^ 64
 
 -- the variables that clauses name as true and as false, and whether there is a clause
 abbrev pub surveys : Survey → Clause → Survey

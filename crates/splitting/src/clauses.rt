@@ -61,7 +61,6 @@ impl Clauses {
 
     // What is left of the formula's open clauses.
     pub fn left_at(f: &Formula, a: Assignment) -> Self
-        requires { f.now.count ≤ max_clauses }
         ensures { formula_in result ≡ formula_at f.now a }
     {
         let mut clauses = Clauses {
@@ -70,7 +69,7 @@ impl Clauses {
             count: 0,
         };
         let mut count = 0;
-        for c in &f.clauses[..f.count] {
+        for c in f.clauses.as_slice() {
             if !a.satisfies(*c) {
                 let l = left(a, *c);
                 clauses.positives[count] = l.positive;

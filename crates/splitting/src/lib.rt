@@ -53,15 +53,9 @@ impl Choice {
 
 // Every clause is satisfied, so that none is left at the node.
 pub fn all_satisfied(f: &Formula, a: Assignment) -> bool
-    requires { f.now.count ≤ max_clauses }
     ensures { result ≡ all_satisfied f.now a }
 {
-    for c in &f.clauses[..f.count] {
-        if !a.satisfies(*c) {
-            return false;
-        }
-    }
-    true
+    f.clauses.iter().all(|c| a.satisfies(*c))
 }
 
 // Matches what is left of the formula's open clauses, from nothing.
@@ -74,7 +68,6 @@ pub fn match_open(f: &Formula, a: Assignment) -> Matching
 
 // What the formula's open clauses name.
 fn survey_open(f: &Formula, a: Assignment) -> Survey
-    requires { f.now.count ≤ max_clauses }
     ensures { result ≡ survey_of (node f.now a) }
 {
     let mut s = Survey {
@@ -82,7 +75,7 @@ fn survey_open(f: &Formula, a: Assignment) -> Survey
         negative: 0,
         any: false,
     };
-    for c in &f.clauses[..f.count] {
+    for c in f.clauses.as_slice() {
         if !a.satisfies(*c) {
             let l = clauses::left(a, *c);
             s = Survey {

@@ -26,7 +26,7 @@ held_small o = rw o.left_at-clauses.ensures (node_small o)
 -- ---- its survey, and what stripping gives
 
 surveyed : (c : After-survey-names) → c.survey-names.result ≡ survey_of (node c.args.f.now c.args.a)
-surveyed c = c.survey-names.ensures ∙ ap (λ (g : Formula). survey_of g.clauses) c.left_at-clauses.ensures
+surveyed c = c.survey-names.ensures ∙ ap (λ (g : Formula). survey_of g.clauses.items) c.left_at-clauses.ensures
 
 reduced : (c : After-reduce-r)
     → c.reduce-r.result ≡ reduce_from c.args.f.now.variables (formula_at c.args.f.now c.args.a) unassigned 0 0
@@ -46,7 +46,7 @@ tried_first : (c : After-count_names-counts)
     ≡ busiest_first (node (formula_at c.args.f.now c.args.a) c.reduce-r.result.assignment)
 tried_first c =
     counted-first c.count_names-counts.result c.compact.new.self c.count_names-counts.ensures
-    ∙ ap (λ (g : Formula). busiest_first g.clauses) (left (goal.at.After-count_names-counts c).After-compact)
+    ∙ ap (λ (g : Formula). busiest_first g.clauses.items) (left (goal.at.After-count_names-counts c).After-compact)
 
 last_below : (c : After-reduce-r) → c.reduce-r.result.last < 64
 last_below c =

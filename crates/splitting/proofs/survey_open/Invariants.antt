@@ -4,4 +4,4 @@ use Rattle.splitting.specs.InnerChoose.{open_clauses, survey_of}
 use Rattle.splitting.proofs.survey_open.Given as goal
 
 abbrev pub invariant-loop-c : goal.invariant-loop-c
-invariant-loop-c l = l.s ≡ survey_of (open_clauses l.f.clauses l.a l.c-index)
+invariant-loop-c l = l.s ≡ survey_of (open_clauses l.f.clauses.items l.a l.c-index)

@@ -3,7 +3,7 @@ use native.Mathlib.Omega.{arith}
 use mathlib.Core.Path.{◌≡◌, refl, sym, ◌∙◌}
 use Rattle.lists.specs.Tabulated.{tabulated}
 use Rattle.splitting.specs.InnerChoose.{clauses_of, open_clauses}
-use Rattle.splitting.proofs.OpenClauseLaws.{clause_read, clause_kept, formula_held, open_gone, keep_more}
+use Rattle.splitting.proofs.OpenClauseLaws.{node_counted, clause_read, clause_kept, formula_held, open_gone, keep_more}
 use Rattle.splitting.proofs.clauses.Clauses.compact.Goals.{then-not-satisfies, else-not-satisfies}
 use Rattle.splitting.proofs.clauses.Clauses.compact.Goals as goal
 
@@ -37,4 +37,4 @@ loop-i-preserved c =
 pub returns : goal.returns
 returns c =
     let e : c.loop-i.i ≡ c.args.self.now.count = omega arith in
-    formula_held c.loop-i.self.positives c.loop-i.self.negatives c.loop-i.kept _ (rw e at c.loop-i.invariant.1)
+    formula_held c.loop-i.self.positives c.loop-i.self.negatives c.loop-i.kept _ (rw e at c.loop-i.invariant.1 ∙ node_counted c.args.self.now c.args.a)

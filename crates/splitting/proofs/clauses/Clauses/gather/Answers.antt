@@ -1,9 +1,13 @@
 -- `gather` writes what each clause of the node names.
 use native.Mathlib.Omega.{arith}
+use mathlib.Core.List.{List, map}
 use mathlib.Core.Path.{◌≡◌, refl, sym, ap, ◌∙◌}
+use lib.ListN.{length}
+use Rattle.lists.specs.Over.{over}
+use Rattle.formula.specs.declared.Clause.{Clause}
 use Rattle.formula.specs.InnerFits.{clause_variables}
 use Rattle.splitting.specs.InnerChoose.{clauses_of, open_clauses}
-use Rattle.splitting.proofs.OpenClauseLaws.{clause_read, open_gone, gather_more}
+use Rattle.splitting.proofs.OpenClauseLaws.{node_counted, clause_read, open_gone, gather_more}
 use Rattle.splitting.proofs.clauses.Clauses.gather.Goals.{then-not-satisfies, else-not-satisfies}
 use Rattle.splitting.proofs.clauses.Clauses.gather.Goals as goal
 
@@ -26,3 +30,12 @@ loop-i-preserved c =
           let e = open_gone cs a c.loop-i.i c.clause-c.result at (sym c.satisfies.ensures ∙ w.if-not-satisfies.false) in
           (omega arith, rw (w.written-is, e) c.loop-i.invariant.1, rw (w.sets-is, e) c.loop-i.invariant.2)
     ]
+
+pub returns-clause-number : goal.returns-clause-number
+returns-clause-number c =
+    let e : c.loop-i.i ≡ c.args.self.now.count = omega arith in rw e at c.loop-i.invariant.1 ∙ ap length (node_counted c.args.self.now c.args.a)
+
+pub returns-clause-variables : goal.returns-clause-variables
+returns-clause-variables c =
+    let e : c.loop-i.i ≡ c.args.self.now.count = omega arith in
+    rw e at c.loop-i.invariant.2 ∙ ap (λ (cs : List Clause). over (map clause_variables cs) c.args.sets.now) (node_counted c.args.self.now c.args.a)

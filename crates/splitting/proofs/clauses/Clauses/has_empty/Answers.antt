@@ -3,7 +3,7 @@ use native.Mathlib.Omega.{arith}
 use mathlib.Core.Path.{◌≡◌, refl, sym, ap, ◌∙◌}
 use Rattle.formula.specs.InnerFits.{clause_variables}
 use Rattle.splitting.specs.InnerChoose.{clauses_of, open_clauses, some_empty}
-use Rattle.splitting.proofs.OpenClauseLaws.{clause_read, open_gone, empty_found, empty_passed}
+use Rattle.splitting.proofs.OpenClauseLaws.{node_counted, clause_read, open_gone, empty_found, empty_passed}
 use Rattle.splitting.proofs.clauses.Clauses.has_empty.Goals.{else-not-satisfies-via-then-not-satisfies+else-variables-eq0, else-not-satisfies-via-else-not-satisfies}
 use Rattle.splitting.proofs.clauses.Clauses.has_empty.Goals as goal
 
@@ -17,6 +17,7 @@ returns-then-variables-eq0 c =
     sym (empty_found (clauses_of s) c.args.a c.loop-i.i c.clause-c.result (clause_read s.positives s.negatives s.count c.loop-i.i (omega arith) ∙ sym c.clause-c.ensures)
     (sym c.satisfies.ensures ∙ c.if-not-satisfies.true) s.count (omega arith)
     (ap clause_variables (sym c.left.ensures) ∙ sym c.variables.ensures ∙ c.if-variables-eq0.true))
+    ∙ ap some_empty (node_counted s c.args.a)
 
 pub loop-i-preserved : goal.loop-i-preserved
 loop-i-preserved c =
@@ -30,3 +31,7 @@ loop-i-preserved c =
       | else-not-satisfies-via-else-not-satisfies w ↦
           rw (open_gone (clauses_of s) a c.loop-i.i c.clause-c.result at (sym c.satisfies.ensures ∙ w.if-not-satisfies.false)) c.loop-i.invariant
     ]
+
+pub returns : goal.returns
+returns c =
+    let e : c.loop-i.i ≡ c.args.self.now.count = omega arith in sym (rw e at c.loop-i.invariant) ∙ ap some_empty (node_counted c.args.self.now c.args.a)

@@ -1,8 +1,9 @@
 -- `left_at` writes what is left of the open clauses.
 use native.Mathlib.Omega.{arith}
-use mathlib.Core.Path.{◌≡◌, refl, sym, ◌∙◌}
-use lib.ListN.{length-set}
-use Rattle.std.proofs.lemmas.List.{get_or-take}
+use mathlib.Core.List.{List}
+use mathlib.Core.Path.{◌≡◌, refl, sym, ap, ◌∙◌}
+use Rattle.formula.specs.declared.Clause.{Clause}
+use lib.ListN.{length, length-set, get_or}
 use Rattle.lists.specs.Tabulated.{tabulated}
 use Rattle.formula.specs.InnerMasked.{no_clause}
 use Rattle.splitting.specs.InnerChoose.{open_clauses}
@@ -16,10 +17,10 @@ loop-c-init c = (omega arith, refl, refl, refl)
 
 pub loop-c-preserved : goal.loop-c-preserved
 loop-c-preserved c =
-    let cs = c.args.f.now.clauses in
+    let cs = c.args.f.now.clauses.items in
     let a = c.args.a in
     let i = c.loop-c.c-index in
-    let at = sym (get_or-take c.args.f.now.count cs i no_clause (omega arith)) in
+    let at = ap (λ (l : List Clause). get_or l i no_clause) (sym c.as_slice-c-items.ensures.value) in
     elim c.if-not-satisfies.branch [
       | then-not-satisfies w ↦ (
         omega arith,
@@ -39,5 +40,5 @@ loop-c-preserved c =
 
 pub returns : goal.returns
 returns c =
-    let e : c.loop-c.c-index ≡ c.args.f.now.count = omega arith in
+    let e : c.loop-c.c-index ≡ length c.args.f.now.clauses.items = omega (arith, ap length c.as_slice-c-items.ensures.value) in
     formula_held c.loop-c.clauses.0 c.loop-c.clauses.1.0 c.loop-c.count _ (rw e at c.loop-c.invariant.3)

@@ -8,4 +8,4 @@ use Rattle.splitting.proofs.clauses.Clauses.left_at.Given as goal
 
 abbrev pub invariant-loop-c : goal.invariant-loop-c
 invariant-loop-c l = (l.count ≤ l.c-index) × (length l.clauses.0 ≡ max_clauses) × (length l.clauses.1.0 ≡ max_clauses)
-    × (clauses_in l.clauses.0 l.clauses.1.0 l.count ≡ open_clauses l.f.clauses l.a l.c-index)
+    × (clauses_in l.clauses.0 l.clauses.1.0 l.count ≡ open_clauses l.f.clauses.items l.a l.c-index)
