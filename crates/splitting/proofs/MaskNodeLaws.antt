@@ -1,17 +1,13 @@
 -- The clauses at a node, over masks and over lists of literals, are the same.
-use Prim.Native.Nat.{ℕ, zero, suc, ◌≤◌}
+use Prim.Native.Nat.{ℕ, zero, suc}
 use mathlib.Core.Path.{◌≡◌, refl, sym, ◌∙◌, ap}
 use mathlib.Core.Bool.{Bool, true, false, not, cond, ◌&&◌, ◌||◌, or_assoc, or-false, or-true, and-false, and-true}
 use mathlib.Core.List.{List, [], ◌∷◌, ◌++◌, map, append-nil, append_assoc}
 use mathlib.Core.Logic.{⊎_elim}
-use native.Mathlib.Omega.{arith}
 use lib.Bits.{bit_and}
 use lib.Dec.{eqb}
-use lib.ListN.{length, get_or, length-map}
+use lib.ListN.{length, get_or}
 use borrow.Author.Tests.{eqb-true, eqb-false, eq-eqb, ne_eqb}
-use Rattle.limits.specs.Limits.{max_clauses}
-use Rattle.lists.specs.Padded.{padded}
-use Rattle.lists.proofs.PaddedLaws.{get_or_padded}
 use Rattle.lists.proofs.TestLaws.{or_swap, eqb_comm, bool_cases, bool_clash}
 use Rattle.masks.specs.Mask.{bit, with}
 use Rattle.masks.specs.InnerMask.{without, meets}

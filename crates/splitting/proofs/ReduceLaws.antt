@@ -6,12 +6,9 @@ use mathlib.Core.Path.{◌≡◌, refl, sym, ap, ◌∙◌}
 use native.Mathlib.Decide.{ℕ_discrete}
 use native.Mathlib.Omega.{arith}
 use lib.Bits.{bit_xor, or_lt, xor_lt}
-use lib.ListN.{length, set, replicate, length-append}
+use lib.ListN.{length, length-append}
 use borrow.Author.Tests.{eq-eqb, ne_eqb}
-use Rattle.limits.specs.Limits.{max_variables}
 use Rattle.lists.specs.Every.{Every}
-use Rattle.lists.specs.Padded.{padded}
-use Rattle.lists.proofs.PaddedLaws.{padded_none, padded_set}
 use Rattle.masks.specs.Mask.{bit, with}
 use Rattle.masks.specs.InnerMask.{lowest}
 use Rattle.masks.proofs.MembersLaws.{Lowest, lowest_is}
@@ -95,60 +92,52 @@ module _ (f : Formula) (a : Assignment) where
 
 -- where stripping at the node of a stands: from s on it gives the whole result
 pub record Stands (f : Formula) (a : Assignment) (s : Stripping) : Type 0 where
-  pub written : List ℕ
   pub noted : ℕ
   pub last : ℕ
-  pub many : length written ≡ s.count
-  pub holds : s.order ≡ padded max_variables 0 written
-  pub lists : written ++ noted_from (f.variables - s.count) f s.assignment ≡ noted_from f.variables f a
-  pub reduces : reduce_from (f.variables - s.count) f s.assignment noted last ≡ reduced f a
+  pub lists : s.order.items ++ noted_from (f.variables - length s.order.items) f s.assignment ≡ noted_from f.variables f a
+  pub reduces : reduce_from (f.variables - length s.order.items) f s.assignment noted last ≡ reduced f a
 
 module _ (f : Formula) (a : Assignment) where
   -- before the first turn
-  pub stands_start : Stands f a (record { assignment = a; count = 0; order = replicate max_variables 0 })
-  stands_start =
-      let e : f.variables - 0 ≡ f.variables = omega arith in
-      record { written = []; noted = 0; last = 0; many = refl; holds = sym (padded_none max_variables 0); lists = rw e; reduces = rw e }
+  pub stands_start : Stands f a (record { assignment = a; order = record { items = [] } })
+  stands_start = let e : f.variables - 0 ≡ f.variables = omega arith in record { noted = 0; last = 0; lists = rw e; reduces = rw e }
 
   module _ (s : Stripping) (h : Stands f a s) where
     -- a turn, as the code has it
-    pub stands_more : (t : Survey) (v : ℕ) (b : Bool) (next : Assignment) → f.variables ≤ max_variables → s.count < f.variables → t ≡ survey_of (node f s.assignment)
+    pub stands_more : (t : Survey) (v : ℕ) (b : Bool) (next : Assignment) → length s.order.items < f.variables → t ≡ survey_of (node f s.assignment)
         → (bit_xor t.positive t.negative ≡ 0 → ⊥) → v ≡ lowest (bit_xor t.positive t.negative) → b ≡ bit t.positive v → next ≡ set_to s.assignment v b
-        → Stands f a (record { assignment = next; count = s.count + 1; order = set s.order s.count v })
-    stands_more t v b next most l es p ev eb en =
+        → Stands f a (record { assignment = next; order = record { items = s.order.items ++ (v ∷ []) } })
+    stands_more t v b next l es p ev eb en =
+        let k = length s.order.items in
         let z : pure_of f s.assignment ≡ 0 → ⊥ = λ e. p (ap (λ (t : Survey). bit_xor t.positive t.negative) es ∙ e) in
-        let q : f.variables - s.count ≡ suc (f.variables - (s.count + 1)) = omega arith in
-        let turn : noted_from (f.variables - s.count) f s.assignment ≡ v ∷ noted_from (f.variables - (s.count + 1)) f next =
-        rw (q, en, eb, ev, es) (noted_turn f s.assignment (f.variables - (s.count + 1)) z) in
+        let q : f.variables - k ≡ suc (f.variables - (k + 1)) = omega arith in
+        let turn : noted_from (f.variables - k) f s.assignment ≡ v ∷ noted_from (f.variables - (k + 1)) f next =
+        rw (q, en, eb, ev, es) (noted_turn f s.assignment (f.variables - (k + 1)) z) in
+        let m : length (s.order.items ++ (v ∷ [])) ≡ k + 1 = length-append s.order.items (v ∷ []) in
         record {
-          written = h.written ++ (v ∷ []);
           noted = with h.noted v;
           last = v;
-          many = length-append h.written (v ∷ []) ∙ omega (arith, h.many);
-          holds = rw (h.holds, ← h.many) (padded_set max_variables 0 h.written v (omega (arith, h.many)));
-          lists = append_assoc h.written (v ∷ []) _ ∙ ap (λ (l : List ℕ). h.written ++ l) (sym turn) ∙ h.lists;
-          reduces = sym (reduce_more f s.assignment h.noted h.last f.variables s.count t v b next (with h.noted v) l es p ev eb en refl) ∙ h.reduces;
+          lists = rw m (append_assoc s.order.items (v ∷ []) _ ∙ ap (λ (l : List ℕ). s.order.items ++ l) (sym turn) ∙ h.lists);
+          reduces = rw m (sym (reduce_more f s.assignment h.noted h.last f.variables k t v b next (with h.noted v) l es p ev eb en refl) ∙ h.reduces);
         }
 
     -- nothing more is noted: this is the result
-    ended : noted_from (f.variables - s.count) f s.assignment ≡ [] → (reduce_from (f.variables - s.count) f s.assignment h.noted h.last).assignment ≡ s.assignment
-        → s ≡ stripping_at f a
+    ended : noted_from (f.variables - length s.order.items) f s.assignment ≡ []
+        → (reduce_from (f.variables - length s.order.items) f s.assignment h.noted h.last).assignment ≡ s.assignment → s ≡ stripping_at f a
     ended e r =
-        let w : h.written ≡ noted_from f.variables f a = sym (append-nil h.written) ∙ ap (λ (l : List ℕ). h.written ++ l) (sym e) ∙ h.lists in
+        let w : s.order.items ≡ noted_from f.variables f a = sym (append-nil s.order.items) ∙ ap (λ (l : List ℕ). s.order.items ++ l) (sym e) ∙ h.lists in
         let x : s.assignment ≡ (reduced f a).assignment = sym r ∙ ap (λ (t : Reduced). t.assignment) h.reduces in
-        let y : s.count ≡ length (noted_from f.variables f a) = sym h.many ∙ ap length w in
-        let z : s.order ≡ padded max_variables 0 (noted_from f.variables f a) = h.holds ∙ ap (padded max_variables 0) w in
-        λ i. record { assignment = x i; count = y i; order = z i }
+        λ i. record { assignment = x i; order = record { items = w i } }
 
     -- no variable is pure
     pub stands_pure : pure_of f s.assignment ≡ 0 → s ≡ stripping_at f a
     stands_pure e =
-        ended (noted_done f s.assignment (f.variables - s.count) e) (ap (λ (t : Reduced). t.assignment) (reduce_done f s.assignment h.noted h.last (f.variables - s.count) e))
+        ended (noted_done f s.assignment (f.variables - length s.order.items) e) (ap (λ (t : Reduced). t.assignment) (reduce_done f s.assignment h.noted h.last (f.variables - length s.order.items) e))
 
     -- there were as many turns as variables
-    pub stands_full : f.variables ≤ s.count → s ≡ stripping_at f a
+    pub stands_full : f.variables ≤ length s.order.items → s ≡ stripping_at f a
     unfolding noted_from reduce_from
-    stands_full l = let e : f.variables - s.count ≡ 0 = omega arith in ended (rw e) (rw e)
+    stands_full l = let e : f.variables - length s.order.items ≡ 0 = omega arith in ended (rw e) (rw e)
 
 -- the noted variables are at most as many as the turns, and below 64
 pub noted_fits : (k : ℕ) (f : Formula) (a : Assignment) → Small f → (length (noted_from k f a) ≤ k) × Every (λ v. v < 64) (noted_from k f a)

@@ -2,8 +2,7 @@
 use Rattle.std.specs.Prelude.{ℕ, zero, suc, ◌+◌, ◌*◌, ◌^◌, ◌<◌, ◌≤◌, Bool, true, false, not, cond, ◌||◌, ◌≡◌, List, [], ◌∷◌, ◌++◌, map, eqb, length, get_or}
 use Rattle.std.specs.List.{list_all}
 use Rattle.std.specs.Int.Bits.{bit_and, bit_or, bit_xor}
-use Rattle.limits.specs.Limits.{max_variables, max_clauses}
-use Rattle.lists.specs.Padded.{padded}
+use Rattle.limits.specs.Limits.{max_clauses}
 use Rattle.lists.specs.Tabulated.{tabulated}
 use Rattle.masks.specs.Mask.{bit, with, minus, members}
 use Rattle.masks.specs.InnerMask.{meets, lowest}
@@ -14,7 +13,7 @@ use Rattle.formula.specs.declared.assignment.Assignment.{Assignment}
 use Rattle.formula.specs.declared.Clause.{Clause}
 use Rattle.formula.specs.declared.Formula.{Formula}
 use Rattle.formula.specs.Format.{Literal}
-use Rattle.formula.specs.InnerAssignment.{assigned, unassigned, set_to, satisfied_under, left_under}
+use Rattle.formula.specs.InnerAssignment.{assigned, set_to, satisfied_under, left_under}
 use Rattle.formula.specs.InnerMasked.{no_clause}
 use Rattle.formula.specs.InnerFits.{side, clause_variables}
 use Rattle.splitting.specs.declared.Choice.{Choice}
@@ -126,8 +125,7 @@ noted_from (suc k) f a =
 abbrev pub stripping_at : Formula → Assignment → Stripping
 stripping_at f a = record {
   assignment = (reduced f a).assignment;
-  count = length (noted_from f.variables f a);
-  order = padded max_variables 0 (noted_from f.variables f a);
+  order = record { items = noted_from f.variables f a };
 }
 
 -- ---- trials

@@ -65,7 +65,13 @@ impl Counts {
     pub fn counted(self) -> u64
         ensures { (v : ℕ) → bit result v ≡ ltb 0 (count_at self v) }
     {
-        self.ones | self.twos | self.fours | self.eights | self.sixteens | self.thirtytwos | self.sixtyfours
+        self.ones
+            | self.twos
+            | self.fours
+            | self.eights
+            | self.sixteens
+            | self.thirtytwos
+            | self.sixtyfours
     }
 
     // The member with the highest count, and the lowest of these: digit by digit from the top, those stay that have the digit, if some do.

@@ -15,6 +15,7 @@ ghost use Rattle.splitting.specs.InnerChoose.{node, survey_of, matching_at, Smal
 mod clauses;
 mod counts;
 
+use arrayvec::ArrayVec;
 use clauses::{Clauses, Survey};
 use formula::{Assignment, Formula};
 use limits::MAX_VARIABLES;
@@ -29,12 +30,11 @@ pub struct Choice {
     pub expansions: u64,
 }
 
-// Stripping at a node: the assignment with the noted variables, each the way that it is named, and these in order, zeros behind them.
-#[derive(Clone, Copy)]
+// Stripping at a node: the assignment with the noted variables, each the way that it is named, and these in order.
+#[derive(Drop)]
 pub struct Stripping {
     pub assignment: Assignment,
-    pub count: usize,
-    pub order: [u8; MAX_VARIABLES],
+    pub order: ArrayVec<u8, MAX_VARIABLES>,
 }
 
 impl Choice {
@@ -95,8 +95,7 @@ pub fn strip(f: &Formula, a: Assignment) -> Stripping
 {
     let mut s = Stripping {
         assignment: a,
-        count: 0,
-        order: [0; MAX_VARIABLES],
+        order: ArrayVec::new(),
     };
     for _ in 0..f.variables {
         let names = survey_open(f, s.assignment);
@@ -106,8 +105,7 @@ pub fn strip(f: &Formula, a: Assignment) -> Stripping
         }
         let v = masks::lowest(pure);
         s.assignment = s.assignment.with(v, masks::member(names.positive, v));
-        s.order[s.count] = v as u8;
-        s.count += 1;
+        s.order.push(v as u8);
     }
     s
 }

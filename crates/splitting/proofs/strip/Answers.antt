@@ -1,8 +1,9 @@
 -- `strip` is stripping at the node.
 use Prim.Native.Nat.{◌<◌}
-use mathlib.Core.Path.{◌≡◌, refl, sym, ap, ◌∙◌}
+use mathlib.Core.Path.{◌≡◌, sym, ap, ◌∙◌}
 use native.Mathlib.Omega.{arith}
 use lib.Bits.{bit_xor}
+use lib.ListN.{length}
 use Rattle.splitting.specs.declared.clauses.Survey.{Survey}
 use Rattle.splitting.specs.InnerChoose.{pure_of}
 use Rattle.splitting.proofs.NodeMatchingLaws.{small_of}
@@ -22,7 +23,7 @@ low c =
     rw (c.lowest-v.ensures, p) (pure_lowest c.args.f.now (small_of _ c.requires) c.loop.s.assignment (λ z. c.if-pure-eq0.false (p ∙ z))).below
 
 pub loop-init : goal.loop-init
-loop-init c = (refl, stands_start c.args.f.now c.args.a)
+loop-init c = (ap length c.new.ensures, let s = stands_start c.args.f.now c.args.a in rw (← c.new.ensures) at s)
 
 pub returns-then-pure-eq0 : goal.returns-then-pure-eq0
 returns-then-pure-eq0 c =
@@ -35,11 +36,11 @@ pub with-s-requires : goal.with-s-requires
 with-s-requires c = low (goal.at.with-s-requires c).After-lowest-v
 
 pub loop-preserved : goal.loop-preserved
-loop-preserved c = (
-  omega arith,
-  stands_more c.args.f.now c.args.a c.loop.s c.loop.invariant.1 c.survey_open-names.result c.lowest-v.result c.member.result c.with-s.result c.requires.most
-      (omega arith) c.survey_open-names.ensures c.if-pure-eq0.false c.lowest-v.ensures c.member.ensures c.with-s.ensures,
-)
+loop-preserved c =
+    let s =
+    stands_more c.args.f.now c.args.a c.loop.s c.loop.invariant.1 c.survey_open-names.result c.lowest-v.result c.member.result c.with-s.result
+    (omega arith) c.survey_open-names.ensures c.if-pure-eq0.false c.lowest-v.ensures c.member.ensures c.with-s.ensures in
+    (omega arith, rw (← c.push.ensures.items) at s)
 
 pub returns : goal.returns
 returns c = stands_full c.args.f.now c.args.a c.loop.s c.loop.invariant.1 (omega arith)
