@@ -125,13 +125,7 @@ pub fn strip(f: &Formula, a: Assignment) -> Stripping
 fn highest(mask: u64) -> usize
     ensures { result ≡ greatest mask }
 {
-    let mut rest = mask;
-    let mut v = 0;
-    while rest != 0 {
-        v = masks::lowest(rest);
-        rest = masks::without(rest, v);
-    }
-    v
+    63usize.saturating_sub(u64::leading_zeros(mask) as usize)
 }
 
 // The choice where some clause is open, whichever variables are to be assigned.
