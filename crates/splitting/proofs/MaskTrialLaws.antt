@@ -1,5 +1,5 @@
 -- Trials over masks, and the masks of what is left to try.
-use Prim.Native.Nat.{ℕ, suc, ◌+◌, ◌-◌, ◌^◌, ◌≤◌, ◌<◌}
+use Prim.Native.Nat.{ℕ, ◌+◌, ◌-◌, ◌^◌, ◌≤◌, ◌<◌}
 use mathlib.Core.Bool.{Bool, true, false, not, ◌&&◌}
 use mathlib.Core.List.{List, [], ◌∷◌}
 use mathlib.Core.Logic.{⊎_elim}
@@ -11,10 +11,9 @@ use lib.ListN.{length}
 use borrow.Author.Tests.{lt-ltb, ltb-true}
 use Rattle.lists.proofs.TabulatedLaws.{length_tabulated}
 use Rattle.lists.proofs.TestLaws.{and_left, bool_cases, bool_clash}
-use Rattle.masks.specs.Mask.{bit, members, size}
-use Rattle.masks.specs.InnerMask.{without, lowest}
+use Rattle.masks.specs.Mask.{bit, size}
+use Rattle.masks.specs.InnerMask.{without}
 use Rattle.masks.proofs.BitLaws.{minus_lt, bit-none, bit_below, bit-without, bit-without-same}
-use Rattle.masks.proofs.MembersLaws.{lowest_is, members-lowest}
 use Rattle.std.specs.Result.{is_ok}
 use Rattle.matching.specs.declared.Matching.{Matching}
 use Rattle.matching.specs.Search.{succeeds}
@@ -74,18 +73,6 @@ module _ (f : Formula) (a : Assignment) (v : ℕ) where
       go : (b : Bool) → succeeds (matched_node f (set_to a v false)) ≡ b → (tried f a v).cost ≤ 9312
       go true e = rw (tried, e) (omega (arith, node_cost f fits (set_to a v false), node_cost f fits (set_to a v true)))
       go false e = rw (tried, e) (omega (arith, node_cost f fits (set_to a v false)))
-
--- a mask without its lowest member
-pub record Lowered (m : ℕ) : Type 0 where
-  pub below : lowest m < 64
-  pub fits : without m (lowest m) < 2 ^ 64
-  pub less : suc (length (members (without m (lowest m)) 64)) ≡ length (members m 64)
-  pub listed : members m 64 ≡ lowest m ∷ members (without m (lowest m)) 64
-
-pub lowered : (m : ℕ) → m < 2 ^ 64 → (m ≡ 0 → ⊥) → Lowered m
-lowered m h z =
-    let e = members-lowest 64 64 m h h (omega arith) in
-    record { below = (lowest_is 64 m h (omega arith)).below; fits = minus_lt 64 m (2 ^ lowest m) h; less = sym (ap length e); listed = e }
 
 -- the first of a list is tried
 module _ (f : Formula) (a : Assignment) (l vs : List ℕ) (e v : ℕ) (t : Trial) (q : l ≡ v ∷ vs) (p : t ≡ tried f a v) where

@@ -1,5 +1,5 @@
 // What is left of a node's clauses: its survey, stripping, matching, trials.
-ghost use Rattle.std.specs.Prelude.{◌≡◌, true, ℕ, ◌<◌, ◌≤◌, map, length};
+ghost use Rattle.std.specs.Prelude.{◌≡◌, [], true, ℕ, ◌<◌, ◌≤◌, map, length};
 ghost use Rattle.limits.specs.Limits.{max_clauses};
 ghost use Rattle.lists.specs.Over.{over};
 ghost use Rattle.masks.specs.Mask.{bit};
@@ -59,26 +59,31 @@ impl Clauses {
     ghost use Rattle.splitting.specs.Choosing.{by_count};
     ghost use Rattle.splitting.specs.InnerChoose.{node, unnamed, survey_of, some_empty, matching_at, clause_in, clauses_in, clauses_of, formula_in, formula_at, Small, reduce_from, tried, passing, occurrences_in, count_at, max_count, listed_last};
 
-    // What is left of the formula's open clauses.
-    pub fn left_at(f: &Formula, a: Assignment) -> Self
-        ensures { formula_in result ≡ formula_at f.now a }
+    // No clauses.
+    pub fn none() -> Self
+        ensures { clauses_of result ≡ [] }
     {
-        let mut clauses = Clauses {
+        Clauses {
             positives: [0; MAX_CLAUSES],
             negatives: [0; MAX_CLAUSES],
             count: 0,
-        };
+        }
+    }
+
+    // Takes what is left of the formula's open clauses, in place of what it has.
+    pub fn take_open(&mut self, f: &Formula, a: Assignment)
+        ensures { formula_in self.new ≡ formula_at f.now a }
+    {
         let mut count = 0;
         for c in f.clauses.as_slice() {
             if !a.satisfies(*c) {
                 let l = left(a, *c);
-                clauses.positives[count] = l.positive;
-                clauses.negatives[count] = l.negative;
+                self.positives[count] = l.positive;
+                self.negatives[count] = l.negative;
                 count += 1;
             }
         }
-        clauses.count = count;
-        clauses
+        self.count = count;
     }
 
     // The i-th clause.

@@ -1,19 +1,19 @@
--- `left_at` writes what is left of the open clauses.
+-- `take_open` writes what is left of the open clauses.
 use native.Mathlib.Omega.{arith}
 use mathlib.Core.List.{List}
 use mathlib.Core.Path.{◌≡◌, refl, sym, ap, ◌∙◌}
+use lib.ListN.{length, get_or}
 use Rattle.formula.specs.declared.Clause.{Clause}
-use lib.ListN.{length, length-set, get_or}
 use Rattle.lists.specs.Tabulated.{tabulated}
 use Rattle.formula.specs.InnerMasked.{no_clause}
 use Rattle.splitting.specs.InnerChoose.{open_clauses}
 use Rattle.splitting.proofs.OpenClauseLaws.{formula_held, open_gone, keep_more}
-use Rattle.splitting.proofs.clauses.Clauses.left_at.Goals.{then-not-satisfies, else-not-satisfies}
-use Rattle.splitting.proofs.clauses.Clauses.left_at.Goals as goal
+use Rattle.splitting.proofs.clauses.Clauses.take_open.Goals.{then-not-satisfies, else-not-satisfies}
+use Rattle.splitting.proofs.clauses.Clauses.take_open.Goals as goal
 
 pub loop-c-init : goal.loop-c-init
 unfolding open_clauses tabulated
-loop-c-init c = (omega arith, refl, refl, refl)
+loop-c-init c = (omega arith, refl)
 
 pub loop-c-preserved : goal.loop-c-preserved
 loop-c-preserved c =
@@ -24,21 +24,17 @@ loop-c-preserved c =
     elim c.if-not-satisfies.branch [
       | then-not-satisfies w ↦ (
         omega arith,
-        rw (w.clauses-is, length-set) c.loop-c.invariant.1,
-        rw (w.clauses-is, length-set) c.loop-c.invariant.2,
-        rw (w.clauses-is, w.count-is, w.left-l.ensures)
-            (keep_more cs a i _ at c.loop-c.clauses.0 c.loop-c.clauses.1.0 c.loop-c.count (sym c.satisfies.ensures ∙ w.if-not-satisfies.true)
-            (omega arith) (omega arith) c.loop-c.invariant.3),
+        rw (w.self-is, w.count-is, w.left-l.ensures)
+            (keep_more cs a i _ at c.loop-c.self.positives c.loop-c.self.negatives c.loop-c.count (sym c.satisfies.ensures ∙ w.if-not-satisfies.true)
+            (omega arith) (omega arith) c.loop-c.invariant.1),
       )
       | else-not-satisfies w ↦ (
         omega arith,
-        rw w.clauses-is c.loop-c.invariant.1,
-        rw w.clauses-is c.loop-c.invariant.2,
-        rw (w.clauses-is, w.count-is, open_gone cs a i _ at (sym c.satisfies.ensures ∙ w.if-not-satisfies.false)) c.loop-c.invariant.3,
+        rw (w.self-is, w.count-is, open_gone cs a i _ at (sym c.satisfies.ensures ∙ w.if-not-satisfies.false)) c.loop-c.invariant.1,
       )
     ]
 
 pub returns : goal.returns
 returns c =
     let e : c.loop-c.c-index ≡ length c.args.f.now.clauses.items = omega (arith, ap length c.as_slice-c-items.ensures.value) in
-    formula_held c.loop-c.clauses.0 c.loop-c.clauses.1.0 c.loop-c.count _ (rw e at c.loop-c.invariant.3)
+    formula_held c.loop-c.self.positives c.loop-c.self.negatives c.loop-c.count _ (rw e at c.loop-c.invariant.1)
