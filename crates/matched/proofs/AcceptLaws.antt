@@ -46,6 +46,7 @@ use Rattle.splitting.specs.declared.Stripping.{Stripping}
 use Rattle.splitting.specs.Nodes.{remaining, satisfied_by}
 use Rattle.splitting.specs.Stripping.{stripped}
 use Rattle.splitting.specs.InnerChoose.{node, matching_at, noted_from, reduced, stripping_at, assign_all, assignment_of}
+use Rattle.splitting.proofs.MaskClauseLaws.{sets_variables}
 use Rattle.splitting.proofs.MaskChoiceLaws.{StripsTo, strips_to}
 use Rattle.splitting.proofs.MaskNodeLaws.{node_masks}
 use Rattle.splitting.proofs.NodeMatchingLaws.{small_of, Word, node_words}
@@ -203,13 +204,6 @@ module _ {n : ℕ} {cs : List (List Literal)} {f : Formula} {u : List Literal} {
   abbrev rs : List (List Literal)
   rs = remaining u cs
 
-  sets_are : map clause_variables (map clause_of rs) ≡ map variables rs
-  sets_are = all rs
-    where
-      all : (l : List (List Literal)) → map clause_variables (map clause_of l) ≡ map variables l
-      all [] = refl
-      all (c ∷ l) = ap₂ (λ (x : ℕ) (y : List ℕ). x ∷ y) (sym (variables-named c)) (all l)
-
   node_is : node f b ≡ map clause_of rs
   node_is = ap₂ node M.masks M.assigned ∙ node_masks n cs u M.once
 
@@ -218,7 +212,7 @@ module _ {n : ℕ} {cs : List (List Literal)} {f : Formula} {u : List Literal} {
   of_clauses =
       M.matches
       ∙ ap (λ (l : List Clause). packed (length l) (outcome (map clause_variables l))) node_is
-      ∙ ap₂ (λ (k : ℕ) (l : List ℕ). packed k (outcome l)) (length-map rs clause_of) sets_are
+      ∙ ap₂ (λ (k : ℕ) (l : List ℕ). packed k (outcome l)) (length-map rs clause_of) (sets_variables rs)
 
   -- all clauses are matched: their variables are found
   matched_found : (l : List ℕ) → m.found ≡ Ok l → (vs : List ℕ) × (e : ℕ) × (outcome (map variables rs) ≡ success vs e) × (length vs ≡ length rs) × (l ≡ padded max_clauses 0 vs)

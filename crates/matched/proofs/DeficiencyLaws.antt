@@ -6,14 +6,13 @@ use mathlib.Core.Path.{◌≡◌, refl, sym, ap, ◌∙◌, subst}
 use native.Mathlib.Decide.{dec_lt}
 use native.Mathlib.Numerals.{add-one}
 use native.Mathlib.Omega.{arith}
-use lib.ListN.{length, get_or, set, take, length-map}
-use lib.Seq.{length-take-le, take-suc}
+use lib.LanesLaws.{map-replicate}
+use lib.ListN.{length, get_or, take, length-map}
 use Rattle.limits.specs.Limits.{max_clauses}
 use Rattle.lists.specs.Padded.{padded}
 use Rattle.lists.proofs.PaddedLaws.{length_padded, get_or_padded, get_or_padded_past, padded_set, take_padded}
 use Rattle.lists.proofs.SublistLaws.{sub_length, sub_map}
 use Rattle.masks.specs.Mask.{size}
-use Rattle.formula.specs.declared.Clause.{Clause}
 use Rattle.formula.specs.declared.Formula.{Formula}
 use Rattle.formula.specs.declared.Refusal.{Refusal}
 use Rattle.formula.specs.InnerDecode.{decode}
@@ -21,7 +20,7 @@ use Rattle.formula.specs.Decoding.{Decoding, readable, refused}
 use Rattle.formula.specs.Format.{Literal, Sized, Encodes}
 use Rattle.formula.specs.Masked.{variables}
 use Rattle.formula.specs.InnerFits.{clause_variables}
-use Rattle.formula.specs.InnerMasked.{no_clause}
+use Rattle.formula.specs.InnerMasked.{no_clause, clause_of}
 use Rattle.formula.specs.Refusals.{table_row}
 use Rattle.formula.specs.Table.{Refuses}
 use Rattle.formula.proofs.Demands.{accepted_only, accepted_all, accepted_fits, refused_only, numbers}
@@ -33,6 +32,7 @@ use Rattle.matching.specs.Deficiency.{most, deficiency}
 use Rattle.matching.proofs.SelectedLaws.{selected_map, selected_sub, sub_selected}
 use Rattle.matching.proofs.Theorems.{most_attained, most_bound, excess_attained, excess_bound, one_more, deficiency-none}
 use Rattle.splitting.specs.Nodes.{remaining}
+use Rattle.splitting.proofs.MaskClauseLaws.{sets_variables}
 use Rattle.matched.specs.Deficiency.{MeasuredValues, measured, unmeasured, deficiency_of}
 use Rattle.matched.specs.Judge.{judge}
 use Rattle.matched.specs.Pairing.{Pairs, Pairable}
@@ -41,6 +41,10 @@ use Rattle.matched.proofs.JudgeLaws.{judged_unmatched, unmatched_long, walkable_
 use Rattle.matched.proofs.PairingLaws.{array_masks, masks_words, matches_pairs, pairs_matches}
 
 -- ---- what is counted
+
+map_padded : {A B : Type 0} (f : A → B) (n : ℕ) (d : A) (l : List A) → map f (padded n d l) ≡ padded n (f d) (map f l)
+unfolding padded
+map_padded f n d l = rw (map-append, map-replicate f (n - length l) d, length-map)
 
 padded_words : (n : ℕ) (l : List ℕ) → length l ≤ n → Words l → Words (padded n 0 l)
 padded_words n l few W i h = by (dec_lt i (length l))
@@ -68,7 +72,7 @@ module _ (s : List ℕ) where
     masks = map variables a.clauses
 
     array_is : sets ≡ padded max_clauses 0 masks
-    array_is = are ∙ rw a.formula (map_padded clause_variables max_clauses no_clause (map clause_of a.clauses) ∙ ?)
+    array_is = are ∙ rw a.formula (map_padded clause_variables max_clauses no_clause (map clause_of a.clauses) ∙ ap (padded max_clauses 0) (sets_variables a.clauses))
 
     count_is : f.count ≡ length masks
     count_is = ap (λ (g : Formula). g.count) a.formula ∙ sym (length-map a.clauses variables)

@@ -1,6 +1,6 @@
 -- What is weighed, by cases, that it is what the loops of `weigh_marks` count and gather, and what it has of judge.
 use Prim.Native.Nat.{ℕ, ◌+◌, ◌-◌, ◌≤◌, ◌<◌}
-use mathlib.Core.Bool.{true, false, cond}
+use mathlib.Core.Bool.{Bool, true, false, cond, not}
 use mathlib.Core.List.{List, [], ◌∷◌, ◌++◌, map, append-nil, map-append}
 use mathlib.Core.Path.{◌≡◌, refl, sym, ap, ◌∙◌}
 use native.Mathlib.Decide.{dec_lt}
@@ -54,7 +54,11 @@ module _ (m mark : ℕ) (marks : List ℕ) (c : Clause) (cs : List Clause) where
   -- the next one is marked
   pub gathers_marked : (mark ≡ 0 → ⊥) → gathers (bit_or m (clause_variables c)) marks cs ≡ gathers m (mark ∷ marks) (c ∷ cs)
   unfolding union selected
-  gathers_marked ne = ?
+  gathers_marked ne =
+      let x = clause_variables c in
+      let r = union (selected marks (map clause_variables cs)) in
+      rw (ne_eqb mark 0 ne)
+      (mask_same (bit_or (bit_or m x) r) (bit_or m (bit_or x r)) (λ i. simp bit-or (or_assoc (bit m i) (bit x i) (bit r i))))
 
   -- it is not
   pub gathers_unmarked : mark ≡ 0 → gathers m marks cs ≡ gathers m (mark ∷ marks) (c ∷ cs)
@@ -63,10 +67,18 @@ module _ (m mark : ℕ) (marks : List ℕ) (c : Clause) (cs : List Clause) where
 
 -- ---- the marks that are counted
 
--- a list's first n marks mark as many of themselves
-marked_count : (marks : List ℕ) (n : ℕ) → n ≤ length marks → count_by (λ x. not (eqb x 0)) (take n marks) ≡ length (selected marks (take n marks))
+-- as many are not 0 as clauses are marked
+marked_count : {A : Type 0} (marks : List ℕ) (l : List A) → length l ≤ length marks → count_by (λ x. not (eqb x 0)) (take (length l) marks) ≡ length (selected marks l)
 unfolding selected
-marked_count marks n h = ?
+marked_count [] [] h = refl
+marked_count [] (x ∷ l) h = absurd (omega arith)
+marked_count (m ∷ marks) [] h = refl
+marked_count (m ∷ marks) (x ∷ l) h = by (eqb m 0) (marked_count marks l (omega arith))
+  where
+    by : (b : Bool) → count_by (λ x. not (eqb x 0)) (take (length l) marks) ≡ length (selected marks l)
+        → cond (not b) 1 0 + count_by (λ x. not (eqb x 0)) (take (length l) marks) ≡ length (cond b (selected marks l) (x ∷ selected marks l))
+    by true e = e
+    by false e = omega (arith, e)
 
 -- ---- what is weighed, by the cases of its definition
 
@@ -105,9 +117,7 @@ module _ (s : List ℕ) (us : List Assumption) (b : List ℕ) (l : max_clauses �
     counted : count_by (λ x. not (eqb x 0)) (take f.count b) ≡ length (marked b cs)
     counted =
         let e : f.count ≡ length cs = ap (λ (g : Formula). g.count) a.formula in
-        let k : f.count ≤ length b = omega (arith, a.fits.few) in
-        marked_count b f.count k
-        ∙ selected_size b (take f.count b) cs (length-take-le f.count b k ∙ e)
+        rw e (marked_count b cs (omega (arith, e, a.fits.few)))
 
     -- the masks of the marked clauses
     gathered : selected b (map clause_variables (take f.count f.clauses)) ≡ map variables (marked b cs)
