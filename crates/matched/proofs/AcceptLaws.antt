@@ -60,7 +60,8 @@ use Rattle.matched.specs.Acceptance.{Acceptance, accepted, declined, Dropped, by
 use Rattle.matched.specs.InnerAccept.{raised, row_held, refused_row, held_row, held_acceptance, Takes}
 use Rattle.matched.specs.InnerSpread.{bytes_at, NotesFit, first_in, told_byte, told_bytes}
 use Rattle.matched.specs.Pairing.{noted_of, left_of}
-use Rattle.matched.proofs.AcceptanceLaws.{FormulaComes, paired, strips, unpaired, accepted_is, read_acceptance, formula_case, bad_declined, unreadable_declined}
+use Rattle.matched.proofs.AcceptanceLaws as comes
+use Rattle.matched.proofs.AcceptanceLaws.{FormulaComes, accepted_is, read_acceptance, formula_case, bad_declined, unreadable_declined}
 use Rattle.matched.proofs.PairingLaws.{masks_words}
 use Rattle.matched.proofs.DroppedLaws.{drops, first_dropped, same_asks, whole-zeros, trail_drops, stripped_zeros}
 use Rattle.matched.proofs.SizedLaws.{remaining_sized}
@@ -384,16 +385,16 @@ module _ (s : List ℕ) (us : List Assumption) where
     accepted_held row w = rw (read_acceptance s us n t cs reads assumes) (by (formula_case s us n t cs reads assumes) w)
       where
         by : {a : Acceptance} → FormulaComes n t cs a → Ok row ≡ held_row a → Ok (record { formula = formula_of n cs; assignment = assignment_of t; row = row }) ≡ held_acceptance a
-        by (paired vs p) q = cc
-        by (strips vs none p) q = cc
-        by (unpaired ms v none) q = absurd cc
+        by (comes.paired vs p) q = cc
+        by (comes.strips vs none p) q = cc
+        by (comes.unpaired ms v none) q = absurd cc
 
     pub declined_held : (d : Declined) → Err d ≡ held_row (formula_acceptance n t cs) → Err d ≡ held_acceptance (acceptance s us)
     declined_held d w = rw (read_acceptance s us n t cs reads assumes) (by (formula_acceptance n t cs) w)
       where
         by : (a : Acceptance) → Err d ≡ held_row a → Err d ≡ held_acceptance a
         by (accepted m u ds r) q = absurd cc
-        by (declined r x) q = q
+        by (declined r x) q = cc
 
   -- one with a bad assumption has no bytes
   pub bad_held : (n : ℕ) (cs : List (List Literal)) (i : ℕ) → decode s ≡ readable n cs → assumed n us ≡ bad i

@@ -8,9 +8,11 @@ use native.Mathlib.Numerals.{add-one}
 use native.Mathlib.Omega.{arith}
 use lib.LanesLaws.{map-replicate}
 use lib.ListN.{length, get_or, take, length-map}
+use lib.Seq.{ext_get_or}
 use Rattle.limits.specs.Limits.{max_clauses}
 use Rattle.lists.specs.Padded.{padded}
-use Rattle.lists.proofs.PaddedLaws.{length_padded, get_or_padded, get_or_padded_past, padded_set, take_padded}
+use Rattle.lists.proofs.MapLaws.{get_or-map_in}
+use Rattle.lists.proofs.PaddedLaws.{length_padded, get_or_padded, get_or_padded_past, take_padded}
 use Rattle.lists.proofs.SublistLaws.{sub_length, sub_map}
 use Rattle.masks.specs.Mask.{size}
 use Rattle.formula.specs.declared.Formula.{Formula}
@@ -66,13 +68,24 @@ module _ (s : List ℕ) where
   unfolding deficiency
   clauses_less_most n cs e = readable_deficiency n cs e ∙ rw (length-map cs variables)
 
-  -- over the formula f that was read, and the array of its masks
-  module _ (f : Formula) (a : Accepts s f) (sets : List ℕ) (are : sets ≡ map clause_variables f.clauses) where
+  -- over the formula f that was read, and the array of its clauses' masks
+  module _ (f : Formula) (a : Accepts s f) (sets : List ℕ) (long : length sets ≡ max_clauses)
+      (at : (i : ℕ) → i < max_clauses → get_or sets i 0 ≡ clause_variables (get_or f.clauses i no_clause)) where
     abbrev masks : List ℕ
     masks = map variables a.clauses
 
     array_is : sets ≡ padded max_clauses 0 masks
-    array_is = are ∙ rw a.formula (map_padded clause_variables max_clauses no_clause (map clause_of a.clauses) ∙ ap (padded max_clauses 0) (sets_variables a.clauses))
+    array_is =
+        let cs = map clause_of a.clauses in
+        let l = padded max_clauses no_clause cs in
+        let few : length cs ≤ max_clauses = omega (arith, length-map a.clauses clause_of, a.sized.few) in
+        let places : length l ≡ max_clauses = length_padded max_clauses no_clause cs few in
+        ext_get_or 0 sets (map clause_variables l) (long ∙ sym (length-map l clause_variables ∙ places))
+        (λ i h.
+        let k : i < max_clauses = rw long at h in
+        at i k ∙ rw a.formula (sym (get_or-map_in clause_variables l i no_clause 0 (rw places k))))
+        ∙ map_padded clause_variables max_clauses no_clause cs
+        ∙ ap (padded max_clauses 0) (sets_variables a.clauses)
 
     count_is : f.count ≡ length masks
     count_is = ap (λ (g : Formula). g.count) a.formula ∙ sym (length-map a.clauses variables)

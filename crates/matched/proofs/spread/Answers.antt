@@ -23,13 +23,13 @@ pub loop-i-preserved : goal.loop-i-preserved
 loop-i-preserved c =
     let b = c.args in
     let inside : c.loop-i.i < max_clauses = omega (arith, c.requires.0) in
-    let open : c.satisfies.result ≡ satisfied_under b.a (get_or b.f.now.clauses c.loop-i.i no_clause) =
+    let gone : c.satisfies.result ≡ satisfied_under b.a (get_or b.f.now.clauses c.loop-i.i no_clause) =
     c.satisfies.ensures ∙ rw (get_or-take b.f.now.count b.f.now.clauses c.loop-i.i no_clause (search rules)) in
     elim c.if-not-satisfies.branch [
       | then-not-satisfies w ↦
-          let g = spread_open b.f.now.clauses b.a b.answers b.k c.loop-i.i c.loop-i.next c.loop-i.table c.loop-i.invariant.1 c.loop-i.invariant.2 inside (sym open ∙ w.if-not-satisfies.true) in
+          let g = spread_open b.f.now.clauses b.a b.answers b.k c.loop-i.i c.loop-i.next c.loop-i.table c.loop-i.invariant.1 c.loop-i.invariant.2 inside (sym gone ∙ w.if-not-satisfies.true) in
           (omega arith, w.next-is ∙ g.0, w.table-is ∙ g.1)
       | else-not-satisfies w ↦
-          let g = spread_gone b.f.now.clauses b.a b.answers b.k c.loop-i.i c.loop-i.next c.loop-i.table c.loop-i.invariant.1 c.loop-i.invariant.2 inside (sym open ∙ w.if-not-satisfies.false) in
+          let g = spread_gone b.f.now.clauses b.a b.answers b.k c.loop-i.i c.loop-i.next c.loop-i.table c.loop-i.invariant.1 c.loop-i.invariant.2 inside (sym gone ∙ w.if-not-satisfies.false) in
           (omega arith, w.next-is ∙ g.0, w.table-is ∙ g.1)
     ]
