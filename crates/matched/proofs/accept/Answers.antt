@@ -20,16 +20,15 @@ read : (c : In_ok-formula) → Accepts c.args.input.now c.in_ok-formula.formula
 read c = decoded_accepted _ _ (sym c.decode.ensures ∙ c.in_ok-formula.was)
 
 -- the literals that are assumed
-assumes : (c : After-branch-row) (us : List Assumption) → MasksOf c.args.input.now us c.args.u
-    → (t : List Literal) × (assumed (read c.In_ok-formula).variables us ≡ literals t) × (c.in_ok-assignment.assignment ≡ assignment_of t)
-assumes c us g = let w = read c.In_ok-formula in given_literals _ us _ g w.variables w.clauses w.reads _ c.in_ok-assignment.was
+assumes : (c : After-branch-row) (w : Accepts c.args.input.now c.in_ok-formula.formula) (us : List Assumption) → MasksOf c.args.input.now us c.args.u
+    → (t : List Literal) × (assumed w.variables us ≡ literals t) × (c.in_ok-assignment.assignment ≡ assignment_of t)
+assumes c w us g = given_literals _ us _ g w.variables w.clauses w.reads _ c.in_ok-assignment.was
 
 -- what comes of the formula
-comes : (c : After-branch-row) (us : List Assumption) (g : MasksOf c.args.input.now us c.args.u)
-    → c.match_row.result ≡ held_row (formula_acceptance (read c.In_ok-formula).variables (assumes c us g).0 (read c.In_ok-formula).clauses)
-comes c us g =
-    let w = read c.In_ok-formula in
-    let l = assumes c us g in
+comes : (c : After-branch-row) (w : Accepts c.args.input.now c.in_ok-formula.formula) (us : List Assumption) (g : MasksOf c.args.input.now us c.args.u)
+    → c.match_row.result ≡ held_row (formula_acceptance w.variables (assumes c w us g).0 w.clauses)
+comes c w us g =
+    let l = assumes c w us g in
     c.match_row.ensures w.variables l.0 w.clauses w.sized (literals_over _ us l.0 l.1) w.formula l.2
 
 pub returns-in_err-formula : goal.returns-in_err-formula
@@ -51,13 +50,13 @@ pub returns-in_err-row : goal.returns-in_err-row
 returns-in_err-row c us g =
     let p = err_from_is_err_and c.from_residual-in_err-row.result c.from_residual-in_err-row.ensures.1 in
     let e = (goal.at.returns-in_err-row c).After-branch-row in
-    let w = read e.In_ok-formula in
-    let l = assumes e us g in
-    rw (p.1, p.2) (declined_held _ us w.variables l.0 w.clauses w.reads l.1 _ (sym c.in_err-row.was ∙ comes e us g))
+    let w = read (goal.at.returns-in_err-row c).In_ok-formula in
+    let l = assumes e w us g in
+    rw (p.1, p.2) (declined_held _ us w.variables l.0 w.clauses w.reads l.1 _ (sym c.in_err-row.was ∙ comes e w us g))
 
 pub returns : goal.returns
 returns c us g =
     let e = (goal.at.returns c).After-branch-row in
-    let w = read e.In_ok-formula in
-    let l = assumes e us g in
-    rw (w.formula, l.2) (accepted_held _ us w.variables l.0 w.clauses w.reads l.1 _ (sym c.in_ok-row.was ∙ comes e us g))
+    let w = read (goal.at.returns c).In_ok-formula in
+    let l = assumes e w us g in
+    rw (w.formula, l.2) (accepted_held _ us w.variables l.0 w.clauses w.reads l.1 _ (sym c.in_ok-row.was ∙ comes e w us g))

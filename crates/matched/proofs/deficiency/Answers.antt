@@ -28,16 +28,16 @@ returns-in_err-f c =
 
 pub returns : goal.returns
 returns c =
-    let e = (goal.at.returns c).After-map-sets in
-    sym (counted_deficiency _ _ (read e.In_ok-f) _ c.map-sets.ensures.items.long (masks e) _ c.match_most.ensures)
+    let e = goal.at.returns c in
+    sym (counted_deficiency _ _ (read e.In_ok-f) _ c.map-sets.ensures.items.long (masks e.After-map-sets) _ c.match_most.ensures)
 
 -- ---- what is asked on the way
 pub match_most-requires : goal.match_most-requires
 match_most-requires c =
-    let e = (goal.at.match_most-requires c).After-map-sets in
-    masks_clauses _ _ (read e.In_ok-f) _ c.map-sets.ensures.items.long (masks e)
+    let e = goal.at.match_most-requires c in
+    masks_clauses _ _ (read e.In_ok-f) _ c.map-sets.ensures.items.long (masks e.After-map-sets)
 
 pub overflow_sub-result : goal.overflow_sub-result
 overflow_sub-result c =
-    let e = (goal.at.overflow_sub-result c).After-map-sets in
-    counted_few _ _ (read e.In_ok-f) _ c.map-sets.ensures.items.long (masks e) _ c.match_most.ensures
+    let e = goal.at.overflow_sub-result c in
+    counted_few _ _ (read e.In_ok-f) _ c.map-sets.ensures.items.long (masks e.After-map-sets) _ c.match_most.ensures
