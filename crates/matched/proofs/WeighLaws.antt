@@ -1,20 +1,26 @@
 -- What is weighed, by cases, that it is what the loops of `weigh_marks` count and gather, and what it has of judge.
-use Prim.Native.Nat.{ℕ, ◌+◌, ◌-◌, ◌≤◌, ◌<◌}
-use mathlib.Core.Bool.{true, false, cond}
+use Prim.Native.Nat.{ℕ, suc, ◌+◌, ◌-◌, ◌≤◌, ◌<◌}
+use mathlib.Core.Bool.{Bool, true, false, cond, not, or_assoc}
 use mathlib.Core.List.{List, [], ◌∷◌, ◌++◌, map, append-nil, map-append}
+use mathlib.Core.Logic.{◌⊎◌, ⊎_elim}
 use mathlib.Core.Path.{◌≡◌, refl, sym, ap, ◌∙◌}
 use native.Mathlib.Decide.{dec_lt}
 use native.Mathlib.Numerals.{add-one}
 use native.Mathlib.Omega.{arith}
-use lib.Bits.{bit_or}
+use lib.Bits.{bit_or, or_zero_r}
 use lib.Dec.{eqb}
 use lib.ListN.{length, get_or, take, drop, length-append}
 use lib.Seq.{length-take-le, take-suc}
 use borrow.Author.Tests.{le-ltb, lt-ltb, eq-eqb, ne_eqb}
+use Rattle.std.specs.Prelude.{Result, Ok, Err, count_by}
+use Rattle.std.proofs.lemmas.List.Sums.{sum_by-cons}
 use Rattle.limits.specs.Limits.{max_clauses}
 use Rattle.lists.specs.Over.{over}
 use Rattle.lists.proofs.OverLaws.{over_length}
-use Rattle.masks.specs.Mask.{minus, size}
+use Rattle.masks.specs.Mask.{bit, minus, size}
+use Rattle.masks.proofs.BitLaws.{bit-or}
+use Rattle.masks.proofs.MembersLaws.{mask_same}
+use Rattle.formula.specs.declared.assignment.Assignment.{Assignment}
 use Rattle.formula.specs.declared.Clause.{Clause}
 use Rattle.formula.specs.declared.Formula.{Formula}
 use Rattle.formula.specs.declared.Refusal.{Refusal}
@@ -23,18 +29,15 @@ use Rattle.formula.specs.InnerDecode.{decode}
 use Rattle.formula.specs.Decoding.{readable, refused}
 use Rattle.formula.specs.Format.{Literal}
 use Rattle.formula.specs.Masked.{variables}
+use Rattle.formula.specs.InnerAssignment.{assigned}
 use Rattle.formula.specs.InnerFits.{clause_variables}
-use Rattle.formula.specs.InnerMasked.{no_clause}
 use Rattle.formula.proofs.Demands.{accepted_fits}
 use Rattle.formula.proofs.MaskedLaws.{Accepts}
 use Rattle.assumptions.specs.declared.Assumption.{Assumption}
-use Rattle.assumptions.specs.declared.Assumptions.{Assumptions}
 use Rattle.assumptions.specs.Assumed.{literals, bad, assumed}
 use Rattle.assumptions.specs.InnerAssumed.{MasksOf}
 use Rattle.matching.specs.Sets.{union, selected}
-use Rattle.matching.proofs.MatchedLaws.{union_more}
-use Rattle.matching.proofs.SelectedLaws.{selected_more, selected_front, selected_map, selected_size}
-use Rattle.splitting.specs.InnerChoose.{assigned}
+use Rattle.matching.proofs.SelectedLaws.{selected_empty, selected_front, selected_map}
 use Rattle.splitting.proofs.MaskNodeLaws.{assigned-variables}
 use Rattle.matched.specs.Acceptance.{Acceptance, accepted, declined, acceptance}
 use Rattle.matched.specs.Judge.{Judged, judge}
@@ -45,44 +48,46 @@ use Rattle.matched.proofs.AcceptanceLaws.{FormulaComes, paired, strips, unpaired
 use Rattle.matched.proofs.JudgeLaws.{judge_short, judge_accepted, judge_declined}
 use Rattle.matched.proofs.PairingLaws.{array_masks}
 
--- ---- the loops: the element at i as well, of which there is one, and a mark for it
+-- ---- the loop that gathers: what it has, and what the marked ones of the clauses left name
 
-module _ {A : Type 0} (marks : List ℕ) (l : List A) (i : ℕ) (d : A) (inside : i < length l) (few : i < length marks) where
-  next_selected : selected marks (take (i + 1) l) ≡ selected marks (take i l) ++ cond (eqb (get_or marks i 0) 0) [] (get_or l i d ∷ [])
-  next_selected =
-      let e : length (take i l) ≡ i = length-take-le i l (omega arith) in
-      ap (selected marks) (rw add-one (take-suc l i d inside))
-      ∙ selected_more marks (take i l) (get_or l i d) (rw e few)
-      ∙ rw e
+abbrev pub gathers : ℕ → List ℕ → List Clause → ℕ
+gathers m marks cs = bit_or m (union (selected marks (map clause_variables cs)))
 
-  -- it is marked
-  next_marked : (get_or marks i 0 ≡ 0 → ⊥) → selected marks (take (i + 1) l) ≡ selected marks (take i l) ++ (get_or l i d ∷ [])
-  next_marked ne = rw (next_selected, ne_eqb (get_or marks i 0) 0 ne)
+-- the next mark and the next clause
+module _ (m : ℕ) {mark : ℕ} {marks ms : List ℕ} {c : Clause} {cs ds : List Clause} (a : ds ≡ c ∷ cs) (b : ms ≡ mark ∷ marks) where
+  pub gathers_marked : (mark ≡ 0 → ⊥) → (x : ℕ) → x ≡ clause_variables c → gathers (bit_or m x) marks cs ≡ gathers m ms ds
+  unfolding union selected
+  gathers_marked ne x e =
+      let r = union (selected marks (map clause_variables cs)) in
+      rw (a, b, ne_eqb mark 0 ne, ← e)
+      (mask_same (bit_or (bit_or m x) r) (bit_or m (bit_or x r)) (λ i. simp bit-or (or_assoc (bit m i) (bit x i) (bit r i))))
 
-  -- it is not
-  next_unmarked : get_or marks i 0 ≡ 0 → selected marks (take (i + 1) l) ≡ selected marks (take i l)
-  next_unmarked z = rw (next_selected, eq-eqb (get_or marks i 0) 0 z) (append-nil (selected marks (take i l)))
+  pub gathers_unmarked : mark ≡ 0 → gathers m marks cs ≡ gathers m ms ds
+  unfolding selected
+  gathers_unmarked z = rw (a, b, eq-eqb mark 0 z)
 
--- the marks that are counted
-module _ (marks : List ℕ) (i k : ℕ) (inside : i < length marks) (counted : k ≡ length (selected marks (take i marks))) where
-  pub counted_marked : (get_or marks i 0 ≡ 0 → ⊥) → k + 1 ≡ length (selected marks (take (i + 1) marks))
-  counted_marked ne = rw (next_marked marks marks i 0 inside inside ne, length-append, counted)
+-- no clause is left, or no mark
+pub gathers_all : (m : ℕ) (marks : List ℕ) (cs : List Clause) → (length cs ≡ 0) ⊎ (length marks ≡ 0) → gathers m marks cs ≡ m
+unfolding union selected
+gathers_all m marks [] h = rw (selected_empty marks) (or_zero_r m)
+gathers_all m [] (c ∷ cs) h = or_zero_r m
+gathers_all m (x ∷ marks) (c ∷ cs) h = absurd (⊎_elim (λ (e : suc (length cs) ≡ 0). omega (arith, e)) (λ (e : suc (length marks) ≡ 0). omega (arith, e)) h)
 
-  pub counted_unmarked : get_or marks i 0 ≡ 0 → k ≡ length (selected marks (take (i + 1) marks))
-  counted_unmarked z = rw (next_unmarked marks marks i 0 inside inside z) counted
+-- ---- the marks that are counted
 
--- the variables that are gathered
-module _ (marks : List ℕ) (cs : List Clause) (i m : ℕ) (inside : i < length cs) (few : i < length marks)
-    (gathered : m ≡ union (selected marks (map clause_variables (take i cs)))) where
-  pub gathered_marked : (get_or marks i 0 ≡ 0 → ⊥)
-      → bit_or m (clause_variables (get_or cs i no_clause)) ≡ union (selected marks (map clause_variables (take (i + 1) cs)))
-  gathered_marked ne =
-      rw (gathered, selected_map clause_variables marks (take (i + 1) cs), next_marked marks cs i no_clause inside few ne, map-append, selected_map clause_variables marks (take i cs))
-      (sym (union_more (map clause_variables (selected marks (take i cs))) (clause_variables (get_or cs i no_clause))))
-
-  pub gathered_unmarked : get_or marks i 0 ≡ 0 → m ≡ union (selected marks (map clause_variables (take (i + 1) cs)))
-  gathered_unmarked z =
-      rw (selected_map clause_variables marks (take (i + 1) cs), next_unmarked marks cs i no_clause inside few z, ← selected_map clause_variables marks (take i cs)) gathered
+-- as many are not 0 as clauses are marked
+marked_count : {A : Type 0} (marks : List ℕ) (l : List A) → length l ≤ length marks → count_by (λ x. not (eqb x 0)) (take (length l) marks) ≡ length (selected marks l)
+unfolding selected
+marked_count [] [] h = refl
+marked_count [] (x ∷ l) h = absurd (omega arith)
+marked_count (m ∷ marks) [] h = refl
+marked_count (m ∷ marks) (x ∷ l) h =
+    sum_by-cons (λ y. cond (not (eqb y 0)) 1 0) m (take (length l) marks) ∙ by (eqb m 0) (marked_count marks l (omega arith))
+  where
+    by : (b : Bool) → count_by (λ x. not (eqb x 0)) (take (length l) marks) ≡ length (selected marks l)
+        → cond (not b) 1 0 + count_by (λ x. not (eqb x 0)) (take (length l) marks) ≡ length (cond b (selected marks l) (x ∷ selected marks l))
+    by true e = omega (arith, e)
+    by false e = omega (arith, e)
 
 -- ---- what is weighed, by the cases of its definition
 
@@ -107,32 +112,32 @@ module _ (s : List ℕ) (us : List Assumption) (b : List ℕ) (l : max_clauses �
 
   -- ---- what the code answers, over the masks u of the assumptions and the formula f that was read
 
-  module _ (u : Assumptions) (given : MasksOf s us u) (f : Formula) (a : Accepts s f) where
+  module _ (u : Result Assignment Refusal) (given : MasksOf s us u) (f : Formula) (a : Accepts s f) where
     abbrev n : ℕ
     n = a.variables
 
     abbrev cs : List (List Literal)
     cs = a.clauses
 
-    pub bad_weighed : u.bad ≡ true → weighed s us b ≡ unweighed_values (BadAssumption u.place)
-    bad_weighed e = weigh_bad n cs a.reads u.place (given_bad s us u given n cs a.reads e)
+    pub bad_weighed : (r : Refusal) → u ≡ Err r → weighed s us b ≡ unweighed_values r
+    bad_weighed r e = let g = given_bad s us u given n cs a.reads r e in rw g.2 (weigh_bad n cs a.reads g.0 g.1)
 
     -- as many marks as marked clauses
-    counted : length (selected b (take f.count b)) ≡ length (marked b cs)
+    counted : count_by (λ x. not (eqb x 0)) (take f.count b) ≡ length (marked b cs)
     counted =
         let e : f.count ≡ length cs = ap (λ (g : Formula). g.count) a.formula in
-        selected_size b (take f.count b) cs (length-take-le f.count b (omega (arith, a.fits.few)) ∙ e)
+        ap (λ (k : ℕ). count_by (λ x. not (eqb x 0)) (take k b)) e ∙ marked_count b cs (omega (arith, e, a.fits.few))
 
     -- the masks of the marked clauses
     gathered : selected b (map clause_variables (take f.count f.clauses)) ≡ map variables (marked b cs)
     gathered = ap (selected b) (array_masks n cs f a.formula) ∙ selected_map variables b cs
 
-    pub counted_weighed : u.bad ≡ false → (k m : ℕ) → k ≡ length (selected b (take f.count b))
+    pub counted_weighed : (z : Assignment) → u ≡ Ok z → (k m : ℕ) → k ≡ count_by (λ x. not (eqb x 0)) (take f.count b)
         → m ≡ union (selected b (map clause_variables (take f.count f.clauses)))
-        → weighed s us b ≡ counted_values k (size (minus m (bit_or u.trues u.falses)))
-    counted_weighed e k m p q =
-        let g = given_literals s us u given n cs a.reads e in
-        let v : bit_or u.trues u.falses ≡ variables g.0 = ap assigned g.2 ∙ assigned-variables g.0 in
+        → weighed s us b ≡ counted_values k (size (minus m (assigned z)))
+    counted_weighed z e k m p q =
+        let g = given_literals s us u given n cs a.reads z e in
+        let v : assigned z ≡ variables g.0 = ap assigned g.2 ∙ assigned-variables g.0 in
         rw (weigh_under n cs a.reads g.0 g.1, p, q, counted, gathered, v)
 
 -- ---- marks that were written over the first bytes of a buffer

@@ -12,7 +12,7 @@ use Rattle.matched.proofs.named.Goals as goal
 
 pub returns : goal.returns
 returns c =
-    let f = c.args.f in
+    let f = c.args.f.now in
     let l = map clause_variables (take f.count f.clauses) in
     let few : length l ≤ max_clauses = omega (arith, length-map (take f.count f.clauses) clause_variables, length-take f.count f.clauses, c.requires) in
     c.named_by.ensures ∙ ap union (selected_all max_clauses l few)

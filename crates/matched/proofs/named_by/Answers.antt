@@ -1,33 +1,29 @@
--- `matched::named_by` meets its contract. The loop's invariant: what the marked ones of the first i clauses name is gathered.
+-- `matched::named_by` meets its contract.
 use borrow.Author.Rules.{rules}
-use Prim.Native.Nat.{◌<◌}
-use native.Mathlib.Omega.{arith}
-use mathlib.Core.Path.{◌≡◌, ◌∙◌}
-use lib.ListN.{length}
-use Rattle.limits.specs.Limits.{max_clauses}
-use Rattle.matching.specs.Sets.{union}
-use Rattle.matching.proofs.SelectedLaws.{selected_empty}
-use Rattle.matched.proofs.WeighLaws.{gathered_marked, gathered_unmarked}
-use Rattle.matched.proofs.named_by.Goals.{At-loop-i, then-marks-i-ne0, else-marks-i-ne0}
+use mathlib.Core.List.{◌∷◌}
+use mathlib.Core.Logic.{inl, inr, ⊎_elim}
+use mathlib.Core.Path.{◌≡◌, sym, ◌∙◌}
+use Rattle.matched.proofs.WeighLaws.{gathers_marked, gathers_unmarked, gathers_all}
+use Rattle.matched.proofs.named_by.Goals.{In-Some}
 use Rattle.matched.proofs.named_by.Goals as goal
 
--- the array of the clauses has all its places, as the formula that is owned tells
-places : (l : At-loop-i) → length l.args.f.clauses ≡ max_clauses
-places l = search rules
+-- the clause and the mark stand first in what was left
+clause : (e : In-Some) → e.loop-c.c-iterator.a.rest.now ≡ e.in-Some.c.now ∷ e.next.new.self.a.rest.now
+clause e = search rules
 
-pub loop-i-init : goal.loop-i-init
-unfolding union
-loop-i-init c = (search rules, rw (selected_empty c.args.marks.now))
+mark : (e : In-Some) → e.loop-c.c-iterator.b.rest.now ≡ e.in-Some.mark.now ∷ e.next.new.self.b.rest.now
+mark e = search rules
 
-pub loop-i-preserved : goal.loop-i-preserved
-loop-i-preserved c =
-    let b = c.args in
-    let inside : c.loop-i.i < length b.f.clauses = omega (arith, places (goal.at.loop-i-preserved c).At-loop-i, c.requires.0) in
-    let few : c.loop-i.i < length b.marks.now = omega (arith, c.requires.1) in
-    elim c.if-marks-i-ne0.branch [
-      | then-marks-i-ne0 w ↦ (omega arith, w.named-is ∙ gathered_marked b.marks.now b.f.clauses c.loop-i.i c.loop-i.named inside few c.loop-i.invariant.1 w.if-marks-i-ne0.true)
-      | else-marks-i-ne0 w ↦ (omega arith, w.named-is ∙ gathered_unmarked b.marks.now b.f.clauses c.loop-i.i c.loop-i.named inside few c.loop-i.invariant.1 w.if-marks-i-ne0.false)
-    ]
+pub loop-c-preserved-then-mark-ne0 : goal.loop-c-preserved-then-mark-ne0
+loop-c-preserved-then-mark-ne0 c =
+    let e = (goal.at.loop-c-preserved-then-mark-ne0 c).In-Some in
+    gathers_marked c.loop-c.named (clause e) (mark e) c.if-mark-ne0.true _ c.variables-named.ensures ∙ c.loop-c.invariant
+
+pub loop-c-preserved : goal.loop-c-preserved
+loop-c-preserved c =
+    let e = (goal.at.loop-c-preserved c).In-Some in
+    gathers_unmarked c.loop-c.named (clause e) (mark e) c.if-mark-ne0.false ∙ c.loop-c.invariant
 
 pub returns : goal.returns
-returns c = let e : c.loop-i.i ≡ c.args.f.count = omega arith in rw e at c.loop-i.invariant.1
+returns c =
+    sym (gathers_all c.loop-c.named _ _ (⊎_elim (λ w. inl w.1.0) (λ w. inr w.1.0) c.in-None.ensures.steps)) ∙ c.loop-c.invariant

@@ -1,25 +1,17 @@
--- `matched::strip_row` meets its contract: by whether all clauses that are left are matched.
-use native.Mathlib.Omega.{arith}
-use Rattle.matched.proofs.AcceptLaws.{answers_fit, notes_fit, left_represents, unmatched_represents}
+-- `matched::strip_row` meets its contract: by whether what is left is matched.
+use Rattle.matched.proofs.AcceptLaws.{variables_fit, notes_fit, left_held, unmatched_held}
 use Rattle.matched.proofs.strip_row.Goals as goal
 
-pub spread-table-requires : goal.spread-table-requires
-spread-table-requires c =
-    answers_fit _ c.requires _ c.match_open-m.result c.match_open-m.ensures 1 (omega arith)
+pub spread-requires : goal.spread-requires
+spread-requires c = (c.requires.few, variables_fit _ c.requires _ _ c.match_open.ensures _ c.in-Ok.is)
 
 pub tell_dropped-requires : goal.tell_dropped-requires
-tell_dropped-requires c =
-    (c.requires.few, notes_fit _ c.requires _ c.strip-s.result c.strip-s.ensures)
+tell_dropped-requires c = (c.requires.few, notes_fit _ c.requires _ _ c.strip-s.ensures)
 
-pub returns-then-m : goal.returns-then-m
-returns-then-m c n t cs z over q d =
-    left_represents z over q d c.strip-s.ensures c.match_open-m.ensures c.if-m.true
-    c.spread-table.result c.tell_dropped.result c.spread-table.ensures c.tell_dropped.ensures
+pub returns-in-Ok : goal.returns-in-Ok
+returns-in-Ok c n t cs z o q d =
+    left_held z o q d c.strip-s.ensures c.match_open.ensures _ c.in-Ok.is c.spread.result c.tell_dropped.result c.spread.ensures c.tell_dropped.ensures
 
-pub spread-requires : goal.spread-requires
-spread-requires c =
-    answers_fit _ c.requires _ c.match_open-m.result c.match_open-m.ensures 0 (omega arith)
-
-pub returns : goal.returns
-returns c n t cs z over q d =
-    unmatched_represents z over q d c.strip-s.ensures c.match_open-m.ensures c.if-m.false c.spread.result c.spread.ensures
+pub returns-in-Err : goal.returns-in-Err
+returns-in-Err c n t cs z o q d =
+    unmatched_held z o q d c.strip-s.ensures c.match_open.ensures _ c.in-Err.is c.spread-in-Err.result c.spread-in-Err.ensures
