@@ -53,11 +53,11 @@ use Rattle.splitting.proofs.NodeMatchingLaws.{small_of, Word, node_words}
 use Rattle.splitting.proofs.ReduceLaws.{noted_fits}
 use Rattle.splitting.proofs.SatisfiedLaws.{satisfied_masks}
 use Rattle.splitting.proofs.Theorems.{formula_below}
+use Rattle.arrayvec.specs.ArrayVec.{ArrayVec as Items}
 use Rattle.matched.specs.declared.Accepted.{Accepted}
 use Rattle.matched.specs.declared.Declined.{Declined}
-use Rattle.matched.specs.declared.Row.{Row}
 use Rattle.matched.specs.Acceptance.{Acceptance, accepted, declined, Dropped, by, by_none, dropped_by, RowByte, byte_of, known, asked, row_byte, whole_byte, marked_byte, stripped_byte, dropped_byte, spread, by_stripped, formula_acceptance, acceptance}
-use Rattle.matched.specs.InnerAccept.{raised, row_held, refused_row, held_row, held_acceptance, Takes}
+use Rattle.matched.specs.InnerAccept.{raised, refused_row, held_row, held_acceptance, Takes}
 use Rattle.matched.specs.InnerSpread.{bytes_at, NotesFit, first_in, told_byte, told_bytes}
 use Rattle.matched.specs.Pairing.{noted_of, left_of}
 use Rattle.matched.proofs.AcceptanceLaws as comes
@@ -65,7 +65,7 @@ use Rattle.matched.proofs.AcceptanceLaws.{FormulaComes, accepted_is, read_accept
 use Rattle.matched.proofs.PairingLaws.{masks_words}
 use Rattle.matched.proofs.DroppedLaws.{drops, first_dropped, same_asks, whole-zeros, trail_drops, stripped_zeros}
 use Rattle.matched.proofs.SizedLaws.{remaining_sized}
-use Rattle.matched.proofs.SpreadLaws.{answered, asking, asking_same, array_at, spread_length, spread_byte, spread_bytes}
+use Rattle.matched.proofs.SpreadLaws.{masks_at, answered, asking, asking_same, spread_length, spread_byte, spread_bytes}
 
 -- ---- what the contract says
 
@@ -238,31 +238,22 @@ module _ {n : ℕ} {cs : List (List Literal)} {f : Formula} {u : List Literal} {
       at (success vs e) p q = absurd cc
       at (failure taken e) p q = (taken, e, p, cc, cc)
 
-  -- the table that is spread from the answers l, raised by k
-  table_is : (g : List Literal → RowByte) → Every (λ c. g c ≡ cond (satisfied_by u c) (known 0) asked) cs → (l : List ℕ) → length l ≡ length rs → (k : ℕ) (answers table : List ℕ)
-      → answers ≡ padded max_clauses 0 l → table ≡ padded max_clauses 0 (bytes_at f.clauses b answers k f.count)
-      → table ≡ padded max_clauses 0 (spread g cs (raised k l))
-  table_is g zeros l h k answers table e w = w ∙ rw (e, M.masks, M.assigned, spread_bytes n cs u M.once g zeros l k h)
-
--- a byte for each clause
-spread_count : {n : ℕ} (cs : List (List Literal)) {f : Formula} (q : f ≡ formula_of n cs) (g : List Literal → RowByte) (answers : List ℕ) → f.count ≡ length (spread g cs answers)
-spread_count cs q g answers = ap (λ (h : Formula). h.count) q ∙ sym (spread_length g cs answers)
-
--- the code's row is the row
-row_is : (f : Formula) (table row : List ℕ) → f.count ≡ length row → table ≡ padded max_clauses 0 row → ◌≡◌ {A = Row} (record { length = f.count; table = table }) (row_held row)
-row_is f table row k w = rw (w, k)
+  -- the row that is spread from the answers l, raised by k
+  row_is : (g : List Literal → RowByte) → Every (λ c. g c ≡ cond (satisfied_by u c) (known 0) asked) cs → (l : List ℕ) → length l ≡ length rs → (k : ℕ) (answers row : List ℕ)
+      → answers ≡ padded max_clauses 0 l → row ≡ bytes_at f.clauses.items b answers k (length f.clauses.items)
+      → row ≡ spread g cs (raised k l)
+  row_is g zeros l h k answers row e w = w ∙ rw (e, M.masks, M.assigned, length-map cs clause_of, spread_bytes n cs u M.once g zeros l k h)
 
 -- ---- matched whole
 
 module _ {n : ℕ} {t : List Literal} {cs : List (List Literal)} {f : Formula} {a : Assignment} {m : Matching} (M : MatchedUnder n cs f t a m) where
   -- what remains is matched
-  pub whole_held : (l : List ℕ) → m.found ≡ Ok l → (table : List ℕ) → table ≡ padded max_clauses 0 (bytes_at f.clauses a l 1 f.count)
-      → Ok (record { length = f.count; table = table }) ≡ held_row (formula_acceptance n t cs)
-  whole_held l g table w =
+  pub whole_held : (l : List ℕ) → m.found ≡ Ok l → (row : Items ℕ) → row.items ≡ bytes_at f.clauses.items a l 1 (length f.clauses.items)
+      → Ok row ≡ held_row (formula_acceptance n t cs)
+  whole_held l g row w =
       let x = matched_found M l g in
-      let row = spread (whole_byte t) cs (map suc x.0) in
-      let e : table ≡ padded max_clauses 0 row = rw (← (raised_one x.0)) (table_is M (whole_byte t) (whole-zeros t cs) x.0 x.3 1 l table x.4 w) in
-      rw x.2 (ap Ok (row_is f table row (spread_count cs M.masks (whole_byte t) (map suc x.0)) e))
+      let e : row.items ≡ spread (whole_byte t) cs (map suc x.0) = rw (← (raised_one x.0)) (row_is M (whole_byte t) (whole-zeros t cs) x.0 x.3 1 l row.items x.4 w) in
+      rw x.2 (ap (λ (r : List ℕ). Ok (record { items = r })) e)
 
   -- it is not: it is stripped
   pub stripped_held : (w : Violator) → m.found ≡ Err w → held_row (by_stripped n t cs (stripped n (remaining t cs))) ≡ held_row (formula_acceptance n t cs)
@@ -272,15 +263,7 @@ module _ {n : ℕ} {t : List Literal} {cs : List (List Literal)} {f : Formula} {
 
 -- the noted variables fit a mask
 pub notes_fit : (f : Formula) → FormulaFits f → (a : Assignment) (s : Stripping) → s ≡ stripping_at f a → NotesFit s
-notes_fit f fits a s e =
-    let l = noted_from f.variables f a in
-    let w = noted_fits f.variables f a (small_of f fits) in
-    let k : length l ≤ max_variables = omega (arith, w.0, fits.most) in
-    rw e (record {
-      few = k;
-      inside = rw (length_padded max_variables 0 l k) k;
-      low = λ i h. rw (get_or_padded max_variables 0 l i 0 h) (every_get_or (λ v. v < 64) l i 0 h w.1);
-    })
+notes_fit f fits a s e = rw e (noted_fits f.variables f a (small_of f fits)).1
 
 -- the code's stripping is that at the node of t
 module _ {n : ℕ} {t : List Literal} {cs : List (List Literal)} {f : Formula} {a : Assignment} (z : Sized n cs) (over : ClauseOver n t) (q : f ≡ formula_of n cs) (d : a ≡ assignment_of t)
@@ -291,12 +274,8 @@ module _ {n : ℕ} {t : List Literal} {cs : List (List Literal)} {f : Formula} {
   strip_assigns : s.assignment ≡ assignment_of strips.trail
   strip_assigns = ap (λ (x : Stripping). x.assignment) e ∙ ap₂ (λ (g : Formula) (b : Assignment). (reduced g b).assignment) q d ∙ strips.assigns
 
-  strip_order : take s.count s.order ≡ noted_of n t cs
-  strip_order =
-      ap (λ (x : Stripping). take x.count x.order) e
-      ∙ take_padded max_variables 0 (noted_from f.variables f a)
-      ∙ ap₂ (λ (g : Formula) (b : Assignment). noted_from g.variables g b) q d
-      ∙ strips.noted
+  strip_order : s.order.items ≡ noted_of n t cs
+  strip_order = ap (λ (x : Stripping). x.order.items) e ∙ ap₂ (λ (g : Formula) (b : Assignment). noted_from g.variables g b) q d ∙ strips.noted
 
   -- the byte that the code tells of a clause, where that of a dropped one was 0
   told_answered : (c : List Literal) (y : ℕ) → Memᴰ c cs
@@ -324,63 +303,54 @@ module _ {n : ℕ} {t : List Literal} {cs : List (List Literal)} {f : Formula} {
     left_outcome = ap (λ (l : List (List Literal)). outcome (map variables l)) (sym strips.left)
 
     -- it is matched
-    pub left_held : (l : List ℕ) → m.found ≡ Ok l → (table told : List ℕ) → table ≡ padded max_clauses 0 (bytes_at f.clauses s.assignment l 1 f.count)
-        → told ≡ padded max_clauses 0 (told_bytes f.clauses a s table f.count)
-        → Ok (record { length = f.count; table = told }) ≡ held_row (by_stripped n t cs (stripped n (remaining t cs)))
-    left_held l g table told w v =
+    pub left_held : (l : List ℕ) → m.found ≡ Ok l → (row : List ℕ) (told : Items ℕ) → row ≡ bytes_at f.clauses.items s.assignment l 1 (length f.clauses.items)
+        → told.items ≡ told_bytes f.clauses.items a s row (length f.clauses.items) → Ok told ≡ held_row (by_stripped n t cs (stripped n (remaining t cs)))
+    left_held l g row told w v =
         let x = matched_found M l g in
-        let row = spread (stripped_byte t (noted_of n t cs)) cs (map suc x.0) in
-        let e : table ≡ padded max_clauses 0 (spread (marked_byte t (noted_of n t cs)) cs (map suc x.0)) =
-        rw (← (raised_one x.0)) (table_is M (marked_byte t (noted_of n t cs)) (stripped_zeros strips) x.0 x.3 1 l table x.4 w) in
-        rw (left_outcome ∙ x.2)
-        (ap Ok (row_is f told row (spread_count cs q (stripped_byte t (noted_of n t cs)) (map suc x.0)) (v ∙ ap (padded max_clauses 0) (bytes (map suc x.0) e))))
+        let e : row ≡ spread (marked_byte t (noted_of n t cs)) cs (map suc x.0) =
+        rw (← (raised_one x.0)) (row_is M (marked_byte t (noted_of n t cs)) (stripped_zeros strips) x.0 x.3 1 l row x.4 w) in
+        rw (left_outcome ∙ x.2) (ap (λ (r : List ℕ). Ok (record { items = r })) (v ∙ bytes (map suc x.0) e))
       where
-        bytes : (l : List ℕ) → table ≡ padded max_clauses 0 (spread (marked_byte t (noted_of n t cs)) cs l)
-            → told_bytes f.clauses a s table f.count ≡ spread (stripped_byte t (noted_of n t cs)) cs l
+        bytes : (l : List ℕ) → row ≡ spread (marked_byte t (noted_of n t cs)) cs l
+            → told_bytes f.clauses.items a s row (length f.clauses.items) ≡ spread (stripped_byte t (noted_of n t cs)) cs l
         bytes l e =
-            rw q
-            (sym (tabulated_of (λ i. told_byte a s (get_or (formula_of n cs).clauses i no_clause) (get_or table i 0)) (length cs) (spread (stripped_byte t (noted_of n t cs)) cs l) 0
+            rw (q, length-map cs clause_of)
+            (sym (tabulated_of (λ i. told_byte a s (get_or (map clause_of cs) i no_clause) (get_or row i 0)) (length cs) (spread (stripped_byte t (noted_of n t cs)) cs l) 0
             (spread_length (stripped_byte t (noted_of n t cs)) cs l) same))
           where
-            zeros : List ℕ
-            zeros = spread (marked_byte t (noted_of n t cs)) cs l
-
             same : (i : ℕ) → i < length cs
-                → get_or (spread (stripped_byte t (noted_of n t cs)) cs l) i 0 ≡ told_byte a s (get_or (formula_of n cs).clauses i no_clause) (get_or table i 0)
+                → get_or (spread (stripped_byte t (noted_of n t cs)) cs l) i 0 ≡ told_byte a s (get_or (map clause_of cs) i no_clause) (get_or row i 0)
             same i h =
-                let k : i < length zeros = rw (spread_length (marked_byte t (noted_of n t cs)) cs l) h in
                 spread_byte (stripped_byte t (noted_of n t cs)) cs l i h
                 ∙ sym (told_answered (get_or cs i []) (get_or l (asking (stripped_byte t (noted_of n t cs)) cs i) 0) (get_or_element cs i [] h))
-                ∙ ap₂ (told_byte a s) (sym (array_at n cs i h))
+                ∙ ap₂ (told_byte a s) (sym (masks_at n cs i))
                 (rw (asking_same (stripped_byte t (noted_of n t cs)) (marked_byte t (noted_of n t cs)) (same_asks t (noted_of n t cs) dropped_byte (λ v. 0)) cs i)
-                (sym (rw e (get_or_padded max_clauses 0 zeros i 0 k) ∙ spread_byte (marked_byte t (noted_of n t cs)) cs l i h)))
+                (sym (rw e (spread_byte (marked_byte t (noted_of n t cs)) cs l i h))))
 
     -- it is not
-    pub unmatched_held : (v : Violator) → m.found ≡ Err v → (table : List ℕ) → table ≡ padded max_clauses 0 (bytes_at f.clauses s.assignment v.marks 0 f.count)
-        → Err (record { refusal = Unmatched v.size; row = record { length = f.count; table = table } }) ≡ held_row (by_stripped n t cs (stripped n (remaining t cs)))
-    unmatched_held v g table w =
+    pub unmatched_held : (v : Violator) → m.found ≡ Err v → (row : Items ℕ) → row.items ≡ bytes_at f.clauses.items s.assignment v.marks 0 (length f.clauses.items)
+        → Err (record { refusal = Unmatched v.size; row = row }) ≡ held_row (by_stripped n t cs (stripped n (remaining t cs)))
+    unmatched_held v g row w =
         let x = failed_found M v g in
         let l = length (remaining strips.trail cs) in
-        let e : table ≡ padded max_clauses 0 (spread (marked_byte t (noted_of n t cs)) cs (marks l x.0)) =
-        rw (← (raised_none (marks l x.0))) (table_is M (marked_byte t (noted_of n t cs)) (stripped_zeros strips) (marks l x.0) (length-marks l x.0) 0 v.marks table x.4 w) in
+        let e : row.items ≡ spread (marked_byte t (noted_of n t cs)) cs (marks l x.0) =
+        rw (← (raised_none (marks l x.0))) (row_is M (marked_byte t (noted_of n t cs)) (stripped_zeros strips) (marks l x.0) (length-marks l x.0) 0 v.marks row.items x.4 w) in
         rw x.3 (at x.0 x.1 (left_outcome ∙ x.2) e)
       where
         at : (taken : List ℕ) (e : ℕ) → outcome (map variables (left_of n t cs)) ≡ failure taken e
-            → table ≡ padded max_clauses 0 (spread (marked_byte t (noted_of n t cs)) cs (marks (length (remaining strips.trail cs)) taken))
-            → Err (record { refusal = Unmatched (length taken); row = record { length = f.count; table = table } }) ≡ held_row (by_stripped n t cs (stripped n (remaining t cs)))
+            → row.items ≡ spread (marked_byte t (noted_of n t cs)) cs (marks (length (remaining strips.trail cs)) taken)
+            → Err (record { refusal = Unmatched (length taken); row = row }) ≡ held_row (by_stripped n t cs (stripped n (remaining t cs)))
         at taken e o h =
-            let ms = marks (length (left_of n t cs)) taken in
             rw o
-            (ap (λ (r : Row). Err (record { refusal = Unmatched (length taken); row = r }))
-            (row_is f table (spread (marked_byte t (noted_of n t cs)) cs ms) (spread_count cs q (marked_byte t (noted_of n t cs)) ms)
-            (h ∙ ap (λ (ds : List (List Literal)). padded max_clauses 0 (spread (marked_byte t (noted_of n t cs)) cs (marks (length ds) taken))) strips.left)))
+            (ap (λ (r : List ℕ). Err (record { refusal = Unmatched (length taken); row = record { items = r } }))
+            (h ∙ ap (λ (ds : List (List Literal)). spread (marked_byte t (noted_of n t cs)) cs (marks (length ds) taken)) strips.left))
 
 -- ---- an input
 
 module _ (s : List ℕ) (us : List Assumption) where
   -- one that was read, with no bad assumption, is what its formula is
   module _ (n : ℕ) (t : List Literal) (cs : List (List Literal)) (reads : decode s ≡ readable n cs) (assumes : assumed n us ≡ literals t) where
-    pub accepted_held : (row : Row) → Ok row ≡ held_row (formula_acceptance n t cs)
+    pub accepted_held : (row : Items ℕ) → Ok row ≡ held_row (formula_acceptance n t cs)
         → Ok (record { formula = formula_of n cs; assignment = assignment_of t; row = row }) ≡ held_acceptance (acceptance s us)
     accepted_held row w = rw (read_acceptance s us n t cs reads assumes) (by (formula_case s us n t cs reads assumes) w)
       where

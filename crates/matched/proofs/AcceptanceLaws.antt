@@ -28,7 +28,7 @@ use Rattle.splitting.proofs.Theorems.{matched_sound}
 use Rattle.matched.specs.declared.Accepted.{Accepted}
 use Rattle.matched.specs.declared.Declined.{Declined}
 use Rattle.matched.specs.Acceptance.{Acceptance, accepted, declined, whole_byte, stripped_byte, spread, by_left_outcome, by_outcome, formula_acceptance, by_assumed, by_decoding, acceptance}
-use Rattle.matched.specs.InnerAccept.{row_of, row_held, held_acceptance}
+use Rattle.matched.specs.InnerAccept.{row_of, held_acceptance}
 use Rattle.matched.specs.Pairing.{Pairs, noted_of, left_of, Pairable, Walkable, Violator, marked}
 use Rattle.matched.proofs.PairingLaws.{masks_words, matches_pairs, pairs_matches}
 use Rattle.matched.proofs.SizedLaws.{remaining_sized, left_sized}
@@ -285,17 +285,3 @@ module _ (s : List ℕ) (us : List Assumption) where
       by (of_formula n t cs reads assumes f) = of n t cs reads f
       by (bad_assumed n cs i reads assumes) = omega arith
       by (unreadable r e) = omega arith
-
-  pub accepted_few : (r : Accepted) → held_acceptance (acceptance s us) ≡ Ok r → r.row.length ≤ max_clauses
-  accepted_few r q = by (acceptance s us) row_few q
-    where
-      by : (a : Acceptance) → length (row_of a) ≤ max_clauses → held_acceptance a ≡ Ok r → r.row.length ≤ max_clauses
-      by (accepted n t cs row) few q = let w : row_held row ≡ r.row = cc in rw (← w) few
-      by (declined e row) few q = absurd cc
-
-  pub declined_few : (d : Declined) → held_acceptance (acceptance s us) ≡ Err d → d.row.length ≤ max_clauses
-  declined_few d q = by (acceptance s us) row_few q
-    where
-      by : (a : Acceptance) → length (row_of a) ≤ max_clauses → held_acceptance a ≡ Err d → d.row.length ≤ max_clauses
-      by (accepted n t cs row) few q = absurd cc
-      by (declined e row) few q = let w : row_held row ≡ d.row = cc in rw (← w) few

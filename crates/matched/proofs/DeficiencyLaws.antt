@@ -7,14 +7,15 @@ use native.Mathlib.Decide.{dec_lt}
 use native.Mathlib.Numerals.{add-one}
 use native.Mathlib.Omega.{arith}
 use lib.LanesLaws.{map-replicate}
-use lib.ListN.{length, get_or, take, length-map}
-use lib.Seq.{ext_get_or}
+use lib.ListN.{set, length, get_or, take, length-map}
+use lib.Seq.{length-take-le, take-suc, ext_get_or}
 use Rattle.limits.specs.Limits.{max_clauses}
 use Rattle.lists.specs.Padded.{padded}
 use Rattle.lists.proofs.MapLaws.{get_or-map_in}
-use Rattle.lists.proofs.PaddedLaws.{length_padded, get_or_padded, get_or_padded_past, take_padded}
+use Rattle.lists.proofs.PaddedLaws.{length_padded, get_or_padded, get_or_padded_past, padded_set, take_padded}
 use Rattle.lists.proofs.SublistLaws.{sub_length, sub_map}
 use Rattle.masks.specs.Mask.{size}
+use Rattle.formula.specs.declared.Clause.{Clause}
 use Rattle.formula.specs.declared.Formula.{Formula}
 use Rattle.formula.specs.declared.Refusal.{Refusal}
 use Rattle.formula.specs.InnerDecode.{decode}
@@ -42,11 +43,20 @@ use Rattle.matched.proofs.AcceptanceLaws.{pairable_walkable}
 use Rattle.matched.proofs.JudgeLaws.{judged_unmatched, unmatched_long, walkable_numberless}
 use Rattle.matched.proofs.PairingLaws.{array_masks, masks_words, matches_pairs, pairs_matches}
 
--- ---- what is counted
+-- ---- the loop that writes the masks of clauses
 
-map_padded : {A B : Type 0} (f : A → B) (n : ℕ) (d : A) (l : List A) → map f (padded n d l) ≡ padded n (f d) (map f l)
-unfolding padded
-map_padded f n d l = rw (map-append, map-replicate f (n - length l) d, length-map)
+module _ (cs : List Clause) (i : ℕ) (inside : i < length cs) (few : i < max_clauses) where
+  -- one clause more
+  pub masks_more : (sets : List ℕ) → sets ≡ padded max_clauses 0 (map clause_variables (take i cs))
+      → set sets i (clause_variables (get_or cs i no_clause)) ≡ padded max_clauses 0 (map clause_variables (take (i + 1) cs))
+  masks_more sets e =
+      let l = map clause_variables (take i cs) in
+      let k : length l ≡ i = length-map (take i cs) clause_variables ∙ length-take-le i cs (omega arith) in
+      let more : take (i + 1) cs ≡ take i cs ++ (get_or cs i no_clause ∷ []) = rw add-one (take-suc cs i no_clause inside) in
+      let n : map clause_variables (take (i + 1) cs) ≡ l ++ (clause_variables (get_or cs i no_clause) ∷ []) = rw (more, map-append) in
+      rw (e, n) (ap (λ (j : ℕ). set (padded max_clauses 0 l) j (clause_variables (get_or cs i no_clause))) (sym k) ∙ padded_set max_clauses 0 l _ (omega arith))
+
+-- ---- what is counted
 
 padded_words : (n : ℕ) (l : List ℕ) → length l ≤ n → Words l → Words (padded n 0 l)
 padded_words n l few W i h = by (dec_lt i (length l))
@@ -69,48 +79,37 @@ module _ (s : List ℕ) where
   clauses_less_most n cs e = readable_deficiency n cs e ∙ rw (length-map cs variables)
 
   -- over the formula f that was read, and the array of its clauses' masks
-  module _ (f : Formula) (a : Accepts s f) (sets : List ℕ) (long : length sets ≡ max_clauses)
-      (at : (i : ℕ) → i < max_clauses → get_or sets i 0 ≡ clause_variables (get_or f.clauses i no_clause)) where
+  module _ (f : Formula) (a : Accepts s f) (sets : List ℕ) (is : sets ≡ padded max_clauses 0 (map clause_variables f.clauses.items)) where
     abbrev masks : List ℕ
     masks = map variables a.clauses
 
     array_is : sets ≡ padded max_clauses 0 masks
-    array_is =
-        let cs = map clause_of a.clauses in
-        let l = padded max_clauses no_clause cs in
-        let few : length cs ≤ max_clauses = omega (arith, length-map a.clauses clause_of, a.sized.few) in
-        let places : length l ≡ max_clauses = length_padded max_clauses no_clause cs few in
-        ext_get_or 0 sets (map clause_variables l) (long ∙ sym (length-map l clause_variables ∙ places))
-        (λ i h.
-        let k : i < max_clauses = rw long at h in
-        at i k ∙ rw a.formula (sym (get_or-map_in clause_variables l i no_clause 0 (rw places k))))
-        ∙ map_padded clause_variables max_clauses no_clause cs
-        ∙ ap (padded max_clauses 0) (sets_variables a.clauses)
+    array_is = is ∙ ap (padded max_clauses 0) (array_masks a.variables a.clauses f a.formula)
 
-    count_is : f.count ≡ length masks
-    count_is = ap (λ (g : Formula). g.count) a.formula ∙ sym (length-map a.clauses variables)
+    count_is : length f.clauses.items ≡ length masks
+    count_is = ap (λ (g : Formula). length g.clauses.items) a.formula ∙ length-map a.clauses clause_of ∙ sym (length-map a.clauses variables)
 
     few : length masks ≤ max_clauses
     few = omega (arith, count_is, a.fits.few)
 
-    pub masks_clauses : Clauses sets f.count
+    pub masks_clauses : Clauses sets (length f.clauses.items)
     masks_clauses = record {
       few = a.fits.few;
       present = omega (arith, ap length array_is, length_padded max_clauses 0 masks few, a.fits.few);
       words = rw array_is (padded_words max_clauses masks few (masks_words a.sized));
     }
 
-    taken_is : take f.count sets ≡ masks
+    taken_is : take (length f.clauses.items) sets ≡ masks
     taken_is = rw (array_is, count_is) (take_padded max_clauses 0 masks)
 
-    pub counted_deficiency : (k : ℕ) → k ≡ most (take f.count sets) → deficiency_of s ≡ measured (f.count - k)
+    pub counted_deficiency : (k : ℕ) → k ≡ most (take (length f.clauses.items) sets) → deficiency_of s ≡ measured (length f.clauses.items - k)
     unfolding deficiency
     counted_deficiency k e =
         let m : k ≡ most masks = e ∙ ap most taken_is in
         readable_deficiency a.variables a.clauses a.reads ∙ rw (m, count_is)
 
     -- no more are matched than there are
-    pub counted_few : (k : ℕ) → k ≡ most (take f.count sets) → k ≤ f.count
+    pub counted_few : (k : ℕ) → k ≡ most (take (length f.clauses.items) sets) → k ≤ length f.clauses.items
     counted_few k e =
         let t = most_attained masks (masks_words a.sized) in
         omega (arith, e ∙ ap most taken_is, t.3, sub_length t.1, count_is)

@@ -4,7 +4,7 @@ use mathlib.Core.List.{List, map}
 use mathlib.Core.Path.{◌≡◌, refl, sym, ap, ◌∙◌}
 use native.Mathlib.Decide.{dec_lt}
 use native.Mathlib.Omega.{arith}
-use lib.ListN.{length, take}
+use lib.ListN.{length-map, length, take}
 use borrow.Author.Tests.{le-ltb, lt-ltb}
 use Rattle.std.specs.Prelude.{Ok, Err}
 use Rattle.limits.specs.Limits.{max_clauses}
@@ -13,7 +13,7 @@ use Rattle.lists.proofs.PaddedLaws.{take_padded}
 use Rattle.formula.specs.declared.Refusal.{Refusal}
 use Rattle.formula.specs.declared.Refusal.TheVariants.{ShortBuffer}
 use Rattle.formula.specs.Format.{Literal, Encodes}
-use Rattle.formula.specs.InnerMasked.{formula_of}
+use Rattle.formula.specs.InnerMasked.{clause_of, formula_of}
 use Rattle.formula.specs.Refusals.{table_row}
 use Rattle.assumptions.specs.declared.Assumption.{Assumption}
 use Rattle.assumptions.specs.FirstBad.{NoneBad, FirstBad}
@@ -21,7 +21,8 @@ use Rattle.assumptions.specs.Assumed.{literal_of}
 use Rattle.matched.specs.declared.Accepted.{Accepted}
 use Rattle.matched.specs.declared.Declined.{Declined}
 use Rattle.matched.specs.Acceptance.{Acceptance, accepted, declined, acceptance}
-use Rattle.matched.specs.InnerAccept.{row_held, held_acceptance}
+use Rattle.arrayvec.specs.ArrayVec.{ArrayVec as Items}
+use Rattle.matched.specs.InnerAccept.{held_acceptance}
 use Rattle.matched.specs.Judge.{JudgementValues, Judged, accepted_values, refused_values, judgement_of, judge}
 use Rattle.matched.specs.Pairing.{Pairs, left_of, Walkable}
 use Rattle.matched.proofs.AcceptanceLaws.{accepted_walkable, walkable_accepted, declined_number, declined_unmatched, declined_bad}
@@ -50,27 +51,27 @@ module _ (s : List ℕ) (us : List Assumption) (b : List ℕ) (l : max_clauses �
   -- ---- the code
 
   pub accepted_judged : (r : Accepted) → held_acceptance (acceptance s us) ≡ Ok r
-      → judge s us b ≡ record { answer = accepted_values r.formula.variables r.formula.count; buffer = over (take r.row.length r.row.table) b }
+      → judge s us b ≡ record { answer = accepted_values r.formula.variables (length r.formula.clauses.items); buffer = over r.row.items b }
   accepted_judged r q = rw judge_long (by (acceptance s us) q)
     where
       by : (a : Acceptance) → held_acceptance a ≡ Ok r
-          → judgement_of a b ≡ record { answer = accepted_values r.formula.variables r.formula.count; buffer = over (take r.row.length r.row.table) b }
+          → judgement_of a b ≡ record { answer = accepted_values r.formula.variables (length r.formula.clauses.items); buffer = over r.row.items b }
       by (accepted n t cs row) q =
           let f : formula_of n cs ≡ r.formula = cc in
-          let w : row_held row ≡ r.row = cc in
-          rw (← f, ← w, take_padded max_clauses 0 row)
+          let w : row ≡ r.row.items = ap (λ (x : Items ℕ). x.items) cc in
+          rw (← f, ← w, length-map cs clause_of)
       by (declined e row) q = absurd cc
 
   pub declined_judged : (d : Declined) → held_acceptance (acceptance s us) ≡ Err d
-      → judge s us b ≡ record { answer = refused_values d.refusal; buffer = over (take d.row.length d.row.table) b }
+      → judge s us b ≡ record { answer = refused_values d.refusal; buffer = over d.row.items b }
   declined_judged d q = rw judge_long (by (acceptance s us) q)
     where
-      by : (a : Acceptance) → held_acceptance a ≡ Err d → judgement_of a b ≡ record { answer = refused_values d.refusal; buffer = over (take d.row.length d.row.table) b }
+      by : (a : Acceptance) → held_acceptance a ≡ Err d → judgement_of a b ≡ record { answer = refused_values d.refusal; buffer = over d.row.items b }
       by (accepted n t cs row) q = absurd cc
       by (declined e row) q =
           let f : e ≡ d.refusal = cc in
-          let w : row_held row ≡ d.row = cc in
-          rw (← f, ← w, take_padded max_clauses 0 row)
+          let w : row ≡ d.row.items = ap (λ (x : Items ℕ). x.items) cc in
+          rw (← f, ← w)
 
   -- ---- the demands
 

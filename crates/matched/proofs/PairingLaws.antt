@@ -41,10 +41,8 @@ masks_words {n} {cs} z i l =
     rw (mask_at cs i) (omega (arith, variables_lt n (get_or cs i []) (every_get_or (ClauseOver n) cs i [] m z.clauses).below))
 
 -- the masks that a formula has in its array are those of its clauses
-pub array_masks : (n : ℕ) (cs : List (List Literal)) (f : Formula) → f ≡ formula_of n cs → map clause_variables (take f.count f.clauses) ≡ map variables cs
-array_masks n cs f e =
-    let h : take (length cs) (formula_of n cs).clauses ≡ map clause_of cs = rw (← length-map cs clause_of) (take_padded max_clauses no_clause (map clause_of cs)) in
-    ap (λ (g : Formula). map clause_variables (take g.count g.clauses)) e ∙ ap (map clause_variables) h ∙ sets_variables cs
+pub array_masks : (n : ℕ) (cs : List (List Literal)) (f : Formula) → f ≡ formula_of n cs → map clause_variables f.clauses.items ≡ map variables cs
+array_masks n cs f e = ap (λ (g : Formula). map clause_variables g.clauses.items) e ∙ sets_variables cs
 
 -- ---- what clauses together name
 

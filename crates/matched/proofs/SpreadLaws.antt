@@ -35,27 +35,22 @@ module _ (l more : List ℕ) (i x : ℕ) (e : length l ≡ i) (m : more ≡ l ++
 
 -- ---- the loop that spreads
 
-module _ (cs : List Clause) (a : Assignment) (answers : List ℕ) (k i next : ℕ) (table : List ℕ)
-    (counted : next ≡ open_before cs a i) (written : table ≡ padded max_clauses 0 (bytes_at cs a answers k i)) (inside : i < max_clauses) where
+-- a byte for each clause
+pub bytes_length : (cs : List Clause) (a : Assignment) (answers : List ℕ) (k n : ℕ) → length (bytes_at cs a answers k n) ≡ n
+bytes_length cs a answers k n = length_tabulated (byte_at cs a answers k) n
+
+module _ (cs : List Clause) (a : Assignment) (answers : List ℕ) (k i next : ℕ) (row : List ℕ)
+    (counted : next ≡ open_before cs a i) (written : row ≡ bytes_at cs a answers k i) where
   -- a clause that is not satisfied gets the next answer
   pub spread_open : satisfied_under a (get_or cs i no_clause) ≡ false
-      → (next + 1 ≡ open_before cs a (i + 1)) × (set table i (get_or answers next 0 + k) ≡ padded max_clauses 0 (bytes_at cs a answers k (i + 1)))
+      → (next + 1 ≡ open_before cs a (i + 1)) × (row ++ ((get_or answers next 0 + k) ∷ []) ≡ bytes_at cs a answers k (i + 1))
   unfolding open_before
-  spread_open e = (
-    rw (add-one i, e, ← counted) (omega arith),
-    padded_more (bytes_at cs a answers k i) (bytes_at cs a answers k (i + 1)) i (get_or answers next 0 + k) (length_tabulated (byte_at cs a answers k) i)
-        (tabulated_more (byte_at cs a answers k) i ∙ rw (e, ← counted)) table max_clauses 0 written inside,
-  )
+  spread_open e = (rw (add-one i, e, ← counted) (omega arith), rw written (sym (tabulated_more (byte_at cs a answers k) i ∙ rw (e, ← counted))))
 
-  -- a satisfied one keeps its 0
-  pub spread_gone : satisfied_under a (get_or cs i no_clause) ≡ true → (next ≡ open_before cs a (i + 1)) × (table ≡ padded max_clauses 0 (bytes_at cs a answers k (i + 1)))
+  -- a satisfied one gets 0
+  pub spread_gone : satisfied_under a (get_or cs i no_clause) ≡ true → (next ≡ open_before cs a (i + 1)) × (row ++ (0 ∷ []) ≡ bytes_at cs a answers k (i + 1))
   unfolding open_before
-  spread_gone e = (
-    rw (add-one i, e) counted,
-    written
-        ∙ sym (ap (padded max_clauses 0) (tabulated_more (byte_at cs a answers k) i ∙ rw e)
-        ∙ padded_filled max_clauses 0 (bytes_at cs a answers k i) (let z = length_tabulated (byte_at cs a answers k) i in omega arith)),
-  )
+  spread_gone e = (rw (add-one i, e) counted, rw written (sym (tabulated_more (byte_at cs a answers k) i ∙ rw e)))
 
 -- ---- the clauses that ask, by their places
 
@@ -241,26 +236,20 @@ open_asking u f (c ∷ cs) s (suc i) h =
     at false = refl
 
 module _ (n : ℕ) (cs : List (List Literal)) where
-  abbrev array : List Clause
-  array = (formula_of n cs).clauses
+  abbrev masks : List Clause
+  masks = map clause_of cs
 
-  -- the clauses of a formula in masks
-  pub array_at : (i : ℕ) → i < length cs → get_or array i no_clause ≡ clause_of (get_or cs i [])
+  -- the masks of a clause
+  pub masks_at : (i : ℕ) → get_or masks i no_clause ≡ clause_of (get_or cs i [])
   unfolding with_literals
-  array_at i h = get_or_padded max_clauses no_clause (map clause_of cs) i no_clause (rw (length-map cs clause_of) h) ∙ get_or-map clause_of cs i []
-
-  array_open : (a : Assignment) (i : ℕ) → i ≤ length cs → open_before array a i ≡ open_before (map clause_of cs) a i
-  unfolding open_before with_literals
-  array_open a zero h = refl
-  array_open a (suc i) h =
-      rw (get_or_padded max_clauses no_clause (map clause_of cs) i no_clause (rw (length-map cs clause_of) h), array_open a i (omega arith))
+  masks_at i = get_or-map clause_of cs i []
 
   -- the answers of what remains under u, spread over the clauses, 0 for those that u satisfies
   pub spread_bytes : (u : List Literal) → distinct u ≡ true → (f : List Literal → RowByte) → Every (λ c. f c ≡ cond (satisfied_by u c) (known 0) asked) cs
       → (l : List ℕ) (k : ℕ) → length l ≡ length (remaining u cs)
-      → bytes_at array (assignment_of u) (padded max_clauses 0 l) k (length cs) ≡ spread f cs (raised k l)
+      → bytes_at masks (assignment_of u) (padded max_clauses 0 l) k (length cs) ≡ spread f cs (raised k l)
   spread_bytes u once f zeros l k e =
-      sym (tabulated_of (byte_at array (assignment_of u) (padded max_clauses 0 l) k) (length cs) (spread f cs (raised k l)) 0 (spread_length f cs (raised k l)) same)
+      sym (tabulated_of (byte_at masks (assignment_of u) (padded max_clauses 0 l) k) (length cs) (spread f cs (raised k l)) 0 (spread_length f cs (raised k l)) same)
     where
       s : Sieves u f cs
       s = zeros_sieve u f cs zeros
@@ -272,10 +261,10 @@ module _ (n : ℕ) (cs : List (List Literal)) where
           let m : asking f cs i < length l = rw e (asking_place u once f cs s i h (ap asks z)) in
           get_or-map_in (λ x. x + k) l (asking f cs i) 0 0 m ∙ rw (get_or_padded max_clauses 0 l (asking f cs i) 0 m)
 
-      same : (i : ℕ) → i < length cs → get_or (spread f cs (raised k l)) i 0 ≡ byte_at array (assignment_of u) (padded max_clauses 0 l) k i
+      same : (i : ℕ) → i < length cs → get_or (spread f cs (raised k l)) i 0 ≡ byte_at masks (assignment_of u) (padded max_clauses 0 l) k i
       same i h =
           let z = every_get_or (λ c. f c ≡ cond (satisfied_by u c) (known 0) asked) cs i [] h zeros in
           spread_byte f cs (raised k l) i h
           ∙ ap (λ (b : RowByte). answered b (get_or (raised k l) (asking f cs i) 0)) z
           ∙ at i h (satisfied_by u (get_or cs i [])) refl z
-          ∙ sym (rw (array_at i h, array_open (assignment_of u) i (omega arith), satisfied_masks u (get_or cs i []), open_asking u f cs s i (omega arith)) refl)
+          ∙ sym (rw (masks_at i, satisfied_masks u (get_or cs i []), open_asking u f cs s i (omega arith)) refl)

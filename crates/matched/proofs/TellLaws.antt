@@ -10,6 +10,7 @@ use lib.Seq.{length-take-le, get_or-take, drop-cons, drop-length}
 use Rattle.limits.specs.Limits.{max_clauses}
 use Rattle.lists.specs.Padded.{padded}
 use Rattle.lists.proofs.TabulatedLaws.{length_tabulated, tabulated_more}
+use Rattle.lists.proofs.EveryLaws.{every_get_or}
 use Rattle.masks.specs.Mask.{bit}
 use Rattle.formula.specs.declared.assignment.Assignment.{Assignment}
 use Rattle.formula.specs.declared.Clause.{Clause}
@@ -52,15 +53,10 @@ first_small (v ∷ l) m h = at (bit m v) (first_small l m (λ i k. h (suc i) (om
     at false k = k
 
 pub first_noted_small : (s : Stripping) (c : Clause) → NotesFit s → first_noted s c < 64
-first_noted_small s c f =
-    first_small (take s.count s.order) (clause_variables c)
-    (λ i h. let k : i < s.count = rw (length-take-le s.count s.order f.inside) at h in rw (get_or-take s.count s.order i 0 k) (f.low i k))
+first_noted_small s c f = first_small s.order.items (clause_variables c) (λ i h. every_get_or (λ v. v < 64) s.order.items i 0 h f)
 
 -- ---- the clauses
 
-pub told_more : (cs : List Clause) (a : Assignment) (s : Stripping) (table : List ℕ) (i x : ℕ) (told : List ℕ) → told ≡ padded max_clauses 0 (told_bytes cs a s table i)
-    → i < max_clauses → x ≡ told_byte a s (get_or cs i no_clause) (get_or table i 0) → set told i x ≡ padded max_clauses 0 (told_bytes cs a s table (i + 1))
-told_more cs a s table i x told w h e =
-    let g : ℕ → ℕ = λ j. told_byte a s (get_or cs j no_clause) (get_or table j 0) in
-    padded_more (told_bytes cs a s table i) (told_bytes cs a s table (i + 1)) i x (length_tabulated g i)
-    (tabulated_more g i ∙ ap (λ (y : ℕ). told_bytes cs a s table i ++ (y ∷ [])) (sym e)) told max_clauses 0 w h
+pub told_more : (cs : List Clause) (a : Assignment) (s : Stripping) (row : List ℕ) (i x : ℕ) (told : List ℕ) → told ≡ told_bytes cs a s row i
+    → x ≡ told_byte a s (get_or cs i no_clause) (get_or row i 0) → told ++ (x ∷ []) ≡ told_bytes cs a s row (i + 1)
+told_more cs a s row i x told w e = rw (w, e) (sym (tabulated_more (λ j. told_byte a s (get_or cs j no_clause) (get_or row j 0)) i))

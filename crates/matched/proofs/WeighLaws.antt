@@ -9,7 +9,7 @@ use native.Mathlib.Numerals.{add-one}
 use native.Mathlib.Omega.{arith}
 use lib.Bits.{bit_or, or_zero_r}
 use lib.Dec.{eqb}
-use lib.ListN.{length, get_or, take, drop, length-append}
+use lib.ListN.{length-map, length, get_or, take, drop, length-append}
 use lib.Seq.{length-take-le, take-suc}
 use borrow.Author.Tests.{le-ltb, lt-ltb, eq-eqb, ne_eqb}
 use Rattle.std.specs.Prelude.{Result, Ok, Err, count_by}
@@ -30,6 +30,7 @@ use Rattle.formula.specs.Decoding.{readable, refused}
 use Rattle.formula.specs.Format.{Literal}
 use Rattle.formula.specs.Masked.{variables}
 use Rattle.formula.specs.InnerAssignment.{assigned}
+use Rattle.formula.specs.InnerMasked.{clause_of}
 use Rattle.formula.specs.InnerFits.{clause_variables}
 use Rattle.formula.proofs.Demands.{accepted_fits}
 use Rattle.formula.proofs.MaskedLaws.{Accepts}
@@ -123,17 +124,17 @@ module _ (s : List ℕ) (us : List Assumption) (b : List ℕ) (l : max_clauses �
     bad_weighed r e = let g = given_bad s us u given n cs a.reads r e in rw g.2 (weigh_bad n cs a.reads g.0 g.1)
 
     -- as many marks as marked clauses
-    counted : count_by (λ x. not (eqb x 0)) (take f.count b) ≡ length (marked b cs)
+    counted : count_by (λ x. not (eqb x 0)) (take (length f.clauses.items) b) ≡ length (marked b cs)
     counted =
-        let e : f.count ≡ length cs = ap (λ (g : Formula). g.count) a.formula in
+        let e : length f.clauses.items ≡ length cs = ap (λ (g : Formula). length g.clauses.items) a.formula ∙ length-map cs clause_of in
         ap (λ (k : ℕ). count_by (λ x. not (eqb x 0)) (take k b)) e ∙ marked_count b cs (omega (arith, e, a.fits.few))
 
     -- the masks of the marked clauses
-    gathered : selected b (map clause_variables (take f.count f.clauses)) ≡ map variables (marked b cs)
+    gathered : selected b (map clause_variables f.clauses.items) ≡ map variables (marked b cs)
     gathered = ap (selected b) (array_masks n cs f a.formula) ∙ selected_map variables b cs
 
-    pub counted_weighed : (z : Assignment) → u ≡ Ok z → (k m : ℕ) → k ≡ count_by (λ x. not (eqb x 0)) (take f.count b)
-        → m ≡ union (selected b (map clause_variables (take f.count f.clauses)))
+    pub counted_weighed : (z : Assignment) → u ≡ Ok z → (k m : ℕ) → k ≡ count_by (λ x. not (eqb x 0)) (take (length f.clauses.items) b)
+        → m ≡ union (selected b (map clause_variables f.clauses.items))
         → weighed s us b ≡ counted_values k (size (minus m (assigned z)))
     counted_weighed z e k m p q =
         let g = given_literals s us u given n cs a.reads z e in

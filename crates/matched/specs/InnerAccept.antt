@@ -1,7 +1,6 @@
 -- What comes of an input as the code holds it.
 use Rattle.std.specs.Prelude.{ℕ, ◌+◌, List, [], map, ◌≡◌, length, Result, Ok, Err}
-use Rattle.limits.specs.Limits.{max_clauses}
-use Rattle.lists.specs.Padded.{padded}
+use Rattle.arrayvec.specs.ArrayVec.{ArrayVec as Items}
 use Rattle.formula.specs.declared.Formula.{Formula}
 use Rattle.formula.specs.declared.Refusal.{Refusal}
 use Rattle.formula.specs.InnerDecode.{decode}
@@ -14,7 +13,6 @@ use Rattle.assumptions.specs.Assumed.{literals, assumed}
 use Rattle.splitting.specs.InnerChoose.{assignment_of}
 use Rattle.matched.specs.declared.Accepted.{Accepted}
 use Rattle.matched.specs.declared.Declined.{Declined}
-use Rattle.matched.specs.declared.Row.{Row}
 use Rattle.matched.specs.Acceptance.{Acceptance, accepted, declined, acceptance}
 
 abbrev pub row_of : Acceptance → List ℕ
@@ -25,23 +23,19 @@ row_of (declined r row) = row
 abbrev pub raised : ℕ → List ℕ → List ℕ
 raised k l = map (λ x. x + k) l
 
--- a row: its bytes are the table's first, and zeros follow
-abbrev pub row_held : List ℕ → Row
-row_held row = record { length = length row; table = padded max_clauses 0 row }
-
 -- a refusal without bytes
 abbrev pub refused_row : Refusal → Declined
-refused_row r = record { refusal = r; row = row_held [] }
+refused_row r = record { refusal = r; row = record { items = [] } }
 
 -- what comes of a formula: its row, or the refusal and the row beside it
-abbrev pub held_row : Acceptance → Result Row Declined
-held_row (accepted n t cs row) = Ok (row_held row)
-held_row (declined r row) = Err (record { refusal = r; row = row_held row })
+abbrev pub held_row : Acceptance → Result (Items ℕ) Declined
+held_row (accepted n t cs row) = Ok (record { items = row })
+held_row (declined r row) = Err (record { refusal = r; row = record { items = row } })
 
 -- what comes of an input
 abbrev pub held_acceptance : Acceptance → Result Accepted Declined
-held_acceptance (accepted n t cs row) = Ok (record { formula = formula_of n cs; assignment = assignment_of t; row = row_held row })
-held_acceptance (declined r row) = Err (record { refusal = r; row = row_held row })
+held_acceptance (accepted n t cs row) = Ok (record { formula = formula_of n cs; assignment = assignment_of t; row = record { items = row } })
+held_acceptance (declined r row) = Err (record { refusal = r; row = record { items = row } })
 
 -- the input is accepted under the assumptions, whose literals are the trail, and f is its formula in masks
 pub record Takes (s : List ℕ) (us : List Assumption) (f : Formula) : Type 0 where

@@ -1,6 +1,6 @@
 -- What the code of accept computes on the way.
 use Rattle.std.specs.Prelude.{ℕ, zero, suc, ◌+◌, ◌≤◌, ◌<◌, not, cond, ◌&&◌, List, [], ◌∷◌, length, get_or, take}
-use Rattle.limits.specs.Limits.{max_variables}
+use Rattle.lists.specs.Every.{Every}
 use Rattle.lists.specs.Tabulated.{tabulated}
 use Rattle.masks.specs.Mask.{bit}
 use Rattle.formula.specs.declared.assignment.Assignment.{Assignment}
@@ -26,11 +26,9 @@ module _ (cs : List Clause) (a : Assignment) where
 
 -- ---- the clauses that stripping dropped
 
--- the noted variables stand in the array, and fit a mask
-pub record NotesFit (s : Stripping) : Type 0 where
-  pub few : s.count ≤ max_variables
-  pub inside : s.count ≤ length s.order
-  pub low : (i : ℕ) → i < s.count → get_or s.order i 0 < 64
+-- the noted variables fit a mask
+abbrev pub NotesFit : Stripping → Type 0
+NotesFit s = Every (λ v. v < 64) s.order.items
 
 -- the first of a list of variables that a mask has, 0 if it has none
 unfoldable pub first_in : List ℕ → ℕ → ℕ
@@ -39,7 +37,7 @@ first_in (v ∷ vs) m = cond (bit m v) v (first_in vs m)
 
 -- the first noted variable that a clause names
 abbrev pub first_noted : Stripping → Clause → ℕ
-first_noted s c = first_in (take s.count s.order) (clause_variables c)
+first_noted s c = first_in s.order.items (clause_variables c)
 
 -- the byte of a clause: 129 and the variable that drops it, if it is satisfied with the noted variables only; else x
 abbrev pub told_byte : Assignment → Stripping → Clause → ℕ → ℕ

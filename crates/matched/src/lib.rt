@@ -20,38 +20,32 @@ ghost use Rattle.splitting.specs.Nodes.{remaining};
 ghost use Rattle.splitting.specs.Stripping.{stripped};
 ghost use Rattle.matched.specs.Acceptance.{acceptance, by_stripped, formula_acceptance};
 ghost use Rattle.matched.specs.Deficiency.{measured_values, deficiency_of};
-ghost use Rattle.matched.specs.InnerAccept.{held_acceptance, held_row, row_held, refused_row};
+ghost use Rattle.matched.specs.InnerAccept.{held_acceptance, held_row, refused_row};
 ghost use Rattle.matched.specs.InnerSpread.{bytes_at, NotesFit, first_noted, told_byte, told_bytes};
 ghost use Rattle.matched.specs.Judge.{judgement_values, judge};
 ghost use Rattle.matched.specs.Weigh.{weighed_values, weighed};
 
+use arrayvec::ArrayVec;
 use assumptions::Assumption;
 use formula::{Assignment, Clause, Formula, Refusal};
 use limits::MAX_CLAUSES;
 use splitting::Stripping;
 
-// A byte for each clause of an input, the first `length` of the table; zeros follow. Of an accepted input: 0 if an assumption satisfies
-// the clause, else its variable, from 1, or, if stripping dropped it, 128 plus the variable that dropped it. Where what stripping leaves
-// can't be matched: 1 for a marked clause and 0 for another.
-#[derive(Clone, Copy)]
-pub struct Row {
-    pub length: usize,
-    pub table: [u8; MAX_CLAUSES],
-}
-
-// An accepted input: its formula, what is assumed, and its row.
-#[derive(Clone, Copy)]
+// An accepted input: its formula, what is assumed, and a byte for each clause: 0 if an assumption satisfies it, else its variable,
+// from 1, or, if stripping dropped it, 128 plus the variable that dropped it.
+#[derive(Drop)]
 pub struct Accepted {
     pub formula: Formula,
     pub assignment: Assignment,
-    pub row: Row,
+    pub row: ArrayVec<u8, MAX_CLAUSES>,
 }
 
-// A refused input: the refusal and, where what stripping leaves can't be matched, the row of the marks; else the row has no bytes.
-#[derive(Clone, Copy)]
+// A refused input: the refusal and, where what stripping leaves can't be matched, a byte for each clause: 1 if it is marked, else 0.
+// Beside another refusal are no bytes.
+#[derive(Drop)]
 pub struct Declined {
     pub refusal: Refusal,
-    pub row: Row,
+    pub row: ArrayVec<u8, MAX_CLAUSES>,
 }
 
 // How large a formula is: the numbers of its variables and of its clauses.
@@ -75,10 +69,7 @@ impl From<Refusal> for Declined {
     fn from(refusal: Refusal) -> Declined {
         Declined {
             refusal,
-            row: Row {
-                length: 0,
-                table: [0u8; MAX_CLAUSES],
-            },
+            row: ArrayVec::new(),
         }
     }
 }
@@ -93,19 +84,21 @@ impl From<Declined> for Refusal {
 }
 
 // A byte for each clause: 0 if the assignment satisfies it, and for the others, in order, what the answers have, raised by k.
-fn spread(f: &Formula, a: Assignment, answers: [u8; MAX_CLAUSES], k: u8) -> [u8; MAX_CLAUSES]
-    requires { (f.now.count ≤ max_clauses) × ((i : ℕ) → i < max_clauses → get_or answers i 0 + k < 256) }
-    ensures { result ≡ padded max_clauses 0 (bytes_at f.now.clauses a answers k f.now.count) }
+fn spread(f: &Formula, a: Assignment, answers: &[u8; MAX_CLAUSES], k: u8) -> ArrayVec<u8, MAX_CLAUSES>
+    requires { (i : ℕ) → i < max_clauses → get_or answers.now i 0 + k < 256 }
+    ensures { result.items ≡ bytes_at f.now.clauses.items a answers.now k (length f.now.clauses.items) }
 {
-    let mut table = [0u8; MAX_CLAUSES];
+    let mut row = ArrayVec::new();
     let mut next: usize = 0;
-    for (i, c) in f.clauses[..f.count].iter().enumerate() {
-        if !a.satisfies(*c) {
-            table[i] = answers[next] + k;
+    for c in f.clauses.as_slice() {
+        if a.satisfies(*c) {
+            row.push(0);
+        } else {
+            row.push(answers[next] + k);
             next += 1;
         }
     }
-    table
+    row
 }
 
 // The first noted variable that the clause names, 0 if it names none.
@@ -113,7 +106,7 @@ fn first_noted(s: &Stripping, c: Clause) -> u8
     requires { NotesFit s.now }
     ensures { result ≡ first_noted s.now c }
 {
-    for v in &s.order[..s.count] {
+    for v in s.order.as_slice() {
         if masks::member(c.variables(), usize::from(*v)) {
             return *v;
         }
@@ -132,56 +125,45 @@ fn tell(a: Assignment, s: &Stripping, c: Clause, byte: u8) -> u8
     byte
 }
 
-// The bytes of the clauses that stripping dropped, and those of the others as in the table.
-fn tell_dropped(
-    f: &Formula,
-    a: Assignment,
-    s: &Stripping,
-    table: [u8; MAX_CLAUSES],
-) -> [u8; MAX_CLAUSES]
-    requires { (f.now.count ≤ max_clauses) × NotesFit s.now }
-    ensures { result ≡ padded max_clauses 0 (told_bytes f.now.clauses a s.now table f.now.count) }
+// The bytes of the clauses that stripping dropped, and those of the others as they are.
+fn tell_dropped(f: &Formula, a: Assignment, s: &Stripping, row: &[u8]) -> ArrayVec<u8, MAX_CLAUSES>
+    requires { (length f.now.clauses.items ≤ length row.now) × NotesFit s.now }
+    ensures { result.items ≡ told_bytes f.now.clauses.items a s.now row.now (length f.now.clauses.items) }
 {
-    let mut told = [0u8; MAX_CLAUSES];
-    for (i, c) in f.clauses[..f.count].iter().enumerate() {
-        told[i] = tell(a, s, *c, table[i]);
+    let mut told = ArrayVec::new();
+    for (i, c) in f.clauses.as_slice().iter().enumerate() {
+        told.push(tell(a, s, *c, row[i]));
     }
     told
 }
 
 // S18.1: what comes of a formula of which what remains is not matched: what stripping leaves of it is matched.
-fn strip_row(f: &Formula, a: Assignment) -> Result<Row, Declined>
+fn strip_row(f: &Formula, a: Assignment) -> Result<ArrayVec<u8, MAX_CLAUSES>, Declined>
     requires { FormulaFits f.now }
     ensures { (n : ℕ) (t : List Literal) (cs : List (List Literal)) → Sized n cs → ClauseOver n t → f.now ≡ formula_of n cs → a ≡ assignment_of t
         → result ≡ held_row (by_stripped n t cs (stripped n (remaining t cs))) }
 {
     let s = splitting::strip(f, a);
     match splitting::match_open(f, s.assignment).found {
-        Ok(answers) => Ok(Row {
-            length: f.count,
-            table: tell_dropped(f, a, &s, spread(f, s.assignment, answers, 1)),
-        }),
+        Ok(answers) => {
+            let row = spread(f, s.assignment, &answers, 1);
+            Ok(tell_dropped(f, a, &s, row.as_slice()))
+        }
         Err(violator) => Err(Declined {
             refusal: Refusal::Unmatched(violator.size),
-            row: Row {
-                length: f.count,
-                table: spread(f, s.assignment, violator.marks, 0),
-            },
+            row: spread(f, s.assignment, &violator.marks, 0),
         }),
     }
 }
 
 // What comes of a formula that was read, under assumptions of which none is bad: what remains is matched whole, or stripped.
-fn match_row(f: &Formula, a: Assignment) -> Result<Row, Declined>
+fn match_row(f: &Formula, a: Assignment) -> Result<ArrayVec<u8, MAX_CLAUSES>, Declined>
     requires { FormulaFits f.now }
     ensures { (n : ℕ) (t : List Literal) (cs : List (List Literal)) → Sized n cs → ClauseOver n t → f.now ≡ formula_of n cs → a ≡ assignment_of t
         → result ≡ held_row (formula_acceptance n t cs) }
 {
     match splitting::match_open(f, a).found {
-        Ok(answers) => Ok(Row {
-            length: f.count,
-            table: spread(f, a, answers, 1),
-        }),
+        Ok(answers) => Ok(spread(f, a, &answers, 1)),
         Err(_) => strip_row(f, a),
     }
 }
@@ -202,11 +184,11 @@ pub fn accept(input: &[u8], u: Result<Assignment, Refusal>) -> Result<Accepted, 
 }
 
 // Writes the row over the first bytes of the buffer.
-fn write(row: &Row, buffer: &mut [u8])
-    requires { (row.now.length ≤ max_clauses) × (max_clauses ≤ length buffer.old) }
-    ensures { buffer.new ≡ over (take row.now.length row.now.table) buffer.old }
+fn write(row: &[u8], buffer: &mut [u8])
+    requires { length row.now ≤ length buffer.old }
+    ensures { buffer.new ≡ over row.now buffer.old }
 {
-    buffer[..row.length].copy_from_slice(&row.table[..row.length]);
+    buffer[..row.len()].copy_from_slice(row);
 }
 
 // S5.7: the act judge, over the masks of the assumptions: the numbers of variables and clauses and, in the buffer, the matching; or the
@@ -226,14 +208,14 @@ pub fn find_matching_under(
     }
     match accept(input, u) {
         Ok(accepted) => {
-            write(&accepted.row, buffer);
+            write(accepted.row.as_slice(), buffer);
             Ok(Sizes {
                 variables: accepted.formula.variables,
-                clauses: accepted.formula.count,
+                clauses: accepted.formula.clauses.len(),
             })
         }
         Err(declined) => {
-            write(&declined.row, buffer);
+            write(declined.row.as_slice(), buffer);
             Err(declined.refusal)
         }
     }
@@ -257,11 +239,10 @@ fn count_marked(marks: &[u8]) -> usize
 
 // The variables that the marked clauses name, gathered in one mask (S20.2; request: named switches of marked rules).
 fn named_by(f: &Formula, marks: &[u8]) -> u64
-    requires { (f.now.count ≤ max_clauses) × (f.now.count ≤ length marks.now) }
-    ensures { result ≡ union (selected marks.now (map clause_variables (take f.now.count f.now.clauses))) }
+    ensures { result ≡ union (selected marks.now (map clause_variables f.now.clauses.items)) }
 {
     let mut named: u64 = 0;
-    for (c, mark) in f.clauses[..f.count].iter().zip(marks) {
+    for (c, mark) in f.clauses.as_slice().iter().zip(marks) {
         if *mark != 0 {
             named |= c.variables();
         }
@@ -271,10 +252,10 @@ fn named_by(f: &Formula, marks: &[u8]) -> u64
 
 // The variables that the clauses of a formula name (S23.1): what they name if every one is marked.
 pub fn named(f: &Formula) -> u64
-    requires { f.now.count ≤ max_clauses }
-    ensures { result ≡ union (map clause_variables (take f.now.count f.now.clauses)) }
+    ensures { result ≡ union (map clause_variables f.now.clauses.items) }
 {
-    named_by(f, &[1u8; MAX_CLAUSES])
+    let marks = [1u8; MAX_CLAUSES];
+    named_by(f, &marks[..f.clauses.len()])
 }
 
 // S20.2: how much the marks of a buffer weigh, over the masks of the assumptions.
@@ -293,7 +274,7 @@ pub fn weigh_marks_under(
     let f = formula::decode(input)?;
     let assumed = u?.variables();
     Ok(Weight {
-        clauses: count_marked(&buffer[..f.count]),
+        clauses: count_marked(&buffer[..f.clauses.len()]),
         variables: masks::size(masks::minus(named_by(&f, buffer), assumed)),
     })
 }
@@ -307,11 +288,23 @@ pub fn weigh_marks(input: &[u8], list: &[Assumption], buffer: &[u8]) -> Result<W
     weigh_marks_under(input, u, buffer)
 }
 
+// The variables that each clause names, as masks, and zeros behind them.
+fn clause_masks(f: &Formula) -> [u64; MAX_CLAUSES]
+    ensures { result ≡ padded max_clauses 0 (map clause_variables f.now.clauses.items) }
+{
+    let mut sets = [0u64; MAX_CLAUSES];
+    for (i, c) in f.clauses.as_slice().iter().enumerate() {
+        sets[i] = c.variables();
+    }
+    sets
+}
+
 // S22.1: how many clauses are left over by the most that can be matched together, before stripping and with no assumption.
 pub fn deficiency(input: &[u8]) -> Result<usize, Refusal>
     ensures { measured_values result ≡ deficiency_of input.now }
 {
     let f = formula::decode(input)?;
-    let sets = f.clauses.map(Clause::variables);
-    Ok(f.count - matching::match_most(&sets, f.count))
+    let sets = clause_masks(&f);
+    let count = f.clauses.len();
+    Ok(count - matching::match_most(&sets, count))
 }

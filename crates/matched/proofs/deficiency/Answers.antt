@@ -2,23 +2,20 @@
 use borrow.Author.Rules.{rules}
 use Prim.Native.Nat.{ℕ, ◌<◌}
 use mathlib.Core.List.{map}
-use mathlib.Core.Path.{◌≡◌, sym, ◌∙◌}
-use lib.ListN.{get_or}
+use mathlib.Core.Path.{sym, ap, ◌∙◌}
+use lib.ListN.{take}
+use Rattle.matching.specs.Deficiency.{most}
 use Rattle.std.proofs.lemmas.Result.{err_from_is_err_and}
 use Rattle.formula.specs.InnerFits.{clause_variables}
 use Rattle.formula.specs.InnerMasked.{no_clause}
 use Rattle.formula.proofs.MaskedLaws.{Accepts, decoded_accepted, decoded_refused}
 use Rattle.matched.proofs.DeficiencyLaws.{unreadable_deficiency, masks_clauses, counted_deficiency, counted_few}
-use Rattle.matched.proofs.deficiency.Goals.{In_ok-f, After-map-sets}
+use Rattle.matched.proofs.deficiency.Goals.{In_ok-f}
 use Rattle.matched.proofs.deficiency.Goals as goal
 
 -- the formula that was read
 read : (c : In_ok-f) → Accepts c.args.input.now c.in_ok-f.f
 read c = decoded_accepted _ _ (sym c.decode.ensures ∙ c.in_ok-f.was)
-
--- the masks of its clauses
-masks : (c : After-map-sets) (i : ℕ) → i < 96 → get_or c.map-sets.result i 0 ≡ clause_variables (get_or c.in_ok-f.f.clauses i no_clause)
-masks c i h = let w = c.map-sets.ensures.items.at i no_clause 0 h in search rules
 
 -- ---- what is answered
 pub returns-in_err-f : goal.returns-in_err-f
@@ -29,15 +26,18 @@ returns-in_err-f c =
 pub returns : goal.returns
 returns c =
     let e = goal.at.returns c in
-    sym (counted_deficiency _ _ (read e.In_ok-f) _ c.map-sets.ensures.items.long (masks e.After-map-sets) _ c.match_most.ensures)
+    rw c.len-count.ensures.value
+    (sym (counted_deficiency _ _ (read e.In_ok-f) _ c.clause_masks-sets.ensures _ (c.match_most.ensures ∙ ap (λ (k : ℕ). most (take k c.clause_masks-sets.result)) c.len-count.ensures.value)))
 
 -- ---- what is asked on the way
 pub match_most-requires : goal.match_most-requires
 match_most-requires c =
     let e = goal.at.match_most-requires c in
-    masks_clauses _ _ (read e.In_ok-f) _ c.map-sets.ensures.items.long (masks e.After-map-sets)
+    rw c.len-count.ensures.value
+    (masks_clauses _ _ (read e.In_ok-f) _ c.clause_masks-sets.ensures)
 
 pub overflow_sub-result : goal.overflow_sub-result
 overflow_sub-result c =
     let e = goal.at.overflow_sub-result c in
-    counted_few _ _ (read e.In_ok-f) _ c.map-sets.ensures.items.long (masks e.After-map-sets) _ c.match_most.ensures
+    rw c.len-count.ensures.value
+    (counted_few _ _ (read e.In_ok-f) _ c.clause_masks-sets.ensures _ (c.match_most.ensures ∙ ap (λ (k : ℕ). most (take k c.clause_masks-sets.result)) c.len-count.ensures.value))

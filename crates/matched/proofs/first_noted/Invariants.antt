@@ -6,4 +6,4 @@ use Rattle.matched.specs.InnerSpread.{first_in, first_noted}
 use Rattle.matched.proofs.first_noted.Given as goal
 
 abbrev pub invariant-loop-v : goal.invariant-loop-v
-invariant-loop-v l = first_noted l.s l.c ≡ first_in (drop l.v-index (take l.s.count l.s.order)) (clause_variables l.c)
+invariant-loop-v l = first_noted l.s l.c ≡ first_in (drop l.v-index l.s.order.items) (clause_variables l.c)

@@ -4,7 +4,7 @@ use Rattle.matched.proofs.AcceptLaws.{variables_fit, whole_held, stripped_held}
 use Rattle.matched.proofs.match_row.Goals as goal
 
 pub spread-requires : goal.spread-requires
-spread-requires c = (c.requires.few, variables_fit _ c.requires _ _ c.match_open.ensures _ c.in-Ok.is)
+spread-requires c = variables_fit _ c.requires _ _ c.match_open.ensures _ c.in-Ok.is
 
 pub returns-in-Ok : goal.returns-in-Ok
 returns-in-Ok c n t cs z o q d =

@@ -10,4 +10,4 @@ use Rattle.matched.proofs.named_by.Given as goal
 abbrev pub invariant-loop-c : goal.invariant-loop-c
 invariant-loop-c l =
     bit_or l.named (union (selected l.c-iterator.b.rest.now (map clause_variables l.c-iterator.a.rest.now)))
-    ≡ union (selected l.marks (map clause_variables (take l.f.count l.f.clauses)))
+    ≡ union (selected l.marks (map clause_variables l.f.clauses.items))

@@ -6,5 +6,5 @@ use Rattle.lists.specs.Padded.{padded}
 use Rattle.matched.specs.InnerSpread.{open_before, bytes_at}
 use Rattle.matched.proofs.spread.Given as goal
 
-abbrev pub invariant-loop-i : goal.invariant-loop-i
-invariant-loop-i l = (l.next ≤ l.i) × (l.next ≡ open_before l.f.clauses l.a l.i) × (l.table ≡ padded max_clauses 0 (bytes_at l.f.clauses l.a l.answers l.k l.i))
+abbrev pub invariant-loop-c : goal.invariant-loop-c
+invariant-loop-c l = (l.next ≤ l.c-index) × (l.next ≡ open_before l.f.clauses.items l.a l.c-index) × (l.row.items ≡ bytes_at l.f.clauses.items l.a l.answers l.k l.c-index)

@@ -6,4 +6,4 @@ use Rattle.matched.specs.InnerSpread.{told_bytes}
 use Rattle.matched.proofs.tell_dropped.Given as goal
 
 abbrev pub invariant-loop-i : goal.invariant-loop-i
-invariant-loop-i l = l.told ≡ padded max_clauses 0 (told_bytes l.f.clauses l.a l.s l.table l.i)
+invariant-loop-i l = l.told.items ≡ told_bytes l.f.clauses.items l.a l.s l.row l.i

@@ -1,9 +1,12 @@
 -- `matched::weigh_marks_under` meets its contract: by the buffer's length, by the reader's answer, by the assumptions, and by what is
 -- counted and gathered.
-use Prim.Native.Nat.{◌≤◌}
+use Prim.Native.Nat.{ℕ, ◌≤◌}
 use native.Mathlib.Omega.{arith}
-use mathlib.Core.Path.{sym, ◌∙◌}
-use lib.ListN.{length}
+use mathlib.Core.Bool.{not}
+use mathlib.Core.Path.{sym, ap, ◌∙◌}
+use lib.Dec.{eqb}
+use lib.ListN.{length, take}
+use Rattle.std.specs.Prelude.{count_by}
 use lib.Seq.{length-take-le}
 use Rattle.std.proofs.lemmas.Result.{err_from_is_err_and}
 use Rattle.formula.proofs.MaskedLaws.{Accepts, decoded_accepted, decoded_refused}
@@ -16,7 +19,7 @@ read : (c : In_ok-f) → Accepts c.args.input.now c.in_ok-f.f
 read c = decoded_accepted _ _ (sym c.decode.ensures ∙ c.in_ok-f.was)
 
 -- the buffer has a byte for each clause
-bytes : (c : In_ok-f) → c.in_ok-f.f.count ≤ length c.args.buffer.now
+bytes : (c : In_ok-f) → length c.in_ok-f.f.clauses.items ≤ length c.args.buffer.now
 bytes c = let l = c.if-buffer-lt-MAX_CLAUSES.false in omega (arith, (read c).fits.few)
 
 -- ---- what is answered
@@ -39,11 +42,8 @@ pub returns : goal.returns
 returns c us g =
     rw (c.size.ensures, c.minus.ensures, c.variables-assumed.ensures)
     (sym (counted_weighed _ us _ c.if-buffer-lt-MAX_CLAUSES.false _ g _ (read (goal.at.returns c).In_ok-f) _ c.in_ok-u.was _ _
-    c.count_marked.ensures c.named_by.ensures))
+    (c.count_marked.ensures ∙ ap (λ (k : ℕ). count_by (λ x. not (eqb x 0)) (take k c.args.buffer.now)) c.len.ensures.value) c.named_by.ensures))
 
 -- ---- what is asked on the way
 pub slice_bounds-count_marked-end : goal.slice_bounds-count_marked-end
-slice_bounds-count_marked-end c = sym (length-take-le _ _ (bytes (goal.at.slice_bounds-count_marked-end c).In_ok-f))
-
-pub named_by-requires : goal.named_by-requires
-named_by-requires c = let e = (goal.at.named_by-requires c).In_ok-f in ((read e).fits.few, bytes e)
+slice_bounds-count_marked-end c = rw c.len.ensures.value (sym (length-take-le _ _ (bytes (goal.at.slice_bounds-count_marked-end c).In_ok-f)))

@@ -1,8 +1,8 @@
 -- A refusal makes a declined input without bytes.
-use mathlib.Core.Path.{refl}
-use Rattle.lists.specs.Padded.{padded}
+use mathlib.Core.List.{List}
+use mathlib.Core.Path.{ap}
+use Rattle.matched.specs.declared.Declined.{Declined}
 use Rattle.matched.proofs.DeclinedFromRefusal.from.Goals as goal
 
 pub returns : goal.returns
-unfolding padded
-returns c = refl
+returns c = ap (λ (l : List _). record { refusal = c.args.refusal; row = record { items = l } }) c.new.ensures
