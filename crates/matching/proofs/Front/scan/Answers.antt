@@ -22,7 +22,7 @@ see-front-requires c =
 pub returns-then-is_some : goal.returns-then-is_some
 returns-then-is_some c =
     let r = c.see-front in
-    going_found r.result r.new.trail c.without-rest.result c.loop-rest.invariant (next (goal.at.returns-then-is_some c).After-lowest-v) c.without-rest.ensures r.ensures
+    going_found r.result r.new.queue c.without-rest.result c.loop-rest.invariant (next (goal.at.returns-then-is_some c).After-lowest-v) c.without-rest.ensures r.ensures
     (sym c.is_some.ensures ∙ c.if-is_some.true)
 
 pub loop-rest-smaller : goal.loop-rest-smaller
@@ -32,7 +32,7 @@ loop-rest-smaller c =
 pub loop-rest-preserved : goal.loop-rest-preserved
 loop-rest-preserved c =
     let r = c.see-front in
-    going_on r.result r.new.trail c.without-rest.result c.loop-rest.invariant (next (goal.at.loop-rest-preserved c).After-lowest-v) c.without-rest.ensures r.ensures
+    going_on r.result r.new.queue c.without-rest.result c.loop-rest.invariant (next (goal.at.loop-rest-preserved c).After-lowest-v) c.without-rest.ensures r.ensures
     (sym c.is_some.ensures ∙ c.if-is_some.false)
 
 pub returns : goal.returns

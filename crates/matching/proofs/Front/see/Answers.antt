@@ -12,8 +12,8 @@ use Rattle.matching.proofs.Front.see.Goals as goal
 room : (c : After-with-seen) → c.args.self.tail < search_bound
 room c = let s = c.args.self in counted_room s.seen s.tail c.args.v s.counted c.requires.0 c.requires.1
 
-pub bounds-trail-self : goal.bounds-trail-self
-bounds-trail-self c = omega (arith, room (goal.at.bounds-trail-self c).After-with-seen)
+pub bounds-queue-self : goal.bounds-queue-self
+bounds-queue-self c = omega (arith, room (goal.at.bounds-queue-self c).After-with-seen)
 
 pub overflow_add-result : goal.overflow_add-result
 overflow_add-result c = omega (arith, room (goal.at.overflow_add-result c).After-with-seen)
@@ -32,9 +32,9 @@ returns c =
     let a = c.args in
     let own = owner_in a.pairs.now in
     elim c.match-pairs-v.branch [
-      | in-None w ↦ rw (w.result-is, w.trail-is, c.with-seen.ensures)
-          (sym (see_free own a.clause a.v (search_of a.self a.trail.now) (owner_read a.pairs.now a.v ∙ ap number_of w.in-None.is)))
-      | in-Some w ↦ rw (w.result-is, w.trail-is, c.with-seen.ensures)
-          (seen_matched a.self a.trail.now own a.clause a.v w.in-Some.owner (owner_read a.pairs.now a.v ∙ ap number_of w.in-Some.is)
+      | in-None w ↦ rw (w.result-is, w.queue-is, c.with-seen.ensures)
+          (sym (see_free own a.clause a.v (search_of a.self a.queue.now) (owner_read a.pairs.now a.v ∙ ap number_of w.in-None.is)))
+      | in-Some w ↦ rw (w.result-is, w.queue-is, c.with-seen.ensures)
+          (seen_matched a.self a.queue.now own a.clause a.v w.in-Some.owner (owner_read a.pairs.now a.v ∙ ap number_of w.in-Some.is)
           (omega (arith, room (goal.at.returns c).After-with-seen)))
     ]
