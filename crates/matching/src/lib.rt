@@ -63,29 +63,21 @@ impl Front {
     ghost use Rattle.matching.specs.Inner.{owner_in, search_of, Apart};
 
     // The clause goes through its unseen variable v.
-    fn see(self, pairs: &Pairs, clause: u8, v: usize, queue: &mut Queue) -> Self
+    fn see(mut self, pairs: &Pairs, clause: u8, v: usize, queue: &mut Queue) -> Self
         requires { (v < 64) × (bit self.seen v ≡ false) }
         ensures { search_of result queue.new ≡ see (owner_in pairs.now) clause v (search_of self queue.old) }
     {
         queue.links[v] = clause;
-        let seen = masks::with(self.seen, v);
-        match pairs.owners[v] {
-            None => Front {
-                seen,
-                head: self.head,
-                tail: self.tail,
-                free: Some(v),
-            },
+        self.seen = masks::with(self.seen, v);
+        self.free = match pairs.owners[v] {
+            None => Some(v),
             Some(owner) => {
                 queue.clauses[self.tail] = owner;
-                Front {
-                    seen,
-                    head: self.head,
-                    tail: self.tail + 1,
-                    free: None,
-                }
+                self.tail += 1;
+                None
             }
-        }
+        };
+        self
     }
 
     // The clause goes through its unseen variables upward, until one is unmatched.
@@ -107,15 +99,14 @@ impl Front {
     }
 
     // The front clause is taken off the queue and goes through its variables: one expansion.
-    fn expand(self, sets: &[u64; MAX_CLAUSES], pairs: &Pairs, queue: &mut Queue) -> Self
+    fn expand(mut self, sets: &[u64; MAX_CLAUSES], pairs: &Pairs, queue: &mut Queue) -> Self
         requires { (self.free ≡ None) × (self.head < self.tail) }
         ensures { search_of result queue.new ≡ expand sets.now (owner_in pairs.now) (search_of self queue.old) }
     {
         let clause = queue.clauses[self.head];
         let unseen = masks::minus(sets[usize::from(clause)], self.seen);
-        let mut taken = self;
-        taken.head += 1;
-        taken.scan(pairs, clause, unseen, queue)
+        self.head += 1;
+        self.scan(pairs, clause, unseen, queue)
     }
 }
 
@@ -123,6 +114,7 @@ impl Queue {
     ghost use Rattle.matching.specs.Search.{search_from, begin, search_bound, marks};
     ghost use Rattle.matching.specs.Inner.{owner_in, search_of};
 
+    // Nothing has joined.
     fn new() -> Self {
         Queue {
             clauses: [0; MAX_CLAUSES],
@@ -178,6 +170,7 @@ impl Pairs {
     ghost use Rattle.matching.specs.Search.{rematch};
     ghost use Rattle.matching.specs.Inner.{numbers_in, Tables, Augments, Stored, Augmented};
 
+    // No clause is matched.
     fn new() -> Self
         ensures { Stored [] result.table (numbers_in result) }
     {

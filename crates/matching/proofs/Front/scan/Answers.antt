@@ -1,18 +1,12 @@
 -- `scan` goes through the unseen variables by the lowest member of what is left.
-use mathlib.Core.Path.{refl, sym, ◌∙◌}
+use mathlib.Core.Path.{sym, ◌∙◌}
 use Rattle.matching.proofs.FrontLaws.{Next, next_is, going_on, going_found, going_none}
 use Rattle.matching.proofs.Front.scan.Goals.{After-lowest-v}
 use Rattle.matching.proofs.Front.scan.Goals as goal
 
-pub loop-rest-init : goal.loop-rest-init
-loop-rest-init c = record { none = c.requires.0; apart = c.requires.1; word = c.ranges.unseen.fits; same = refl }
-
 -- the variable that is next
 next : (c : After-lowest-v) → Next c.loop-rest.rest c.lowest-v.result
 next c = next_is c.loop-rest.rest c.lowest-v.result c.loop-rest.invariant.word c.loop-rest-test.true c.lowest-v.ensures
-
-pub without-rest-requires : goal.without-rest-requires
-without-rest-requires c = (next c).low
 
 pub see-front-requires : goal.see-front-requires
 see-front-requires c =
