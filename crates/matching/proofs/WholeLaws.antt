@@ -7,8 +7,8 @@ use Prim.Native.Nat.{ℕ, suc, ◌+◌, ◌-◌, ◌*◌, ◌≤◌, ◌<◌}
 use native.Mathlib.Numerals.{add-one}
 use native.Mathlib.Omega.{arith}
 use lib.ListN.{length, set, take, replicate, length-replicate, replicate-append-replicate, get_or-replicate}
-use Rattle.std.proofs.Common.{Option, None, Some, Ok, Err}
-use lib.Seq.{get_or-take, take-suc, take-length, length-take-le, set-get_or, set_comm}
+use Rattle.std.proofs.Common.{None, Some, Ok, Err}
+use lib.Seq.{take-suc, take-length, length-take-le, set-get_or, set_comm}
 use lib.Dec.{eqb}
 use borrow.Author.Tests.{eqb-true, eqb-false, eq-eqb, ne_eqb}
 use Rattle.std.specs.Option.{is_some}
@@ -26,7 +26,7 @@ use Rattle.matching.specs.Result.{Clauses, packed}
 use Rattle.matching.specs.declared.Front.{Front}
 use Rattle.matching.specs.declared.Queue.{Queue}
 use Rattle.matching.proofs.Counting.{zero_or_pos}
-use Rattle.matching.proofs.OwnerLaws.{owner_le, free_owner}
+use Rattle.matching.proofs.OwnerLaws.{free_owner}
 use Rattle.matching.proofs.Augmenting.{rematch_partial}
 use Rattle.matching.proofs.SearchLaws.{Stuck, Reached, Ended, search_next, word_all}
 use Rattle.matching.proofs.OutcomeLaws.{match_none, match_fails, match_on}

@@ -8,9 +8,6 @@ use Rattle.matching.proofs.Queue.find_path.Goals as goal
 pub loop-front-init : goal.loop-front-init
 loop-front-init c = searching_begin c.args.sets.now (owner_in c.args.pairs.now) c.begin-front.result c.begin-front.new.self c.args.clause c.begin-front.ensures
 
-pub expand-front-requires : goal.expand-front-requires
-expand-front-requires c = (c.loop-front.invariant.none, c.loop-front-test.true)
-
 pub returns-then-is_some : goal.returns-then-is_some
 returns-then-is_some c =
     let r = c.expand-front in
