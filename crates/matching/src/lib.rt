@@ -188,13 +188,13 @@ impl Pairs {
         let mut u = v;
         loop {
             let c = usize::from(links[u]);
-            let old = self.table[c];
+            let old = usize::from(self.table[c]);
             self.table[c] = u as u8;
             self.owners[u] = Some(c as u8);
             if c == clause {
                 return;
             }
-            u = usize::from(old);
+            u = old;
         }
     }
 
