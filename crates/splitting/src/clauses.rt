@@ -7,8 +7,8 @@ ghost use Rattle.formula.specs.InnerAssignment.{unassigned, set_to, left_under};
 ghost use Rattle.formula.specs.InnerFits.{clause_variables};
 ghost use Rattle.splitting.specs.InnerWords.{Words};
 
-use crate::counts::Counts;
 use crate::Choice;
+use crate::counts::Counts;
 use formula::{Assignment, Clause, Formula};
 use limits::MAX_CLAUSES;
 use matching::Matching;
