@@ -72,19 +72,10 @@ pub fn match_open(f: &Formula, a: Assignment) -> Matching
 fn survey_open(f: &Formula, a: Assignment) -> Survey
     ensures { result ≡ survey_of (node f.now a) }
 {
-    let mut s = Survey {
-        positive: 0,
-        negative: 0,
-        any: false,
-    };
+    let mut s = Survey::none();
     for c in f.clauses.as_slice() {
         if !a.satisfies(*c) {
-            let l = clauses::left(a, *c);
-            s = Survey {
-                positive: s.positive | l.positive,
-                negative: s.negative | l.negative,
-                any: true,
-            };
+            s = s.with(clauses::left(a, *c));
         }
     }
     s

@@ -12,16 +12,10 @@ use Rattle.splitting.proofs.NodeMatchingLaws.{small_at}
 use Rattle.splitting.proofs.ReduceLaws.{reduce_last}
 use Rattle.splitting.proofs.LastMemberLaws.{greatest_below}
 use Rattle.splitting.proofs.CompactLaws.{choice_passing, choice_noted, choice_other}
-use Rattle.splitting.proofs.choose_open.Goals.{After-compact, After-count_names-counts, After-take_open, After-reduce-r, After-survey-names}
+use Rattle.splitting.proofs.choose_open.Goals.{After-compact, After-count_names-counts, After-reduce-r, After-survey-names}
 use Rattle.splitting.proofs.choose_open.Goals as goal
 
 -- ---- what is left at the node
-
-node_small : (o : After-take_open) → Small (formula_at o.args.f.now o.args.a)
-node_small o = small_at o.args.f.now o.requires.0 o.args.a
-
-held_small : (o : After-take_open) → Small (formula_in o.take_open.new.self)
-held_small o = rw o.take_open.ensures (node_small o)
 
 -- ---- its survey, and what stripping gives
 
@@ -36,10 +30,6 @@ reduced c =
 left : (c : After-compact) → formula_in c.compact.new.self ≡ formula_at (formula_at c.args.f.now c.args.a) c.reduce-r.result.assignment
 left c = c.compact.ensures ∙ ap (λ (g : Formula). formula_at g c.reduce-r.result.assignment) c.take_open.ensures
 
-left_small : (c : After-compact) → Small (formula_in c.compact.new.self)
-left_small c =
-    rw (left c) (small_at (formula_at c.args.f.now c.args.a) (node_small (goal.at.After-compact c).After-take_open) c.reduce-r.result.assignment)
-
 -- the order of trials, by what is counted
 tried_first : (c : After-count_names-counts)
     → by_count (count_at c.count_names-counts.result) 64 max_count
@@ -50,15 +40,9 @@ tried_first c =
 
 last_below : (c : After-reduce-r) → c.reduce-r.result.last < 64
 last_below c =
-    rw (reduced c) (reduce_last c.args.f.now.variables (formula_at c.args.f.now c.args.a) unassigned 0 0 (node_small (goal.at.After-reduce-r c).After-take_open) (omega arith))
+    rw (reduced c) (reduce_last c.args.f.now.variables (formula_at c.args.f.now c.args.a) unassigned 0 0 (small_at c.args.f.now c.requires.0 c.args.a) (omega arith))
 
 -- ---- the goals
-
-pub reduce-r-requires : goal.reduce-r-requires
-reduce-r-requires c = held_small (goal.at.reduce-r-requires c).After-take_open
-
-pub first_passing-requires : goal.first_passing-requires
-first_passing-requires c = left_small (goal.at.first_passing-requires c).After-compact
 
 pub returns-then-r : goal.returns-then-r
 returns-then-r c scope =

@@ -12,7 +12,7 @@ use Rattle.splitting.proofs.survey_open.Goals as goal
 
 pub loop-c-init : goal.loop-c-init
 unfolding open_clauses survey_from
-loop-c-init c = refl
+loop-c-init c = c.none-s.ensures
 
 pub loop-c-preserved : goal.loop-c-preserved
 loop-c-preserved c =
@@ -21,7 +21,7 @@ loop-c-preserved c =
     let i = c.loop-c.c-index in
     let at = ap (λ (l : List Clause). get_or l i no_clause) (sym c.as_slice-c-items.ensures.value) in
     elim c.if-not-satisfies.branch [
-      | then-not-satisfies w ↦ rw (w.s-is, w.left-l.ensures) (survey_open cs a i _ at _ c.loop-c.invariant (sym c.satisfies.ensures ∙ w.if-not-satisfies.true))
+      | then-not-satisfies w ↦ rw (w.s-is, w.with-s.ensures, w.left.ensures) (survey_open cs a i _ at _ c.loop-c.invariant (sym c.satisfies.ensures ∙ w.if-not-satisfies.true))
       | else-not-satisfies w ↦ w.s-is ∙ survey_gone cs a i _ at _ c.loop-c.invariant (sym c.satisfies.ensures ∙ w.if-not-satisfies.false)
     ]
 
