@@ -125,10 +125,8 @@ fn choose_open(f: &Formula, a: Assignment) -> Choice
         return clauses.first_passing(counts);
     }
     let others = masks::minus(names.positive | names.negative, r.noted);
-    if others == 0 {
-        return clauses.last_listed(r.last);
-    }
-    clauses.last_listed(highest(others))
+    let v = if others == 0 { r.last } else { highest(others) };
+    clauses.last_listed(v)
 }
 
 // The choice where no clause is left: the lowest variable without a value.
