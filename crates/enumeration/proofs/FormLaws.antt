@@ -5,10 +5,9 @@ use mathlib.Core.List.{List, [], ◌∷◌}
 use mathlib.Core.Path.{◌≡◌, refl, sym, ap, ◌∙◌}
 use native.Mathlib.Omega.{arith}
 use lib.Dec.{eqb, leb}
-use lib.ListN.{length, take, drop, get_or, length-drop}
-use lib.Seq.{length-take-le, take-add, get_or-take, get_or-drop}
+use lib.ListN.{length, take, drop, get_or}
 use Rattle.std.specs.List.{list_all}
-use Rattle.std.proofs.lemmas.List.{take_rest}
+use Rattle.std.proofs.lemmas.List.{take-append-drop, take_rest}
 use borrow.Author.Tests.{eq-eqb, ne_eqb, eqb-false, not-true, leb-true, le-leb, lt-leb}
 use Rattle.limits.specs.Limits.{max_variables}
 use Rattle.lists.proofs.TestLaws.{and_left, and_right}
@@ -30,33 +29,22 @@ unfolding zeros
 zeros_all [] = refl
 zeros_all (x ∷ l) = ap (λ (b : Bool). eqb x 0 && b) (zeros_all l)
 
-numbered_at : (l : List ℕ) (i : ℕ) → i < length l → numbered l ≡ true → byte_number (get_or l i 0) ≡ 0 → ⊥
+-- so each byte of a tested list has another number
+pub numbered_at : (l : List ℕ) (i : ℕ) → i < length l → numbered l ≡ true → byte_number (get_or l i 0) ≡ 0 → ⊥
 unfolding numbered
 numbered_at [] i k e = absurd (omega arith)
 numbered_at (x ∷ l) zero k e = eqb-false (byte_number x) 0 (not-true _ (and_left (not (eqb (byte_number x) 0)) (numbered l) e))
 numbered_at (x ∷ l) (suc i) k e = numbered_at l i (omega arith) (and_right (not (eqb (byte_number x) 0)) (numbered l) e)
 
--- ---- the bytes before an end, and from it on
-
-module _ (l : List ℕ) (end : ℕ) (h : length l ≡ max_variables) (k : end ≤ max_variables) where
-  before : length (take end l) ≡ end
-  before = length-take-le end l (omega arith)
-
-  -- so a byte of a tested list has another
-  pub numbered_byte : (i : ℕ) → i < end → numbered (take end l) ≡ true → byte_number (get_or l i 0) ≡ 0 → ⊥
-  numbered_byte i m n e = let b = before in numbered_at (take end l) i (omega arith) n (rw (get_or-take end l i 0 m) e)
-
 -- ---- the trail of some bytes
 
 module _ (K : Tree) where
-  -- where the first i bytes do not replay, more do not either
-  pub replays_stops : (l : List ℕ) (i k : ℕ) → i ≤ k → replays K (pushed empty (take i l)) ≡ false → replays K (pushed empty (take k l)) ≡ false
-  replays_stops l i k h e =
-      let q : k ≡ i + (k - i) = omega arith in
-      ap (λ (n : ℕ). replays K (pushed empty (take n l))) q
-      ∙ ap (λ (m : List ℕ). replays K (pushed empty m)) (take-add i (k - i) l)
-      ∙ ap (replays K) (pushed-append (take i l) (take (k - i) (drop i l)) empty)
-      ∙ replays_fails K (take (k - i) (drop i l)) (pushed empty (take i l)) e
+  -- where the first i bytes do not replay, all do not
+  pub replays_stops : (l : List ℕ) (i : ℕ) → replays K (pushed empty (take i l)) ≡ false → replays K (pushed empty l) ≡ false
+  replays_stops l i e =
+      ap (λ (m : List ℕ). replays K (pushed empty m)) (sym (take-append-drop i l))
+      ∙ ap (replays K) (pushed-append (take i l) (drop i l) empty)
+      ∙ replays_fails K (drop i l) (pushed empty (take i l)) e
 
 -- ---- what the form of a checkpoint says
 
