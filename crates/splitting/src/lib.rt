@@ -56,7 +56,12 @@ pub fn all_satisfied(f: &Formula, a: Assignment) -> bool
     requires { f.now.count ≤ max_clauses }
     ensures { result ≡ all_satisfied f.now a }
 {
-    f.clauses[..f.count].iter().all(|c| a.satisfies(*c))
+    for c in &f.clauses[..f.count] {
+        if !a.satisfies(*c) {
+            return false;
+        }
+    }
+    true
 }
 
 // Matches what is left of the formula's open clauses, from nothing.

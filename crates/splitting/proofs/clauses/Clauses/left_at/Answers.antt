@@ -1,7 +1,10 @@
 -- `left_at` writes what is left of the open clauses.
 use native.Mathlib.Omega.{arith}
 use mathlib.Core.Path.{◌≡◌, refl, sym, ◌∙◌}
+use lib.ListN.{length-set}
+use Rattle.std.proofs.lemmas.List.{get_or-take}
 use Rattle.lists.specs.Tabulated.{tabulated}
+use Rattle.formula.specs.InnerMasked.{no_clause}
 use Rattle.splitting.specs.InnerChoose.{open_clauses}
 use Rattle.splitting.proofs.OpenClauseLaws.{formula_held, open_gone, keep_more}
 use Rattle.splitting.proofs.clauses.Clauses.left_at.Goals.{then-not-satisfies, else-not-satisfies}
@@ -9,24 +12,32 @@ use Rattle.splitting.proofs.clauses.Clauses.left_at.Goals as goal
 
 pub loop-c-init : goal.loop-c-init
 unfolding open_clauses tabulated
-loop-c-init c = (omega arith, refl)
+loop-c-init c = (omega arith, refl, refl, refl)
 
 pub loop-c-preserved : goal.loop-c-preserved
 loop-c-preserved c =
     let cs = c.args.f.now.clauses in
     let a = c.args.a in
+    let i = c.loop-c.c-index in
+    let at = sym (get_or-take c.args.f.now.count cs i no_clause (omega arith)) in
     elim c.if-not-satisfies.branch [
       | then-not-satisfies w ↦ (
         omega arith,
+        rw (w.clauses-is, length-set) c.loop-c.invariant.1,
+        rw (w.clauses-is, length-set) c.loop-c.invariant.2,
         rw (w.clauses-is, w.count-is, w.left-l.ensures)
-            (keep_more cs a c.loop-c.c-index _ ? c.loop-c.clauses.0 c.loop-c.clauses.1.0 c.loop-c.count (sym c.satisfies.ensures ∙ w.if-not-satisfies.true)
-            (omega arith) (omega arith) c.loop-c.invariant.1),
+            (keep_more cs a i _ at c.loop-c.clauses.0 c.loop-c.clauses.1.0 c.loop-c.count (sym c.satisfies.ensures ∙ w.if-not-satisfies.true)
+            (omega arith) (omega arith) c.loop-c.invariant.3),
       )
       | else-not-satisfies w ↦ (
         omega arith,
-        rw (w.clauses-is, w.count-is, open_gone cs a c.loop-c.c-index _ ? (sym c.satisfies.ensures ∙ w.if-not-satisfies.false)) c.loop-c.invariant.1,
+        rw w.clauses-is c.loop-c.invariant.1,
+        rw w.clauses-is c.loop-c.invariant.2,
+        rw (w.clauses-is, w.count-is, open_gone cs a i _ at (sym c.satisfies.ensures ∙ w.if-not-satisfies.false)) c.loop-c.invariant.3,
       )
     ]
 
 pub returns : goal.returns
-returns c = ?
+returns c =
+    let e : c.loop-c.c-index ≡ c.args.f.now.count = omega arith in
+    formula_held c.loop-c.clauses.0 c.loop-c.clauses.1.0 c.loop-c.count _ (rw e at c.loop-c.invariant.3)
