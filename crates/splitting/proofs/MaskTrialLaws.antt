@@ -75,18 +75,6 @@ module _ (f : Formula) (a : Assignment) (v : ℕ) where
       go true e = rw (tried, e) (omega (arith, node_cost f fits (set_to a v false), node_cost f fits (set_to a v true)))
       go false e = rw (tried, e) (omega (arith, node_cost f fits (set_to a v false)))
 
--- a mask without its lowest member
-pub record Lowered (m : ℕ) : Type 0 where
-  pub below : lowest m < 64
-  pub fits : without m (lowest m) < 2 ^ 64
-  pub less : suc (length (members (without m (lowest m)) 64)) ≡ length (members m 64)
-  pub listed : members m 64 ≡ lowest m ∷ members (without m (lowest m)) 64
-
-pub lowered : (m : ℕ) → m < 2 ^ 64 → (m ≡ 0 → ⊥) → Lowered m
-lowered m h z =
-    let e = members-lowest 64 64 m h h (omega arith) in
-    record { below = (lowest_is 64 m h (omega arith)).below; fits = minus_lt 64 m (2 ^ lowest m) h; less = sym (ap length e); listed = e }
-
 -- the first of a list is tried
 module _ (f : Formula) (a : Assignment) (l vs : List ℕ) (e v : ℕ) (t : Trial) (q : l ≡ v ∷ vs) (p : t ≡ tried f a v) where
   -- it passes
@@ -148,7 +136,7 @@ lists_counted c m l h = record {
       (λ t. t ∙ sym (h v ∙ lt-ltb 0 (count_at c v) (by_count_of (count_at c) 64 max_count v t).1))
       (λ t.
       ⊎_elim
-      (λ u. bool_clash (by_count_in (count_at c) 64 max_count v (bit_below 64 v m l u) (ltb-true 0 (count_at c v) (sym (h v) ∙ u)) (count_below c v)) t)
+      (λ u. bool_clash (by_count_in (count_at c) 64 max_count v (bit_below 64 v m l u) (ltb-true 0 (count_at c v) (sym (h v) ∙ u)) (let k : count_at c v < 2 ^ 7 = rw c.seven at (count_below c.digits v) in omega arith)) t)
       (λ u. t ∙ sym u)
       (bool_cases (bit m v)))
       (bool_cases (among (by_count (count_at c) 64 max_count) v));

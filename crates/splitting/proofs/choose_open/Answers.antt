@@ -12,33 +12,23 @@ use Rattle.splitting.proofs.NodeMatchingLaws.{small_at}
 use Rattle.splitting.proofs.ReduceLaws.{reduce_last}
 use Rattle.splitting.proofs.LastMemberLaws.{greatest_below}
 use Rattle.splitting.proofs.CompactLaws.{choice_passing, choice_noted, choice_other}
-use Rattle.splitting.proofs.choose_open.Goals.{After-compact, After-count_names-counts, After-left_at-clauses, After-reduce-r, After-survey-names}
+use Rattle.splitting.proofs.choose_open.Goals.{After-compact, After-count_names-counts, After-reduce-r, After-survey-names}
 use Rattle.splitting.proofs.choose_open.Goals as goal
 
 -- ---- what is left at the node
 
-node_small : (o : After-left_at-clauses) → Small (formula_at o.args.f.now o.args.a)
-node_small o = small_at o.args.f.now o.requires.0 o.args.a
-
-held_small : (o : After-left_at-clauses) → Small (formula_in o.left_at-clauses.result)
-held_small o = rw o.left_at-clauses.ensures (node_small o)
-
 -- ---- its survey, and what stripping gives
 
 surveyed : (c : After-survey-names) → c.survey-names.result ≡ survey_of (node c.args.f.now c.args.a)
-surveyed c = c.survey-names.ensures ∙ ap (λ (g : Formula). survey_of g.clauses) c.left_at-clauses.ensures
+surveyed c = c.survey-names.ensures ∙ ap (λ (g : Formula). survey_of g.clauses) c.take_open.ensures
 
 reduced : (c : After-reduce-r)
     → c.reduce-r.result ≡ reduce_from c.args.f.now.variables (formula_at c.args.f.now c.args.a) unassigned 0 0
 reduced c =
-    c.reduce-r.ensures ∙ ap (λ (g : Formula). reduce_from c.args.f.now.variables g unassigned 0 0) c.left_at-clauses.ensures
+    c.reduce-r.ensures ∙ ap (λ (g : Formula). reduce_from c.args.f.now.variables g unassigned 0 0) c.take_open.ensures
 
 left : (c : After-compact) → formula_in c.compact.new.self ≡ formula_at (formula_at c.args.f.now c.args.a) c.reduce-r.result.assignment
-left c = c.compact.ensures ∙ ap (λ (g : Formula). formula_at g c.reduce-r.result.assignment) c.left_at-clauses.ensures
-
-left_small : (c : After-compact) → Small (formula_in c.compact.new.self)
-left_small c =
-    rw (left c) (small_at (formula_at c.args.f.now c.args.a) (node_small (goal.at.After-compact c).After-left_at-clauses) c.reduce-r.result.assignment)
+left c = c.compact.ensures ∙ ap (λ (g : Formula). formula_at g c.reduce-r.result.assignment) c.take_open.ensures
 
 -- the order of trials, by what is counted
 tried_first : (c : After-count_names-counts)
@@ -50,15 +40,9 @@ tried_first c =
 
 last_below : (c : After-reduce-r) → c.reduce-r.result.last < 64
 last_below c =
-    rw (reduced c) (reduce_last c.args.f.now.variables (formula_at c.args.f.now c.args.a) unassigned 0 0 (node_small (goal.at.After-reduce-r c).After-left_at-clauses) (omega arith))
+    rw (reduced c) (reduce_last c.args.f.now.variables (formula_at c.args.f.now c.args.a) unassigned 0 0 (small_at c.args.f.now c.requires.0 c.args.a) (omega arith))
 
 -- ---- the goals
-
-pub reduce-r-requires : goal.reduce-r-requires
-reduce-r-requires c = held_small (goal.at.reduce-r-requires c).After-left_at-clauses
-
-pub first_passing-requires : goal.first_passing-requires
-first_passing-requires c = left_small (goal.at.first_passing-requires c).After-compact
 
 pub returns-then-r : goal.returns-then-r
 returns-then-r c scope =
@@ -79,7 +63,7 @@ returns-then-others-eq0 c scope =
     let r = (goal.at.returns-then-others-eq0 c).After-reduce-r in
     let n = (goal.at.returns-then-others-eq0 c).After-survey-names in
     c.last_listed.ensures
-    ∙ ap (λ (g : Formula). listed_last g unassigned c.reduce-r.result.last) c.left_at-clauses.ensures
+    ∙ ap (λ (g : Formula). listed_last g unassigned c.reduce-r.result.last) c.take_open.ensures
     ∙ choice_noted c.args.f.now c.requires.0 scope c.args.a c.survey-names.result (surveyed n)
     (rw (surveyed n) c.requires.1) c.reduce-r.result (reduced r) c.if-r.false c.minus-others.result c.minus-others.ensures
     c.if-others-eq0.true
@@ -91,7 +75,7 @@ pub returns : goal.returns
 returns c scope =
     let r = (goal.at.returns c).After-reduce-r in
     let n = (goal.at.returns c).After-survey-names in
-    rw (c.last_listed-2.ensures, c.highest.ensures, c.left_at-clauses.ensures)
+    rw (c.last_listed-2.ensures, c.highest.ensures, c.take_open.ensures)
     (choice_other c.args.f.now c.requires.0 scope c.args.a c.survey-names.result (surveyed n)
     (rw (surveyed n) c.requires.1) c.reduce-r.result (reduced r) c.if-r.false c.minus-others.result c.minus-others.ensures
     (omega (arith, c.minus-others.type_inv)) c.if-others-eq0.false)

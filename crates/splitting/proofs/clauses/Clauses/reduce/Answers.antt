@@ -10,7 +10,7 @@ use Rattle.splitting.specs.declared.clauses.Reduced.{Reduced}
 use Rattle.splitting.specs.declared.clauses.Survey.{Survey}
 use Rattle.splitting.specs.InnerChoose.{node, clauses_of, formula_in, survey_of, pure_of, reduce_from, reduced_at}
 use Rattle.splitting.proofs.ReduceLaws.{pure_lowest, reduce_done, reduce_more}
-use Rattle.splitting.proofs.CompactLaws.{node_in, strip_more}
+use Rattle.splitting.proofs.CompactLaws.{node_in, small_in, strip_more}
 use Rattle.splitting.proofs.clauses.Clauses.reduce.Goals.{After-lowest-v, In-loop}
 use Rattle.splitting.proofs.clauses.Clauses.reduce.Goals as goal
 
@@ -26,7 +26,7 @@ pure c = ap (λ (t : Survey). bit_xor t.positive t.negative) c.loop.invariant.1
 low : (c : After-lowest-v) → c.lowest-v.result < 64
 low c =
     let p = pure (goal.at.After-lowest-v c).In-loop in
-    rw (c.lowest-v.ensures, p) (pure_lowest (formula_in c.args.self.now) c.requires c.loop.r.assignment (λ z. c.if-pure-eq0.false (p ∙ z))).below
+    rw (c.lowest-v.ensures, p) (pure_lowest (formula_in c.args.self.now) (small_in c.args.self.now) c.loop.r.assignment (λ z. c.if-pure-eq0.false (p ∙ z))).below
 
 pub loop-init : goal.loop-init
 loop-init c =
@@ -62,7 +62,7 @@ loop-preserved c =
     let v = c.lowest-v.result in
     let n : clauses_of c.drop_named.new.self ≡ node f c.with.result =
     c.drop_named.ensures
-    ∙ strip_more f c.requires r.assignment c.loop.left c.loop.invariant.0 (λ e. c.if-pure-eq0.false (p ∙ e)) v (c.lowest-v.ensures ∙ ap lowest p) c.member.result
+    ∙ strip_more f (small_in c.args.self.now) r.assignment c.loop.left c.loop.invariant.0 (λ e. c.if-pure-eq0.false (p ∙ e)) v (c.lowest-v.ensures ∙ ap lowest p) c.member.result
     (c.member.ensures ∙ ap (λ (t : Survey). bit t.positive v) c.loop.invariant.1)
     ∙ ap (node f) (sym c.with.ensures) in (
       n,

@@ -4,6 +4,7 @@ use mathlib.Core.Path.{◌≡◌, sym, ap, ◌∙◌}
 use mathlib.Core.Bool.{not}
 use Rattle.splitting.specs.InnerChoose.{formula_in, matching_at}
 use Rattle.splitting.proofs.NodeMatchingLaws.{match_cost}
+use Rattle.splitting.proofs.CompactLaws.{small_in}
 use Rattle.splitting.proofs.MaskTrialLaws.{tried_false, tried_true}
 use Rattle.splitting.proofs.clauses.Clauses.try_variable.Goals as goal
 
@@ -19,8 +20,8 @@ overflow_add-result c =
     let g = formula_in c.args.self.now in
     omega (
       arith,
-      match_cost g c.requires.0 c.with.result c.match_with-when_false.result c.match_with-when_false.ensures,
-      match_cost g c.requires.0 c.with-2.result c.match_with-when_true.result c.match_with-when_true.ensures,
+      match_cost g (small_in c.args.self.now) c.with.result c.match_with-when_false.result c.match_with-when_false.ensures,
+      match_cost g (small_in c.args.self.now) c.with-2.result c.match_with-when_true.result c.match_with-when_true.ensures,
     )
 
 pub returns : goal.returns
