@@ -7,8 +7,8 @@ use Prim.Native.Nat.{ℕ, suc, ◌+◌, ◌-◌, ◌*◌, ◌≤◌, ◌<◌}
 use native.Mathlib.Numerals.{add-one}
 use native.Mathlib.Omega.{arith}
 use lib.ListN.{length, set, take, replicate, length-replicate, replicate-append-replicate, get_or-replicate}
-use Rattle.std.proofs.Common.{Option, None, Some, Ok, Err}
-use lib.Seq.{get_or-take, take-suc, take-length, length-take-le, set-get_or, set_comm}
+use Rattle.std.proofs.Common.{None, Some, Ok, Err}
+use lib.Seq.{take-suc, take-length, length-take-le, set-get_or, set_comm}
 use lib.Dec.{eqb}
 use borrow.Author.Tests.{eqb-true, eqb-false, eq-eqb, ne_eqb}
 use Rattle.std.specs.Option.{is_some}
@@ -24,9 +24,9 @@ use Rattle.lists.proofs.TabulatedLaws.{tabulated_of}
 use Rattle.matching.specs.Inner.{at, owners_of, Partial, Tables, Stored, number_of, variable_of, search_of, Augments, augmented, Augmented}
 use Rattle.matching.specs.Result.{Clauses, packed}
 use Rattle.matching.specs.declared.Front.{Front}
-use Rattle.matching.specs.declared.Trail.{Trail}
+use Rattle.matching.specs.declared.Queue.{Queue}
 use Rattle.matching.proofs.Counting.{zero_or_pos}
-use Rattle.matching.proofs.OwnerLaws.{owner_le, free_owner}
+use Rattle.matching.proofs.OwnerLaws.{free_owner}
 use Rattle.matching.proofs.Augmenting.{rematch_partial}
 use Rattle.matching.proofs.SearchLaws.{Stuck, Reached, Ended, search_next, word_all}
 use Rattle.matching.proofs.OutcomeLaws.{match_none, match_fails, match_on}
@@ -57,11 +57,11 @@ module _ {sets : List ℕ} {n : ℕ} {table owners : List ℕ} (T : Tables sets 
   pub next_ended : Ended sets (take n table) (next_search sets (take n table))
   next_ended = search_next sets (take n table) W
 
-  module _ (front : Front) (trail : Trail) (e : search_of front trail ≡ next_search sets (take n table)) where
+  module _ (front : Front) (queue : Queue) (e : search_of front queue ≡ next_search sets (take n table)) where
     free_is : variable_of front.free ≡ (next_search sets (take n table)).free
     free_is = ap (λ (s : Search). s.free) e
 
-    links_are : trail.links ≡ (next_search sets (take n table)).links
+    links_are : queue.links ≡ (next_search sets (take n table)).links
     links_are = ap (λ (s : Search). s.links) e
 
     -- after a search that found a path to v
@@ -72,7 +72,7 @@ module _ {sets : List ℕ} {n : ℕ} {table owners : List ℕ} (T : Tables sets 
       found_some : (next_search sets (take n table)).free ≡ 64 → ⊥
       found_some z = omega (arith, found_is, front.variable v fv)
 
-      pub path_ready : n < max_clauses → Augments n table owners trail.links v
+      pub path_ready : n < max_clauses → Augments n table owners queue.links v
       path_ready l =
           let s = next_search sets (take n table) in
           let R : Reached sets (take n table) s = ⊎_elim (λ S. absurd (found_some S.none)) (λ R. R) next_ended.0 in
@@ -83,13 +83,13 @@ module _ {sets : List ℕ} {n : ℕ} {table owners : List ℕ} (T : Tables sets 
           T.partial.distinct R.1.0.free R.0
           (path_distance sets s.links (take n table) s.free R.1.0 search_bound R.1.1))
 
-      pub augmented_path : (table' owners' : List ℕ) → Stored (rematch_from search_bound trail.links (take n table) v) table' owners'
-          → Augmented sets (take n table) front trail.queue table' owners'
+      pub augmented_path : (table' owners' : List ℕ) → Stored (rematch_from search_bound queue.links (take n table) v) table' owners'
+          → Augmented sets (take n table) front queue.clauses table' owners'
       unfolding augmented
       augmented_path table' owners' R =
           let s = next_search sets (take n table) in
           let f : eqb s.free 64 ≡ false = ne_eqb s.free 64 found_some in
-          let r : rematch_from search_bound trail.links (take n table) v ≡ rematch_from search_bound s.links (take n table) s.free =
+          let r : rematch_from search_bound queue.links (take n table) v ≡ rematch_from search_bound s.links (take n table) s.free =
           rw (links_are, found_is) in
           record {
             head = ap (λ (s : Search). s.taken) e;
@@ -100,20 +100,20 @@ module _ {sets : List ℕ} {n : ℕ} {table owners : List ℕ} (T : Tables sets 
           }
 
     -- after a search that failed
-    pub augmented_none : front.free ≡ None → Augmented sets (take n table) front trail.queue table owners
+    pub augmented_none : front.free ≡ None → Augmented sets (take n table) front queue.clauses table owners
     unfolding augmented
     augmented_none z =
         let s = next_search sets (take n table) in
         let f : eqb s.free 64 ≡ true = eq-eqb s.free 64 (sym free_is ∙ ap variable_of z) in
         let stuck : Stuck sets (take n table) s = ⊎_elim (λ S. S) (λ R. absurd (let u = sym free_is ∙ ap variable_of z in omega (arith, R.0))) next_ended.0 in
-        let q : take front.tail trail.queue ≡ s.queue = ap (λ (s : Search). s.queue) e in
+        let q : take front.tail queue.clauses ≡ s.queue = ap (λ (s : Search). s.queue) e in
         let h : front.head ≡ s.taken = ap (λ (s : Search). s.taken) e in
-        let t : length (take front.tail trail.queue) ≡ front.tail = length-take-le front.tail trail.queue (omega (arith, trail.long, counted_tail front.seen front.tail front.counted)) in
+        let t : length (take front.tail queue.clauses) ≡ front.tail = length-take-le front.tail queue.clauses (omega (arith, queue.long, counted_tail front.seen front.tail front.counted)) in
         let b : front.head ≡ front.tail = h ∙ stuck.all_taken ∙ ap length (sym q) ∙ t in
         record {
           head = h;
           free = free_is;
-          taken = λ _. ap (λ (k : ℕ). take k trail.queue) b ∙ q ∙ sym (take-length s.queue) ∙ ap (λ (k : ℕ). take k s.queue) (sym stuck.all_taken);
+          taken = λ _. ap (λ (k : ℕ). take k queue.clauses) b ∙ q ∙ sym (take-length s.queue) ∙ ap (λ (k : ℕ). take k s.queue) (sym stuck.all_taken);
           table_is = rw f T.held;
           owners_are = rw f T.owned;
         }

@@ -35,13 +35,13 @@ struct Pairs {
     ghost owned: { All (λ owner. ForSome owner (λ clause. clause < max_clauses)) owners },
 }
 
-// The queue of a search, and the clause through which each seen variable was seen.
+// The clauses that joined a search's queue, and for each seen variable the clause that it remembers.
 #[derive(Clone, Copy)]
-struct Trail {
-    queue: [u8; MAX_CLAUSES],
+struct Queue {
+    clauses: [u8; MAX_CLAUSES],
     links: [u8; 64],
-    ghost long: { length queue ≡ max_clauses },
-    ghost queued: { All (λ clause. clause < max_clauses) queue },
+    ghost long: { length clauses ≡ max_clauses },
+    ghost low: { All (λ clause. clause < max_clauses) clauses },
 }
 
 // Where a search stands: the seen variables, how many clauses are taken off the queue and how many joined it, and the unmatched
@@ -63,42 +63,34 @@ impl Front {
     ghost use Rattle.matching.specs.Inner.{owner_in, search_of, Apart};
 
     // The clause goes through its unseen variable v.
-    fn see(self, pairs: &Pairs, clause: u8, v: usize, trail: &mut Trail) -> Self
+    fn see(mut self, pairs: &Pairs, clause: u8, v: usize, queue: &mut Queue) -> Self
         requires { (v < 64) × (bit self.seen v ≡ false) }
-        ensures { search_of result trail.new ≡ see (owner_in pairs.now) clause v (search_of self trail.old) }
+        ensures { search_of result queue.new ≡ see (owner_in pairs.now) clause v (search_of self queue.old) }
     {
-        trail.links[v] = clause;
-        let seen = masks::with(self.seen, v);
-        match pairs.owners[v] {
-            None => Front {
-                seen,
-                head: self.head,
-                tail: self.tail,
-                free: Some(v),
-            },
+        queue.links[v] = clause;
+        self.seen = masks::with(self.seen, v);
+        self.free = match pairs.owners[v] {
+            None => Some(v),
             Some(owner) => {
-                trail.queue[self.tail] = owner;
-                Front {
-                    seen,
-                    head: self.head,
-                    tail: self.tail + 1,
-                    free: None,
-                }
+                queue.clauses[self.tail] = owner;
+                self.tail += 1;
+                None
             }
-        }
+        };
+        self
     }
 
     // The clause goes through its unseen variables upward, until one is unmatched.
-    fn scan(self, pairs: &Pairs, clause: u8, unseen: u64, trail: &mut Trail) -> Self
+    fn scan(self, pairs: &Pairs, clause: u8, unseen: u64, queue: &mut Queue) -> Self
         requires { (self.free ≡ None) × Apart unseen self.seen }
-        ensures { search_of result trail.new ≡ scan (owner_in pairs.now) clause (members unseen 64) (search_of self trail.old) }
+        ensures { search_of result queue.new ≡ scan (owner_in pairs.now) clause (members unseen 64) (search_of self queue.old) }
     {
         let mut front = self;
         let mut rest = unseen;
         while rest != 0 {
             let v = masks::lowest(rest);
             rest = masks::without(rest, v);
-            front = front.see(pairs, clause, v, trail);
+            front = front.see(pairs, clause, v, queue);
             if front.free.is_some() {
                 return front;
             }
@@ -107,25 +99,25 @@ impl Front {
     }
 
     // The front clause is taken off the queue and goes through its variables: one expansion.
-    fn expand(self, sets: &[u64; MAX_CLAUSES], pairs: &Pairs, trail: &mut Trail) -> Self
+    fn expand(mut self, sets: &[u64; MAX_CLAUSES], pairs: &Pairs, queue: &mut Queue) -> Self
         requires { (self.free ≡ None) × (self.head < self.tail) }
-        ensures { search_of result trail.new ≡ expand sets.now (owner_in pairs.now) (search_of self trail.old) }
+        ensures { search_of result queue.new ≡ expand sets.now (owner_in pairs.now) (search_of self queue.old) }
     {
-        let clause = trail.queue[self.head];
+        let clause = queue.clauses[self.head];
         let unseen = masks::minus(sets[usize::from(clause)], self.seen);
-        let mut taken = self;
-        taken.head += 1;
-        taken.scan(pairs, clause, unseen, trail)
+        self.head += 1;
+        self.scan(pairs, clause, unseen, queue)
     }
 }
 
-impl Trail {
+impl Queue {
     ghost use Rattle.matching.specs.Search.{search_from, begin, search_bound, marks};
     ghost use Rattle.matching.specs.Inner.{owner_in, search_of};
 
+    // Nothing has joined.
     fn new() -> Self {
-        Trail {
-            queue: [0; MAX_CLAUSES],
+        Queue {
+            clauses: [0; MAX_CLAUSES],
             links: [0; 64],
         }
     }
@@ -135,7 +127,7 @@ impl Trail {
         requires { clause < max_clauses }
         ensures { search_of result self.new ≡ begin clause }
     {
-        self.queue[0] = clause;
+        self.clauses[0] = clause;
         self.links = [0; 64];
         Front {
             seen: 0,
@@ -163,10 +155,10 @@ impl Trail {
     // The first n clauses of the queue as a violator.
     fn violator(&self, n: usize) -> Violator
         requires { n ≤ max_clauses }
-        ensures { result ≡ record { size = n; marks = marks max_clauses (take n self.now.queue) } }
+        ensures { result ≡ record { size = n; marks = marks max_clauses (take n self.now.clauses) } }
     {
         let mut marks = [0; MAX_CLAUSES];
-        for clause in &self.queue[..n] {
+        for clause in &self.clauses[..n] {
             marks[usize::from(*clause)] = 1;
         }
         Violator { size: n, marks }
@@ -178,6 +170,7 @@ impl Pairs {
     ghost use Rattle.matching.specs.Search.{rematch};
     ghost use Rattle.matching.specs.Inner.{numbers_in, Tables, Augments, Stored, Augmented};
 
+    // No clause is matched.
     fn new() -> Self
         ensures { Stored [] result.table (numbers_in result) }
     {
@@ -195,24 +188,24 @@ impl Pairs {
         let mut u = v;
         loop {
             let c = usize::from(links[u]);
-            let old = self.table[c];
+            let old = usize::from(self.table[c]);
             self.table[c] = u as u8;
             self.owners[u] = Some(c as u8);
             if c == clause {
                 return;
             }
-            u = usize::from(old);
+            u = old;
         }
     }
 
     // The next clause is matched too, unless its search fails.
-    fn augment(&mut self, sets: &[u64; MAX_CLAUSES], clause: usize, trail: &mut Trail) -> Front
+    fn augment(&mut self, sets: &[u64; MAX_CLAUSES], clause: usize, queue: &mut Queue) -> Front
         requires { Tables sets.now clause self.old.table (numbers_in self.old) × (clause < max_clauses) }
-        ensures { Augmented sets.now (take clause self.old.table) result trail.new.queue self.new.table (numbers_in self.new) }
+        ensures { Augmented sets.now (take clause self.old.table) result queue.new.clauses self.new.table (numbers_in self.new) }
     {
-        let front = trail.find_path(sets, self, clause as u8);
+        let front = queue.find_path(sets, self, clause as u8);
         if let Some(v) = front.free {
-            self.rematch(&trail.links, clause, v);
+            self.rematch(&queue.links, clause, v);
         }
         front
     }
@@ -224,15 +217,15 @@ pub fn match_sets(sets: &[u64; MAX_CLAUSES], count: usize) -> Matching
     ensures { result ≡ packed count (outcome (take count sets.now)) }
 {
     let mut pairs = Pairs::new();
-    let mut trail = Trail::new();
+    let mut queue = Queue::new();
     let mut expansions: u64 = 0;
     for clause in 0..count {
-        let front = pairs.augment(sets, clause, &mut trail);
+        let front = pairs.augment(sets, clause, &mut queue);
         expansions += front.head as u64;
         if front.free.is_none() {
             return Matching {
                 expansions,
-                found: Err(trail.violator(front.head)),
+                found: Err(queue.violator(front.head)),
             };
         }
     }
@@ -250,11 +243,11 @@ pub fn match_most(sets: &[u64; MAX_CLAUSES], count: usize) -> usize
 {
     let mut kept = [0; MAX_CLAUSES];
     let mut pairs = Pairs::new();
-    let mut trail = Trail::new();
+    let mut queue = Queue::new();
     let mut k: usize = 0;
-    for set in &sets[..count] {
-        kept[k] = *set;
-        if pairs.augment(&kept, k, &mut trail).free.is_some() {
+    for i in 0..count {
+        kept[k] = sets[i];
+        if pairs.augment(&kept, k, &mut queue).free.is_some() {
             k += 1;
         }
     }

@@ -1,18 +1,12 @@
 -- `scan` goes through the unseen variables by the lowest member of what is left.
-use mathlib.Core.Path.{refl, sym, ◌∙◌}
+use mathlib.Core.Path.{sym, ◌∙◌}
 use Rattle.matching.proofs.FrontLaws.{Next, next_is, going_on, going_found, going_none}
 use Rattle.matching.proofs.Front.scan.Goals.{After-lowest-v}
 use Rattle.matching.proofs.Front.scan.Goals as goal
 
-pub loop-rest-init : goal.loop-rest-init
-loop-rest-init c = record { none = c.requires.0; apart = c.requires.1; word = c.ranges.unseen.fits; same = refl }
-
 -- the variable that is next
 next : (c : After-lowest-v) → Next c.loop-rest.rest c.lowest-v.result
 next c = next_is c.loop-rest.rest c.lowest-v.result c.loop-rest.invariant.word c.loop-rest-test.true c.lowest-v.ensures
-
-pub without-rest-requires : goal.without-rest-requires
-without-rest-requires c = (next c).low
 
 pub see-front-requires : goal.see-front-requires
 see-front-requires c =
@@ -22,7 +16,7 @@ see-front-requires c =
 pub returns-then-is_some : goal.returns-then-is_some
 returns-then-is_some c =
     let r = c.see-front in
-    going_found r.result r.new.trail c.without-rest.result c.loop-rest.invariant (next (goal.at.returns-then-is_some c).After-lowest-v) c.without-rest.ensures r.ensures
+    going_found r.result r.new.queue c.without-rest.result c.loop-rest.invariant (next (goal.at.returns-then-is_some c).After-lowest-v) c.without-rest.ensures r.ensures
     (sym c.is_some.ensures ∙ c.if-is_some.true)
 
 pub loop-rest-smaller : goal.loop-rest-smaller
@@ -32,7 +26,7 @@ loop-rest-smaller c =
 pub loop-rest-preserved : goal.loop-rest-preserved
 loop-rest-preserved c =
     let r = c.see-front in
-    going_on r.result r.new.trail c.without-rest.result c.loop-rest.invariant (next (goal.at.loop-rest-preserved c).After-lowest-v) c.without-rest.ensures r.ensures
+    going_on r.result r.new.queue c.without-rest.result c.loop-rest.invariant (next (goal.at.loop-rest-preserved c).After-lowest-v) c.without-rest.ensures r.ensures
     (sym c.is_some.ensures ∙ c.if-is_some.false)
 
 pub returns : goal.returns

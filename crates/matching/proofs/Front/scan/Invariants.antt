@@ -6,7 +6,7 @@ use Rattle.matching.proofs.FrontLaws.{Going}
 use Rattle.matching.proofs.Front.scan.Given as goal
 
 abbrev pub invariant-loop-rest : goal.invariant-loop-rest
-invariant-loop-rest l = Going (owner_in l.pairs) l.clause (scan (owner_in l.pairs) l.clause (members l.unseen 64) (search_of l.initial.front l.initial.trail)) l.front l.trail l.rest
+invariant-loop-rest l = Going (owner_in l.pairs) l.clause (scan (owner_in l.pairs) l.clause (members l.unseen 64) (search_of l.initial.front l.initial.queue)) l.front l.queue l.rest
 
 abbrev pub decreases-loop-rest : goal.decreases-loop-rest
 decreases-loop-rest l = size l.rest

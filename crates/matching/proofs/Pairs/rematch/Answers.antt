@@ -1,5 +1,5 @@
 -- `rematch` is the definition's re-matching.
-use mathlib.Core.Path.{◌≡◌, refl, sym, ◌∙◌, ap, subst}
+use mathlib.Core.Path.{◌≡◌, sym, ◌∙◌, ap, subst}
 use mathlib.Core.Logic.{◌⊎◌, ⊎_elim}
 use native.Mathlib.Omega.{arith}
 use Prim.Native.Nat.{ℕ, ◌<◌}
@@ -11,7 +11,7 @@ use Rattle.lists.specs.Padded.{padded}
 use Rattle.matching.specs.Search.{search_bound}
 use Rattle.matching.specs.Inner.{at, number_of, distance, owners_of}
 use Rattle.matching.proofs.RematchLaws.{owned_more, link_cases, nearer, augments_next, rematch_next, table_end, owners_end}
-use Rattle.matching.proofs.Pairs.rematch.Goals.{After-from-c, After-from-u}
+use Rattle.matching.proofs.Pairs.rematch.Goals.{After-from-c, Else-c-clause}
 use Rattle.matching.proofs.Pairs.rematch.Goals as goal
 
 -- u's clause is the new one or is matched
@@ -43,19 +43,19 @@ returns-then-c-clause c =
     })
 
 -- where the loop goes on, u's clause is matched
-matched : (c : After-from-u) → c.from-c.result < c.args.clause
-matched c = ⊎_elim (λ e. absurd (c.if-c-clause.false e)) (λ h. h) (cases (goal.at.After-from-u c).After-from-c)
+matched : (c : Else-c-clause) → c.from-c.result < c.args.clause
+matched c = ⊎_elim (λ e. absurd (c.if-c-clause.false e)) (λ h. h) (cases (goal.at.Else-c-clause c).After-from-c)
 
 pub loop-clause-smaller : goal.loop-clause-smaller
 loop-clause-smaller c =
     let a = c.args in
     let d = nearer c.loop-clause.invariant.0 c.from-c.ensures (matched c) in
     subst (λ (x : ℕ). distance search_bound a.links.now (take a.clause (set c.loop-clause.self.table c.from-c.result c.loop-clause.u)) x < distance search_bound a.links.now (take a.clause c.loop-clause.self.table) c.loop-clause.u)
-    (sym c.from-u.ensures)
+    (sym c.from-old.ensures)
     (omega arith)
 
 pub loop-clause-preserved : goal.loop-clause-preserved
 loop-clause-preserved c =
     let i = c.loop-clause.invariant in
     let o = map-set number_of c.loop-clause.self.owners c.loop-clause.u (Some c.from-c.result) in
-    rw (c.from-u.ensures, o) (augments_next i.0 c.from-c.ensures (matched c), rematch_next i.0 c.from-c.ensures (matched c) ∙ i.1)
+    rw (c.from-old.ensures, o) (augments_next i.0 c.from-c.ensures (matched c), rematch_next i.0 c.from-c.ensures (matched c) ∙ i.1)

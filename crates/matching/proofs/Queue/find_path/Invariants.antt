@@ -3,7 +3,7 @@ use Prim.Native.Nat.{◌-◌}
 use Rattle.matching.specs.Search.{begin, search_from, search_bound}
 use Rattle.matching.specs.Inner.{owner_in}
 use Rattle.matching.proofs.FrontLaws.{Searching}
-use Rattle.matching.proofs.Trail.find_path.Given as goal
+use Rattle.matching.proofs.Queue.find_path.Given as goal
 
 abbrev pub invariant-loop-front : goal.invariant-loop-front
 invariant-loop-front l = Searching l.sets (owner_in l.pairs) (search_from search_bound l.sets (owner_in l.pairs) (begin l.clause)) l.front l.self

@@ -1,8 +1,0 @@
--- `new`: an array of zeros.
-use lib.ListN.{get_or-replicate}
-use native.Mathlib.Omega.{arith}
-use Rattle.std.proofs.Common.{ℕ}
-use Rattle.matching.proofs.Trail.new.Goals as goal
-
-pub invariant_of-result-clause-queued : goal.invariant_of-result-clause-queued
-invariant_of-result-clause-queued c k d h = let z = get_or-replicate {A = ℕ} 96 k 0 d h in omega arith
