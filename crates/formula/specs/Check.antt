@@ -1,9 +1,7 @@
 -- S4.3: the act check. Its refusals are the reader's, 2 to 9, and 12.
-use Rattle.std.specs.Prelude.{ℕ, cond, List}
+use Rattle.std.specs.Prelude.{ℕ, Bool, true, false, cond, List, Result, Ok, Err}
 use Rattle.formula.specs.declared.Refusal.{Refusal}
 use Rattle.formula.specs.declared.Refusal.TheVariants.{StrayVariable}
-use Rattle.formula.specs.declared.Verdict.{Verdict}
-use Rattle.formula.specs.declared.Verdict.TheVariants.{Model, NotModel, Refused}
 use Rattle.formula.specs.InnerDecode.{decode}
 use Rattle.formula.specs.Decoding.{Decoding, readable, refused}
 use Rattle.formula.specs.InnerModels.{satisfied, stray}
@@ -28,10 +26,10 @@ abbrev pub verdict_refused : Refusal → VerdictValues
 verdict_refused r = record { said = said_neither; number = (table_row r).number; place = (table_row r).place }
 
 -- the values of each case of a verdict
-abbrev pub verdict_values : Verdict → VerdictValues
-verdict_values Model = verdict_said said_yes
-verdict_values NotModel = verdict_said said_no
-verdict_values (Refused r) = verdict_refused r
+abbrev pub verdict_values : Result Bool Refusal → VerdictValues
+verdict_values (Ok true) = verdict_said said_yes
+verdict_values (Ok false) = verdict_said said_no
+verdict_values (Err r) = verdict_refused r
 
 -- yes if the assignment is a model, no if it is not; 12 if a variable above the formula's is true
 abbrev pub verdict_on : Decoding → ℕ → VerdictValues

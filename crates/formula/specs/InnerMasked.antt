@@ -1,12 +1,11 @@
 -- A formula as the code holds it: a clause is two masks, the clauses an array of 96.
-use Rattle.std.specs.Prelude.{ℕ, Bool, true, false, List, [], ◌∷◌, map, length}
+use Rattle.std.specs.Prelude.{ℕ, Bool, true, false, List, [], ◌∷◌, map, length, Result, Ok, Err}
 use Rattle.limits.specs.Limits.{max_clauses}
 use Rattle.lists.specs.Padded.{padded}
 use Rattle.masks.specs.Mask.{with}
 use Rattle.formula.specs.declared.Clause.{Clause}
-use Rattle.formula.specs.declared.Decoded.{Decoded}
 use Rattle.formula.specs.declared.Formula.{Formula}
-use Rattle.formula.specs.declared.Outcome.TheVariants.{Accepted, Refused}
+use Rattle.formula.specs.declared.Refusal.{Refusal}
 use Rattle.formula.specs.InnerDecode.{decode}
 use Rattle.formula.specs.Decoding.{Decoding, readable, refused}
 use Rattle.formula.specs.Format.{Literal}
@@ -32,10 +31,10 @@ clause_of c = with_literals no_clause c
 abbrev pub formula_of : ℕ → List (List Literal) → Formula
 formula_of n cs = record { variables = n; count = length cs; clauses = padded max_clauses no_clause (map clause_of cs) }
 
--- an accepted input gives its formula; a refused one its refusal and otherwise zeros
-abbrev pub held : Decoding → Decoded
-held (readable n cs) = record { outcome = Accepted; formula = formula_of n cs }
-held (refused r) = record { outcome = Refused r; formula = formula_of 0 [] }
+-- an input that is read gives its formula, and a refused one its refusal
+abbrev pub held : Decoding → Result Formula Refusal
+held (readable n cs) = Ok (formula_of n cs)
+held (refused r) = Err r
 
-unfoldable pub decoded : List ℕ → Decoded
+unfoldable pub decoded : List ℕ → Result Formula Refusal
 decoded s = held (decode s)

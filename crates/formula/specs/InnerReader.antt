@@ -1,75 +1,84 @@
 -- What the reader's functions compute over masks, record by record; proofs/ReaderLaws.antt ties it to InnerDecode.
-use Rattle.std.specs.Prelude.{ℕ, ◌+◌, ◌-◌, ◌≤◌, Bool, false, not, cond, ◌&&◌, ◌||◌, List, map, ◌≡◌, eqb, ltb, length, get_or, drop}
+use Rattle.std.specs.Prelude.{ℕ, ◌+◌, ◌-◌, ◌≤◌, Bool, false, not, cond, ◌&&◌, ◌||◌, List, map, ◌≡◌, eqb, ltb, length, get_or, drop, Option, Some, None, Result, Ok, Err}
 use Rattle.limits.specs.Limits.{max_variables, max_clauses}
 use Rattle.lists.specs.Padded.{padded}
 use Rattle.masks.specs.Mask.{bit}
 use Rattle.formula.specs.declared.Clause.{Clause}
-use Rattle.formula.specs.declared.Event.{Event}
-use Rattle.formula.specs.declared.Event.TheVariants.{Next, Finished, Stopped}
+use Rattle.formula.specs.declared.Kind as code
+use Rattle.formula.specs.declared.Kind.TheVariants as codes
 use Rattle.formula.specs.declared.Reader.{Reader}
+use Rattle.formula.specs.declared.Refusal.{Refusal}
 use Rattle.formula.specs.declared.Refusal.TheVariants.{Truncated, UnknownKind, Misplaced, BadVariableCount, NoSuchVariable, ComplementaryLiteral, TooManyClauses, TrailingByte}
 use Rattle.formula.specs.InnerDecode.{Kind, variable_count, literal, clause_end, formula_end, unknown, kind_of, one_to, Reading, records, decode}
 use Rattle.formula.specs.InnerMasked.{no_clause, with_literal, clause_of}
 use Rattle.formula.specs.InnerFits.{clause_variables, side}
 
+-- a kind of record as the code has it
+abbrev pub kind_held : Kind → Option code.Kind
+kind_held variable_count = Some codes.VariableCount
+kind_held (literal sign) = Some (codes.Literal sign)
+kind_held clause_end = Some codes.ClauseEnd
+kind_held formula_end = Some codes.FormulaEnd
+kind_held unknown = None
+
 -- kind 1
-unfoldable pub count_event : List ℕ → Reader → Event
+unfoldable pub count_event : List ℕ → Reader → Result (Option Reader) Refusal
 count_event s r =
     cond (eqb r.at 0)
     (cond (ltb (r.at + 1) (length s))
     (cond (one_to max_variables (get_or s (r.at + 1) 0))
-    (Next (record { at = r.at + 2; variables = get_or s (r.at + 1) 0; count = r.count; current = r.current }))
-    (Stopped (BadVariableCount r.at)))
-    (Stopped (Truncated (length s))))
-    (Stopped (Misplaced r.at))
+    (Ok (Some (record { at = r.at + 2; variables = get_or s (r.at + 1) 0; count = r.count; current = r.current })))
+    (Err (BadVariableCount r.at)))
+    (Err (Truncated (length s))))
+    (Err (Misplaced r.at))
 
 -- a literal of variable v
-unfoldable pub variable_event : Reader → ℕ → Bool → Event
+unfoldable pub variable_event : Reader → ℕ → Bool → Result (Option Reader) Refusal
 variable_event r v sign =
     cond (bit (side r.current (not sign)) v)
-    (Stopped (ComplementaryLiteral r.at))
-    (Next (record { at = r.at + 2; variables = r.variables; count = r.count; current = with_literal r.current v sign }))
+    (Err (ComplementaryLiteral r.at))
+    (Ok (Some (record { at = r.at + 2; variables = r.variables; count = r.count; current = with_literal r.current v sign })))
 
 -- kinds 2 and 3
-unfoldable pub literal_event : List ℕ → Reader → Bool → Event
+unfoldable pub literal_event : List ℕ → Reader → Bool → Result (Option Reader) Refusal
 literal_event s r sign =
     cond (eqb r.at 0)
-    (Stopped (Misplaced r.at))
+    (Err (Misplaced r.at))
     (cond (ltb (r.at + 1) (length s))
     (cond (one_to r.variables (get_or s (r.at + 1) 0))
     (variable_event r (get_or s (r.at + 1) 0 - 1) sign)
-    (Stopped (NoSuchVariable r.at)))
-    (Stopped (Truncated (length s))))
+    (Err (NoSuchVariable r.at)))
+    (Err (Truncated (length s))))
 
 -- kind 4
-unfoldable pub end_event : Reader → Event
+unfoldable pub end_event : Reader → Result (Option Reader) Refusal
 end_event r =
     cond (eqb r.at 0)
-    (Stopped (Misplaced r.at))
+    (Err (Misplaced r.at))
     (cond (ltb r.count max_clauses)
-    (Next (record { at = r.at + 1; variables = r.variables; count = r.count + 1; current = no_clause }))
-    (Stopped (TooManyClauses r.at)))
+    (Ok (Some (record { at = r.at + 1; variables = r.variables; count = r.count + 1; current = no_clause })))
+    (Err (TooManyClauses r.at)))
 
 -- kind 5
-unfoldable pub finish_event : List ℕ → Reader → Event
+unfoldable pub finish_event : List ℕ → Reader → Result (Option Reader) Refusal
 finish_event s r =
     cond (eqb r.at 0)
-    (Stopped (Misplaced r.at))
+    (Err (Misplaced r.at))
     (cond (eqb (clause_variables r.current) 0)
-    (cond (ltb (r.at + 1) (length s)) (Stopped (TrailingByte (r.at + 1))) Finished)
-    (Stopped (Misplaced r.at)))
+    (cond (ltb (r.at + 1) (length s)) (Err (TrailingByte (r.at + 1))) (Ok None))
+    (Err (Misplaced r.at)))
 
-abbrev pub kind_event : List ℕ → Reader → Kind → Event
+abbrev pub kind_event : List ℕ → Reader → Kind → Result (Option Reader) Refusal
 kind_event s r variable_count = count_event s r
 kind_event s r (literal sign) = literal_event s r sign
 kind_event s r clause_end = end_event r
 kind_event s r formula_end = finish_event s r
-kind_event s r unknown = Stopped (UnknownKind r.at)
+kind_event s r unknown = Err (UnknownKind r.at)
 
 -- one record
-unfoldable pub record_event : List ℕ → Reader → Event
+unfoldable pub record_event : List ℕ → Reader → Result (Option Reader) Refusal
 record_event s r =
-    cond (ltb r.at (length s)) (kind_event s r (kind_of (get_or s r.at 0))) (Stopped (Truncated (length s)))
+    cond (ltb r.at (length s)) (kind_event s r (kind_of (get_or s r.at 0))) (Err (Truncated (length s)))
 
 -- the record is a literal that can be read
 abbrev pub literal_stands : List ℕ → Reader → Bool

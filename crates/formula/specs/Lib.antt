@@ -2,6 +2,7 @@ pub mod Check
 pub mod Decoding
 pub mod InnerDecode
 pub mod Format
+pub mod InnerAssignment
 pub mod InnerCheck
 pub mod InnerReader
 pub mod Masked
