@@ -153,3 +153,11 @@ pub lent_puts : {xs : List ℕ} {b : MutBor (List ℕ)} {at : ℕ} {v w : Writer
     → (w.buffer.ghost_name ≡ b.ghost_name) × Wrote xs at b.now w.buffer.now w.at
 lent_puts {xs} {w = w} l p =
     (p.same ∙ l.same, rw (l.bytes, l.next) at p.wrote)
+
+-- there is room for the first part of a list,
+pub room_in_front : (xs ys ws : List ℕ) (w : Writer) → ws ≡ xs ++ ys → RoomIn ws w → RoomIn xs w
+room_in_front xs ys ws w e h = let l = ap length e ∙ length-append xs ys in omega arith
+
+-- and for the part behind it
+pub room_in_behind : (xs ys ws : List ℕ) (v w : Writer) → ws ≡ xs ++ ys → RoomIn ws v → Puts xs v w → RoomIn ys w
+room_in_behind xs ys ws v w e h p = let l = ap length e ∙ length-append xs ys in omega arith
