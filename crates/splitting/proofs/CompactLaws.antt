@@ -15,7 +15,7 @@ use Rattle.limits.specs.Limits.{max_clauses}
 use Rattle.lists.specs.Every.{Every}
 use Rattle.lists.specs.Tabulated.{tabulated}
 use Rattle.lists.proofs.EveryLaws.{every_get_or}
-use Rattle.lists.proofs.TabulatedLaws.{length_tabulated}
+use Rattle.lists.proofs.TabulatedLaws.{length_tabulated, get_or_tabulated}
 use Rattle.lists.proofs.TestLaws.{and_left, and_right, or_cases, or-none, bool_cases, bool_clash}
 use Rattle.masks.specs.Mask.{bit, with, minus}
 use Rattle.masks.specs.InnerMask.{lowest}
@@ -92,6 +92,17 @@ node_at f a = node_none (formula_at f a) refl
 
 pub node_in : (s : Clauses) → node (formula_in s) unassigned ≡ clauses_of s
 node_in s = node_none (formula_in s) (length_tabulated (clause_in s.positives s.negatives) s.count)
+
+-- its clauses are few and of 64-bit masks
+pub small_in : (s : Clauses) → Small (formula_in s)
+small_in s = record {
+  few = s.few;
+  words = λ i l sign. rw (get_or_tabulated (clause_in s.positives s.negatives) s.count i no_clause l) (by_side i sign);
+}
+  where
+    by_side : (i : ℕ) (sign : Bool) → side (clause_in s.positives s.negatives i) sign < 2 ^ 64
+    by_side i true = s.words.0 i
+    by_side i false = s.words.1 i
 
 -- the matching of the node, from the arrays of its clauses
 pub matching_in : (f : Formula) (a : Assignment) (s : Clauses) → formula_in s ≡ formula_at f a → matching_at (formula_in s) unassigned ≡ matching_at f a

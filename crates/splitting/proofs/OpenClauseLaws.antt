@@ -3,10 +3,8 @@ use Prim.Native.Nat.{ℕ, zero, suc, ◌+◌, ◌-◌, ◌<◌}
 use mathlib.Core.Bool.{Bool, true, false, not, ◌||◌, or-true, or-false, or_assoc}
 use mathlib.Core.List.{List, [], ◌∷◌, ◌++◌, map, map-append, append-nil}
 use mathlib.Core.Path.{◌≡◌, refl, sym, ap, ◌∙◌}
-use native.Mathlib.Decide.{ℕ_discrete}
 use native.Mathlib.Numerals.{add-one}
 use native.Mathlib.Omega.{arith}
-use lib.Bits.{bit_or}
 use lib.Dec.{eqb}
 use borrow.Author.Tests.{eq-eqb, ne_eqb}
 use lib.ListN.{length, get_or, set, length-append, length-map}
@@ -14,11 +12,8 @@ use lib.Seq.{get_or-set_same, get_or-set_other}
 use Rattle.lists.specs.Over.{over}
 use Rattle.lists.specs.Tabulated.{tabulated}
 use Rattle.lists.proofs.OverLaws.{over_set}
-use Rattle.lists.proofs.TestLaws.{or_left, or_right}
 use Rattle.lists.proofs.TabulatedLaws.{length_tabulated, tabulated_more, get_or_tabulated, tabulated-same}
 use Rattle.masks.specs.Mask.{bit}
-use Rattle.masks.proofs.BitLaws.{bit-or}
-use Rattle.masks.proofs.MembersLaws.{some_member, member_some}
 use Rattle.formula.specs.declared.Clause.{Clause}
 use Rattle.formula.specs.declared.Formula.{Formula}
 use Rattle.formula.specs.InnerMasked.{no_clause}
@@ -27,20 +22,6 @@ use Rattle.formula.specs.declared.assignment.Assignment.{Assignment}
 use Rattle.splitting.specs.declared.clauses.Survey.{Survey}
 use Rattle.formula.specs.InnerAssignment.{satisfied_under, left_under}
 use Rattle.splitting.specs.InnerChoose.{open_clauses, unnamed, clause_in, clauses_in, surveys, survey_from, survey_of, some_empty}
-
--- ---- one clause
-
--- a mask of two has a member if one of them has
-pub some_or : (x y : ℕ) → not (eqb (bit_or x y) 0) ≡ not (eqb x 0) || not (eqb y 0)
-some_or x y = go (ℕ_discrete x 0) (ℕ_discrete y 0)
-  where
-    has : (i : ℕ) → bit x i || bit y i ≡ true → not (eqb (bit_or x y) 0) ≡ true
-    has i h = ap not (ne_eqb (bit_or x y) 0 (member_some (bit_or x y) i (bit-or x y i ∙ h)))
-
-    go : Dec (x ≡ 0) → Dec (y ≡ 0) → not (eqb (bit_or x y) 0) ≡ not (eqb x 0) || not (eqb y 0)
-    go (no p) d = let w = some_member x p in has w.0 (or_left (bit x w.0) (bit y w.0) w.1) ∙ sym (rw (ne_eqb x 0 p))
-    go (yes p) (no q) = let w = some_member y q in has w.0 (or_right (bit x w.0) (bit y w.0) w.1) ∙ sym (rw (eq-eqb x 0 p, ne_eqb y 0 q))
-    go (yes p) (yes q) = rw (p, q)
 
 -- ---- clauses in arrays
 
@@ -130,17 +111,16 @@ survey_snoc s [] c = refl
 survey_snoc s (x ∷ l) c = survey_snoc (surveys s x) l c
 
 -- of what is left of an array's open clauses: one more,
-pub survey_open : (cs : List Clause) (a : Assignment) (i : ℕ) (s : Survey) → s ≡ survey_of (open_clauses cs a i) → satisfied_under a (get_or cs i no_clause) ≡ false
-    → surveys s (left_under a (get_or cs i no_clause)) ≡ survey_of (open_clauses cs a (i + 1))
-survey_open cs a i s e q =
-    let c = get_or cs i no_clause in
+pub survey_open : (cs : List Clause) (a : Assignment) (i : ℕ) (c : Clause) → get_or cs i no_clause ≡ c → (s : Survey) → s ≡ survey_of (open_clauses cs a i) → satisfied_under a c ≡ false
+    → surveys s (left_under a c) ≡ survey_of (open_clauses cs a (i + 1))
+survey_open cs a i c at s e q =
     ap (λ (t : Survey). surveys t (left_under a c)) e
-    ∙ sym (ap survey_of (open_more cs a i c refl q) ∙ survey_snoc (record { positive = 0; negative = 0; any = false }) (open_clauses cs a i) (left_under a c))
+    ∙ sym (ap survey_of (open_more cs a i c at q) ∙ survey_snoc (record { positive = 0; negative = 0; any = false }) (open_clauses cs a i) (left_under a c))
 
 -- or a satisfied one
-pub survey_gone : (cs : List Clause) (a : Assignment) (i : ℕ) (s : Survey) → s ≡ survey_of (open_clauses cs a i) → satisfied_under a (get_or cs i no_clause) ≡ true
+pub survey_gone : (cs : List Clause) (a : Assignment) (i : ℕ) (c : Clause) → get_or cs i no_clause ≡ c → (s : Survey) → s ≡ survey_of (open_clauses cs a i) → satisfied_under a c ≡ true
     → s ≡ survey_of (open_clauses cs a (i + 1))
-survey_gone cs a i s e q = e ∙ ap survey_of (sym (open_gone cs a i (get_or cs i no_clause) refl q))
+survey_gone cs a i c at s e q = e ∙ ap survey_of (sym (open_gone cs a i c at q))
 
 pub survey_more : (p q : List ℕ) (i : ℕ) → survey_of (clauses_in p q (i + 1)) ≡ surveys (survey_of (clauses_in p q i)) (clause_in p q i)
 survey_more p q i = rw (tabulated_more (clause_in p q) i) (survey_snoc (record { positive = 0; negative = 0; any = false }) (clauses_in p q i) (clause_in p q i))

@@ -163,13 +163,14 @@ abbrev pub digit : Bool → ℕ → ℕ
 digit true x = suc (2 * x)
 digit false x = 2 * x
 
--- the count of v in a counter, which holds the counts of all variables, a mask for each binary digit
+-- the count of v by a mask for each binary digit, the last digit first
+unfoldable pub count_of : List ℕ → ℕ → ℕ
+count_of [] v = 0
+count_of (d ∷ ds) v = digit (bit d v) (count_of ds v)
+
+-- the count of v in a counter, which holds the counts of all variables
 abbrev pub count_at : Counts → ℕ → ℕ
-count_at c v =
-    digit (bit c.ones v)
-    (digit (bit c.twos v)
-    (digit (bit c.fours v)
-    (digit (bit c.eights v) (digit (bit c.sixteens v) (digit (bit c.thirtytwos v) (digit (bit c.sixtyfours v) 0))))))
+count_at c v = count_of c.digits v
 
 -- the greatest count that seven digits hold
 abbrev pub max_count : ℕ

@@ -5,6 +5,7 @@ ghost use Rattle.lists.specs.Over.{over};
 ghost use Rattle.masks.specs.Mask.{bit};
 ghost use Rattle.formula.specs.InnerAssignment.{unassigned, set_to, left_under};
 ghost use Rattle.formula.specs.InnerFits.{clause_variables};
+ghost use Rattle.splitting.specs.InnerWords.{Words};
 
 use crate::counts::Counts;
 use crate::Choice;
@@ -43,6 +44,7 @@ pub struct Clauses {
     negatives: [u64; MAX_CLAUSES],
     count: usize,
     ghost few: { count ≤ max_clauses },
+    ghost words: { Words positives × Words negatives },
 }
 
 // What is left of a clause.
@@ -57,29 +59,32 @@ pub fn left(a: Assignment, c: Clause) -> Clause
 
 impl Clauses {
     ghost use Rattle.splitting.specs.Choosing.{by_count};
-    ghost use Rattle.splitting.specs.InnerChoose.{node, unnamed, survey_of, some_empty, matching_at, clause_in, clauses_in, clauses_of, formula_in, formula_at, Small, reduce_from, tried, passing, occurrences_in, count_at, max_count, listed_last};
+    ghost use Rattle.splitting.specs.InnerChoose.{node, unnamed, survey_of, some_empty, matching_at, clause_in, clauses_in, clauses_of, formula_in, formula_at, reduce_from, tried, passing, occurrences_in, count_at, max_count, listed_last};
 
-    // What is left of the formula's open clauses.
-    pub fn left_at(f: &Formula, a: Assignment) -> Self
-        requires { f.now.count ≤ max_clauses }
-        ensures { formula_in result ≡ formula_at f.now a }
-    {
-        let mut clauses = Clauses {
+    // No clauses.
+    pub fn none() -> Self {
+        Clauses {
             positives: [0; MAX_CLAUSES],
             negatives: [0; MAX_CLAUSES],
             count: 0,
-        };
+        }
+    }
+
+    // Takes what is left of the formula's open clauses, in place of what it has.
+    pub fn take_open(&mut self, f: &Formula, a: Assignment)
+        requires { f.now.count ≤ max_clauses }
+        ensures { formula_in self.new ≡ formula_at f.now a }
+    {
         let mut count = 0;
         for c in &f.clauses[..f.count] {
             if !a.satisfies(*c) {
                 let l = left(a, *c);
-                clauses.positives[count] = l.positive;
-                clauses.negatives[count] = l.negative;
+                self.positives[count] = l.positive;
+                self.negatives[count] = l.negative;
                 count += 1;
             }
         }
-        clauses.count = count;
-        clauses
+        self.count = count;
     }
 
     // The i-th clause.
@@ -189,7 +194,6 @@ impl Clauses {
 
     // Matches the clauses of the node, from nothing.
     pub fn match_with(&self, a: Assignment) -> Matching
-        requires { Small (formula_in self.now) }
         ensures { result ≡ matching_at (formula_in self.now) a }
     {
         let mut sets = [0; MAX_CLAUSES];
@@ -200,7 +204,6 @@ impl Clauses {
     // Strips pure literals, the lowest first, until there is none, from a copy. No variable is noted twice, so that as many turns as
     // variables are enough.
     pub fn reduce(&self, variables: usize) -> Reduced
-        requires { Small (formula_in self.now) }
         ensures { result ≡ reduce_from variables (formula_in self.now) unassigned 0 0 }
     {
         let mut left = *self;
@@ -229,7 +232,7 @@ impl Clauses {
 
     // S6.3: a trial of v: the clauses are matched with v false and, unless this fails, also with v true.
     fn try_variable(&self, v: usize) -> Trial
-        requires { Small (formula_in self.now) × (v < 64) }
+        requires { v < 64 }
         ensures { result ≡ tried (formula_in self.now) unassigned v }
     {
         let when_false = self.match_with(Assignment::none().with(v, false));
@@ -252,14 +255,13 @@ impl Clauses {
     {
         let mut counts = Counts::none();
         for i in 0..self.count {
-            counts = counts.with(self.positives[i] | self.negatives[i]);
+            counts = counts.with(self.clause(i).variables());
         }
         counts
     }
 
     // Tries the counted variables, the busiest first and of equally busy ones the lowest, until one passes.
     pub fn first_passing(&self, counts: Counts) -> Choice
-        requires { Small (formula_in self.now) }
         ensures { result ≡ passing (formula_in self.now) unassigned (by_count (count_at counts) 64 max_count) 0 }
     {
         let mut rest = counts.counted();

@@ -1,6 +1,9 @@
 -- `survey_open` is the survey of the node.
 use native.Mathlib.Omega.{arith}
 use mathlib.Core.Path.{◌≡◌, refl, sym, ◌∙◌}
+use lib.ListN.{get_or}
+use Rattle.std.proofs.lemmas.List.{get_or-take}
+use Rattle.formula.specs.InnerMasked.{no_clause}
 use Rattle.splitting.specs.InnerChoose.{open_clauses, survey_from}
 use Rattle.splitting.proofs.OpenClauseLaws.{survey_open, survey_gone}
 use Rattle.splitting.proofs.survey_open.Goals.{then-not-satisfies, else-not-satisfies}
@@ -14,4 +17,12 @@ pub loop-c-preserved : goal.loop-c-preserved
 loop-c-preserved c =
     let cs = c.args.f.now.clauses in
     let a = c.args.a in
-    elim c.if-not-satisfies.branch [ then-not-satisfies w ↦ let h = w.s-is in let k = c.satisfies.ensures in ? | else-not-satisfies w ↦ ? ]
+    let i = c.loop-c.c-index in
+    let at = sym (get_or-take c.args.f.now.count cs i no_clause (omega arith)) in
+    elim c.if-not-satisfies.branch [
+      | then-not-satisfies w ↦ rw (w.s-is, w.left-l.ensures) (survey_open cs a i _ at _ c.loop-c.invariant (sym c.satisfies.ensures ∙ w.if-not-satisfies.true))
+      | else-not-satisfies w ↦ w.s-is ∙ survey_gone cs a i _ at _ c.loop-c.invariant (sym c.satisfies.ensures ∙ w.if-not-satisfies.false)
+    ]
+
+pub returns : goal.returns
+returns c = let e : c.loop-c.c-index ≡ c.args.f.now.count = omega arith in rw e at c.loop-c.invariant

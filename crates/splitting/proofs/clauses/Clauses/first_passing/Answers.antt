@@ -11,6 +11,7 @@ use Rattle.formula.specs.declared.Formula.{Formula}
 use Rattle.splitting.specs.Choosing.{by_count}
 use Rattle.formula.specs.InnerAssignment.{unassigned}
 use Rattle.splitting.specs.InnerChoose.{passing, formula_in, count_at, max_count}
+use Rattle.splitting.proofs.CompactLaws.{small_in}
 use Rattle.splitting.proofs.MaskTrialLaws.{Lists, lists_first, lists_none, lists_counted, counted_few, without_fewer, passing_found, passing_more, passing-none, trial_cost}
 use Rattle.splitting.proofs.clauses.Clauses.first_passing.Goals.{After-busiest-v, After-try_variable-t, At-loop-rest, Start}
 use Rattle.splitting.proofs.clauses.Clauses.first_passing.Goals as goal
@@ -35,7 +36,7 @@ below c =
 
 cost : (c : After-try_variable-t) → c.try_variable-t.result.cost ≤ 9312
 cost c =
-    trial_cost (held (goal.at.After-try_variable-t c).Start) unassigned c.busiest-v.result c.try_variable-t.result c.try_variable-t.ensures c.requires
+    trial_cost (held (goal.at.After-try_variable-t c).Start) unassigned c.busiest-v.result c.try_variable-t.result c.try_variable-t.ensures (small_in c.args.self.now)
 
 pub loop-rest-init : goal.loop-rest-init
 loop-rest-init c =
@@ -46,7 +47,7 @@ pub busiest-v-requires : goal.busiest-v-requires
 busiest-v-requires c = c.loop-rest-test.true
 
 pub try_variable-t-requires : goal.try_variable-t-requires
-try_variable-t-requires c = (c.requires, below c)
+try_variable-t-requires c = below c
 
 pub overflow_add-cost : goal.overflow_add-cost
 overflow_add-cost c =
