@@ -66,8 +66,8 @@ take_one n w s = go (take_word n w s)
     go (next s') = refl
     go (stop r) = refl
 
-pub one_stands : {n : ℕ} {w : Piece} {s : Progress} {r : Reader} → Stands n (take_word n w s) r → Stands n (take_words n (w ∷ []) s) r
-one_stands {n} {w} {s} h = record { progress = h.progress; taken = take_one n w s ∙ h.taken; keeps = h.keeps }
+pub one_stands : (n : ℕ) (w : Piece) (s : Progress) {r : Reader} → Stands n (take_word n w s) r → Stands n (take_words n (w ∷ []) s) r
+one_stands n w s h = record { progress = h.progress; taken = take_one n w s ∙ h.taken; keeps = h.keeps }
 
 -- the words of a line, and of those behind it
 pub lines_words : (l : Piece) (ls ms : List Piece) → ms ≡ l ∷ ls → all_words ms ≡ words l ++ all_words ls

@@ -11,7 +11,7 @@ use Rattle.std.specs.Prelude.{Some, None, Ok}
 use Rattle.limits.specs.Limits.{max_variables}
 use Rattle.writing.specs.Placed.{Wrote}
 use Rattle.formula.specs.declared.Refusal.{Refusal}
-use Rattle.formula.specs.declared.Refusal.TheVariants.{ShortBuffer, BadVariableCount}
+use Rattle.formula.specs.declared.Refusal.TheVariants.{ShortBuffer, BadVariableCount, BadOpening}
 use Rattle.formula.specs.Format.{Literal, formula_bytes, max_bytes}
 use Rattle.formula.specs.Decoding.{Decoding, readable, refused}
 use Rattle.dimacs.specs.declared.opening.Numbers.{Numbers}
@@ -62,13 +62,13 @@ module _ (len : ℕ) (ls : List Piece) (l : Piece) (behind : List Piece) (lines 
 
     -- it has no variable
     pub lines_empty : p.variables ≡ 0 → by_lines len ls ≡ refused (BadVariableCount p.third)
-    lines_empty e = let z : value held.third.bytes ≡ 0 = capped_zero (value held.third.bytes) (sym count ∙ e) in whole ∙ rw (z, place)
+    lines_empty e = let z : value held.third.bytes ≡ 0 = capped_zero (value held.third.bytes) (sym count ∙ e) in whole ∙ rw z (ap (λ (k : ℕ). refused (BadVariableCount k)) (sym place))
 
     -- or too many
     pub lines_many : max_variables < p.variables → by_lines len ls ≡ refused (BadVariableCount p.third)
     lines_many e =
         let m : max_variables < value held.third.bytes = go (ltb (value held.third.bytes) cap) refl in
-        whole ∙ rw (lt-leb (value held.third.bytes) max_variables m, and-false (ltb 0 (value held.third.bytes)), place)
+        whole ∙ rw (lt-leb (value held.third.bytes) max_variables m, and-false (ltb 0 (value held.third.bytes))) (ap (λ (k : ℕ). refused (BadVariableCount k)) (sym place))
       where
         go : (b : Bool) → ltb (value held.third.bytes) cap ≡ b → max_variables < value held.third.bytes
         go true q = omega (arith, e, count, capped_low (value held.third.bytes) (ltb-true (value held.third.bytes) cap q))

@@ -41,13 +41,13 @@ module _ (test : ℕ → Bool) where
       let k : position_or_len test (u ++ (x ∷ v)) ≡ length u = (let f = first_behind u (x ∷ v) h in omega arith) in
       let l : ltb (length u) (length (u ++ (x ∷ v))) ≡ true = lt-ltb (length u) (length (u ++ (x ∷ v))) (omega (arith, length-append u (x ∷ v))) in
       let d : drop (suc (length u)) (u ++ (x ∷ v)) ≡ v = rw (← add-one (length u)) (drop-append-add u (x ∷ v) 1) in
-      pieces_position_or_len test at (u ++ (x ∷ v)) ∙ rw (k, take-append_seam u (x ∷ v), l, d)
+      pieces_until test at (u ++ (x ∷ v)) ∙ rw (k, take-append_seam u (x ∷ v), l, d)
 
   -- the last one goes up to the end
   pub pieces_last : (at : ℕ) (u : List ℕ) → Whole u → pieces test at [] u ≡ record { at = at; bytes = u } ∷ []
   pieces_last at u h =
       let k : position_or_len test u ≡ length u = (let f = rw append-nil at (first_behind u [] h) in omega arith) in
-      pieces_position_or_len test at u ∙ rw (k, take-length u, le-ltb (length u) (length u) (omega arith))
+      pieces_until test at u ∙ rw (k, take-length u, le-ltb (length u) (length u) (omega arith))
 
 -- ---- a line of words
 

@@ -4,7 +4,7 @@
 ghost use Rattle.std.specs.Prelude.{◌≡◌, ◌+◌, ◌-◌, ◌<◌, ◌≤◌, ℕ, length};
 ghost use Rattle.limits.specs.Limits.{max_variables};
 ghost use Rattle.formula.specs.Format.{literal_kind};
-ghost use Rattle.dimacs.specs.Text.{Piece, words, all_words, Progress, progress_start, take_literal, take_end, take_word, take_words, next, closing};
+ghost use Rattle.dimacs.specs.Text.{words, all_words, Progress, progress_start, take_literal, take_end, take_word, take_words, next, closing};
 ghost use Rattle.dimacs.specs.Convert.{converted_values, to_encoded};
 ghost use Rattle.dimacs.specs.InnerPiece.{piece_of};
 ghost use Rattle.dimacs.specs.InnerScan.{lines_left, numbers_of};
@@ -142,7 +142,7 @@ impl Reader {
     // Behind the last word of a text of `len` bytes: no clause is open, and there are as many as the p line says.
     fn close(&mut self, len: usize, p: Numbers) -> Result<(), Refusal>
         requires { Ready self.old }
-        ensures { (s : Progress) (c d : Piece) → Keeps self.old.variables s self.old → p ≡ numbers_of c d → Reads (closing len self.old.variables d (next s)) self.new result }
+        ensures { (n : ℕ) (s : Progress) (c d : _) → Keeps n s self.old → p ≡ numbers_of c d → Reads (closing len n d (next s)) self.new result }
     {
         if self.current.variables() != 0 {
             return Err(Refusal::Truncated(len));
