@@ -32,9 +32,6 @@ pub record Goes (n : ℕ) (ws : List Piece) (s : Progress) (rest : List Piece) (
   pub same : take_words n ws s ≡ take_words n rest progress
 
 module _ {n : ℕ} {ws : List Piece} {s : Progress} where
-  pub goes_start : {r : Reader} → Keeps n s r → Goes n ws s ws r
-  goes_start k = record { progress = s; keeps = k; same = refl }
-
   module _ {rest : List Piece} {r : Reader} (g : Goes n ws s rest r) where
     module _ (us vs : List Piece) (parts : rest ≡ us ++ vs) where
       both : (t : Taking) → take_words n us g.progress ≡ t → take_words n ws s ≡ behind n vs t

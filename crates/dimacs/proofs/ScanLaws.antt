@@ -102,9 +102,6 @@ capped_zero x e = go (ltb x cap) refl
     go true p = sym (capped_low x (ltb-true x cap p)) ∙ e
     go false p = absurd (let f : cap ≡ 0 = sym (rw p) ∙ e in omega arith)
 
-pub capped_some : (x : ℕ) → (capped x ≡ 0 → ⊥) → x ≡ 0 → ⊥
-capped_some x h e = h (rw e)
-
 -- ---- tokens
 
 pub number-none : (s : List ℕ) → number_held s ≡ None → run s ≡ false

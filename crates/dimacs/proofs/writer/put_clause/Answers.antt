@@ -36,12 +36,6 @@ pub put_once-line-requires : goal.put_once-line-requires
 put_once-line-requires c =
     literal_room (going (goal.at.put_once-line-requires c).At-loop-i) (literal (goal.at.put_once-line-requires c).In-loop-i) c.requires.room
 
-pub overflow_add-i-in-loop-i : goal.overflow_add-i-in-loop-i
-overflow_add-i-in-loop-i c = omega (arith, (literal (goal.at.overflow_add-i-in-loop-i c).In-loop-i).inside)
-
-pub loop-i-smaller : goal.loop-i-smaller
-loop-i-smaller c = omega (arith, (literal (goal.at.loop-i-smaller c).In-loop-i).inside)
-
 pub loop-i-preserved : goal.loop-i-preserved
 loop-i-preserved c =
     let r = c.requires.room in
@@ -53,14 +47,6 @@ loop-i-preserved c =
 pub put_word-requires : goal.put_word-requires
 put_word-requires c =
     end_room (going (goal.at.put_word-requires c).At-loop-i) c.loop-i-test.false c.requires.room
-
-pub overflow_add-result : goal.overflow_add-result
-overflow_add-result c = omega (arith, lining_inside (going (goal.at.overflow_add-result c).At-loop-i))
-
-pub shape_of-buffer : goal.shape_of-buffer
-shape_of-buffer c =
-    let r = c.requires.room in
-    wrote_length r (lining_last (going (goal.at.shape_of-buffer c).At-loop-i) _ _ c.loop-i-test.false (omega arith) c.put_word.ensures).0
 
 pub returns : goal.returns
 returns c =

@@ -12,13 +12,6 @@ going : (l : At-loop)
     → (Listing l.args.input.now l.requires.rest l.requires.clauses l.args.at l.args.buffer.now l.loop.buffer l.loop.place.from l.loop.place.at (l.args.count - l.loop.counter))
 going l = let v = l.requires in l.loop.invariant v.clauses v.rest v.bytes v.over v.all
 
-pub loop-init : goal.loop-init
-loop-init c =
-    λ ws rest e o n.
-    let a = c.args in
-    let z : a.count - 0 ≡ a.count = omega arith in
-    rw z (listing-first a.input.now rest 2 ws a.at a.buffer.now a.count e o n)
-
 pub put_clause-place-requires : goal.put_clause-place-requires
 put_clause-place-requires c = listing_clause (going (goal.at.put_clause-place-requires c).At-loop) (omega arith) c.requires.room
 
@@ -27,9 +20,6 @@ loop-preserved c =
     let r = c.requires.room in
     let s : c.args.count - (c.loop.counter + 1) ≡ c.args.count - c.loop.counter - 1 = omega arith in
     λ ws rest e o n. rw s (listing_more (c.loop.invariant ws rest e o n) _ _ (omega arith) (omega arith) c.put_clause-place.ensures)
-
-pub shape_of-buffer : goal.shape_of-buffer
-shape_of-buffer c = wrote_length c.requires.room (listing_last (going (goal.at.shape_of-buffer c).At-loop) (omega arith))
 
 pub returns : goal.returns
 returns c = λ ws rest e o n. listing_last (c.loop.invariant ws rest e o n) (omega arith)

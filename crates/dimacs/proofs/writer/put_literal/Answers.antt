@@ -7,15 +7,6 @@ use Rattle.writing.proofs.PlacedLaws.{wrote_more}
 use Rattle.dimacs.proofs.LineLaws.{text_sum}
 use Rattle.dimacs.proofs.writer.put_literal.Goals as goal
 
-pub put_sign-digits-requires : goal.put_sign-digits-requires
-put_sign-digits-requires c = let a = c.args in omega (arith, text_sum a.sign a.k)
-
-pub put_decimal-blank-requires : goal.put_decimal-blank-requires
-put_decimal-blank-requires c = let a = c.args in rw c.from.ensures (omega (arith, text_sum a.sign a.k))
-
-pub put_byte-requires : goal.put_byte-requires
-put_byte-requires c = let a = c.args in omega (arith, text_sum a.sign a.k, rw c.from.ensures at c.put_decimal-blank.ensures.next)
-
 pub returns : goal.returns
 returns c =
     let h : c.args.at ≤ length c.args.buffer.now = omega arith in

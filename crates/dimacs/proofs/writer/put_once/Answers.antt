@@ -18,15 +18,3 @@ returns-then-member c =
     let a = c.args in
     let b = has (goal.at.returns-then-member c).After-member _ c.if-member.true in
     rw b (record { buffer = placed_none a.line.at a.buffer.now; next = omega arith }, sym (with_member a.line.seen (a.k - 1) b))
-
-pub put_literal-requires : goal.put_literal-requires
-put_literal-requires c =
-    let b = has (goal.at.put_literal-requires c).After-member _ c.if-member.false in
-    let e : c.args.k - 1 + 1 ≡ c.args.k = omega arith in
-    rw (b, e) at c.requires.2
-
-pub returns : goal.returns
-returns c =
-    let b = has (goal.at.returns c).After-member _ c.if-member.false in
-    let e : c.args.k - 1 + 1 ≡ c.args.k = omega arith in
-    (rw (b, e) c.put_literal.ensures, rw c.from-v.ensures at c.with.ensures)

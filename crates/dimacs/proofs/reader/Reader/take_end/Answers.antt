@@ -3,9 +3,6 @@ use native.Mathlib.Omega.{arith}
 use Rattle.dimacs.proofs.KeepLaws.{end_room, end_many, end_kept}
 use Rattle.dimacs.proofs.reader.Reader.take_end.Goals as goal
 
-pub returns-then-self-ge-MAX_CLAUSES : goal.returns-then-self-ge-MAX_CLAUSES
-returns-then-self-ge-MAX_CLAUSES c = λ n s k. end_many k c.args.at c.if-self-ge-MAX_CLAUSES.true
-
 pub keep-requires : goal.keep-requires
 keep-requires c = end_room c.requires.keeps
 

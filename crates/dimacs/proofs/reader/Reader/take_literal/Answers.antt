@@ -21,9 +21,6 @@ complement d x e = rw d.other_side.ensures at (sym d.member.ensures ∙ e)
 named : (d : After-member-2) (x : Bool) → d.member-2.result ≡ x → (let a = d.args in bit (clause_variables a.self.now.current) (a.k - 1) ≡ x)
 named d x e = rw d.variables.ensures at (sym d.member-2.ensures ∙ e)
 
-pub returns-then-self-k : goal.returns-then-self-k
-returns-then-self-k c = λ n s k. let a = c.args in literal_above k a.at a.sign a.k c.if-self-k.true
-
 pub returns-then-member : goal.returns-then-member
 returns-then-member c =
     let d = (goal.at.returns-then-member c).After-member in

@@ -9,9 +9,6 @@ use Rattle.dimacs.proofs.reader.Reader.take_word.Goals as goal
 literal : (c : In-Literal) → Named (token c.args.word.bytes.now) c.in-Literal.sign c.in-Literal.k
 literal c = held_literal _ _ _ (sym c.read_token.ensures ∙ c.in-Literal.is)
 
-pub take_literal-requires : goal.take_literal-requires
-take_literal-requires c = (named_some c.args.word.bytes.now _ _ (literal (goal.at.take_literal-requires c).In-Literal), c.requires)
-
 pub returns-in-Ends : goal.returns-in-Ends
 returns-in-Ends c = λ n s k. rw (held_ends (token c.args.word.bytes.now) (sym c.read_token.ensures ∙ c.in-Ends.is)) (c.take_end.ensures n s k)
 
@@ -19,6 +16,3 @@ pub returns-in-Literal : goal.returns-in-Literal
 returns-in-Literal c = λ n s k.
     let w = c.args.word in
     rw (word_literal n w.at s w.bytes.now _ _ k.sized.most (literal (goal.at.returns-in-Literal c).In-Literal)) (c.take_literal.ensures n s k)
-
-pub returns-in-Bad : goal.returns-in-Bad
-returns-in-Bad c = λ n s k. rw (held_bad (token c.args.word.bytes.now) (sym c.read_token.ensures ∙ c.in-Bad.is)) refl
