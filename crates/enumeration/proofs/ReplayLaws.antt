@@ -132,5 +132,5 @@ module _ (K : Tree) where
         subst (λ (t : Stack). Replayed K t r) (ap (push (byte_number (get_or l i 0) - 1) (byte_value (get_or l i 0))) n.stack ∙ sym (rw (add-one i) (read_next l i h))) w
 
   -- a byte that does not replay
-  pub replayed_stops : (l : List ℕ) (i k : ℕ) → i ≤ k → Replayed K (pushed empty (take i l)) None → Replayed K (pushed empty (take k l)) None
-  replayed_stops l i k h w = record { known = sym (replays_stops K l i k h (sym w.known)); node = λ u x. cc }
+  pub replayed_stops : (l : List ℕ) (i : ℕ) → Replayed K (pushed empty (take i l)) None → Replayed K (pushed empty l) None
+  replayed_stops l i w = record { known = sym (replays_stops K l i (sym w.known)); node = λ u x. cc }

@@ -1,5 +1,5 @@
 -- What a run's state and answer tell: the checkpoint, and the result of a walk call.
-use Rattle.std.proofs.Common.{◌≡◌, ℕ, ◌<◌, true, false, map, length, refl, sym, ap, ◌∙◌, arith}
+use Rattle.std.proofs.Common.{◌≡◌, ℕ, map, length, refl, sym, ap, ◌∙◌, arith}
 use Rattle.limits.specs.Limits.{max_variables}
 use Rattle.lists.specs.Padded.{padded}
 use Rattle.walk.specs.Checkpoints.{byte, checkpoint_of}
@@ -7,7 +7,7 @@ use Rattle.walk.specs.Checkpoints as walk
 use Rattle.walk.specs.PlainMachine as plain
 use Rattle.walk.specs.PlainMachine.{found, spent, ended}
 use Rattle.walk.specs.InnerStack.{Stack, empty, push, depth, trail_of, Tree}
-use Rattle.walk.specs.InnerMachine.{down, Resumed}
+use Rattle.walk.specs.InnerMachine.{Resumed}
 use Rattle.walk.specs.InnerTest.{mode_of, stack_of, shown}
 use Rattle.walk.specs.InnerCall.{resumed_result}
 use Rattle.walk.specs.Results.{answered}
@@ -18,15 +18,6 @@ use Rattle.enumeration.specs.declared.state.State.{State}
 use Rattle.enumeration.specs.declared.steps.Answer.{Answer}
 use Rattle.enumeration.specs.InnerState.{stack_in, position_at, position_in, Holds, answer_as}
 use Rattle.enumeration.specs.Values.{answer_values, uncounted}
-
--- at a node with nothing assigned: mode 0; else mode 1
-pub mode_root : (t : Stack) → depth t ≡ 0 → 0 ≡ mode_of (down t)
-mode_root empty e = refl
-mode_root (push v b t) e = absurd (omega arith)
-
-pub mode_node : (t : Stack) → (depth t ≡ 0 → ⊥) → 1 ≡ mode_of (down t)
-mode_node empty e = absurd (e refl)
-mode_node (push v b t) e = refl
 
 module _ (K : Tree) (s : State) (h : Holds K s) where
   -- the position's trail is the state's

@@ -9,7 +9,9 @@ use lib.Seq.{length-take-le, take-suc, set_split, take_at, drop-append-add, drop
 use Rattle.lists.specs.Over.{over}
 use Rattle.lists.specs.Tabulated.{tabulated}
 use Rattle.lists.proofs.TabulatedLaws.{length_tabulated, tabulated_more}
-use Rattle.writing.specs.Placed.{placed, Room, Wrote}
+use Rattle.std.specs.Borrow.{MutBor}
+use Rattle.writing.specs.declared.Writer.{Writer}
+use Rattle.writing.specs.Placed.{placed, Room, Wrote, Lent, RoomIn, Puts}
 
 module _ {A : Type 0} where
   -- the length stays
@@ -123,3 +125,39 @@ room_behind at xs ys ws b c p e h w =
     let n = w.next in
     let k = wrote_length (room_front at xs ys ws b e h) w in
     omega arith
+
+-- ---- what a writer's methods did
+
+-- nothing yet
+pub puts_none : (w : Writer) → RoomIn [] w → Puts [] w w
+puts_none w h = record { same = refl; wrote = record { buffer = placed_none w.at w.buffer.now; next = omega arith }; shape = refl; room = h }
+
+-- one method behind the other
+pub puts_more : {xs ys : List ℕ} {u v w : Writer} → Puts xs u v → Puts ys v w → Puts (xs ++ ys) u w
+puts_more {xs} {ys} p q =
+    let l = length-append xs ys in
+    let s = p.shape in
+    let t = q.shape in
+    let n = p.wrote.next in
+    let a = p.room in
+    let b = q.room in
+    record {
+      same = q.same ∙ p.same;
+      wrote = wrote_more (omega arith) p.wrote q.wrote;
+      shape = q.shape ∙ p.shape;
+      room = omega arith;
+    }
+
+-- what was lent to a writer, and what it holds now
+pub lent_puts : {xs : List ℕ} {b : MutBor (List ℕ)} {at : ℕ} {v w : Writer} → Lent b at v → Puts xs v w
+    → (w.buffer.ghost_name ≡ b.ghost_name) × Wrote xs at b.now w.buffer.now w.at
+lent_puts {xs} {w = w} l p =
+    (p.same ∙ l.same, rw (l.bytes, l.next) at p.wrote)
+
+-- there is room for the first part of a list,
+pub room_in_front : (xs ys ws : List ℕ) (w : Writer) → ws ≡ xs ++ ys → RoomIn ws w → RoomIn xs w
+room_in_front xs ys ws w e h = let l = ap length e ∙ length-append xs ys in omega arith
+
+-- and for the part behind it
+pub room_in_behind : (xs ys ws : List ℕ) (v w : Writer) → ws ≡ xs ++ ys → RoomIn ws v → Puts xs v w → RoomIn ys w
+room_in_behind xs ys ws v w e h p = let l = ap length e ∙ length-append xs ys in omega arith
