@@ -6,7 +6,7 @@ use mathlib.Core.Path.{◌≡◌, refl, ap, ◌∙◌}
 use native.Mathlib.Omega.{arith}
 use borrow.Author.Tests.{ltb-true, ltb-false, eqb-true, eqb-false, eq-eqb, ne_eqb}
 use lib.Dec.{eqb, ltb}
-use lib.ListN.{length, length-append, replicate, length-replicate}
+use lib.ListN.{length, length-append, length-map, replicate, length-replicate}
 use Rattle.limits.specs.Limits.{max_variables, max_clauses}
 use Rattle.lists.specs.Every.{Every}
 use Rattle.lists.proofs.EveryLaws.{every_replicate}
@@ -15,6 +15,7 @@ use Rattle.writing.proofs.DecimalLaws.{decimal-length}
 use Rattle.writing.proofs.LineLaws.{numbers-length}
 use Rattle.formula.specs.declared.Formula.{Formula}
 use Rattle.formula.specs.Format.{Literal, names, distinct, ClauseOver, Sized}
+use Rattle.formula.specs.InnerMasked.{clause_of}
 use Rattle.formula.proofs.FormatLaws.{distinct_rest}
 use Rattle.formula.proofs.RepeatLaws.{below_most}
 use Rattle.formula.proofs.LengthLaws.{clause_le}
@@ -135,8 +136,8 @@ text_le {n} {cs} z =
     )
 
 -- so a buffer of the room asked for has room for the text of an accepted input
-pub accepted_readable : {s b : List ℕ} {f : Formula} → Accepts s f → text_room ≤ length b → Readable s f.variables f.count b
-accepted_readable {s} {b} a h = rw a.formula (record {
+pub accepted_readable : {s b : List ℕ} {f : Formula} → Accepts s f → text_room ≤ length b → Readable s f.variables (length f.clauses.items) b
+accepted_readable {s} {b} a h = rw (a.formula, length-map a.clauses clause_of) (record {
   clauses = a.clauses;
   reads = a.reads;
   all = refl;

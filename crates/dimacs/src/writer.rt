@@ -124,5 +124,5 @@ pub fn write(input: &[u8], buffer: &mut [u8]) -> Result<usize, Refusal>
         return Err(Refusal::ShortBuffer(0));
     }
     let f = formula::decode(input)?;
-    Ok(put_text(input, f.variables, f.count, buffer))
+    Ok(put_text(input, f.variables, f.clauses.len(), buffer))
 }

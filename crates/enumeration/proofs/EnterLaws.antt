@@ -4,13 +4,13 @@ use mathlib.Core.Bool.{true, false}
 use mathlib.Core.List.{List}
 use mathlib.Core.Path.{◌≡◌, refl, sym, ap, ap₂, ◌∙◌, subst}
 use native.Mathlib.Omega.{arith}
-use lib.ListN.{length}
+use lib.ListN.{length, length-map}
 use Rattle.std.specs.Prelude.{Option, Some, None, ok_or, Ok, Err}
 use Rattle.limits.specs.Limits.{max_variables, max_clauses}
 use Rattle.formula.specs.declared.assignment.Assignment.{Assignment}
 use Rattle.formula.specs.declared.Formula.{Formula}
 use Rattle.formula.specs.declared.Refusal.TheVariants.{ForeignCheckpoint}
-use Rattle.formula.specs.InnerMasked.{formula_of}
+use Rattle.formula.specs.InnerMasked.{clause_of, formula_of}
 use Rattle.assumptions.specs.declared.Assumption.{Assumption}
 use Rattle.splitting.specs.InnerChoose.{assignment_of}
 use Rattle.matched.specs.declared.Accepted.{Accepted}
@@ -45,7 +45,7 @@ module _ (s : List ℕ) (us : List Assumption) (f : Formula) (z : Scope) (w : Wa
   -- the code's choices make the task's tree
   pub walked_follows : Follows f z (tree w.task)
   walked_follows =
-      let few : length T.clauses ≤ max_clauses = omega (arith, w.fits.few, ap (λ (g : Formula). g.count) w.formula) in
+      let few : length T.clauses ≤ max_clauses = omega (arith, w.fits.few, ap (λ (g : Formula). length g.clauses.items) w.formula, length-map T.clauses clause_of) in
       subst (λ (g : Formula). Follows g z (tree T)) (sym w.formula)
       (subst (λ (y : Scope). Follows (formula_of T.variables T.clauses) y (tree T)) (sym w.scope) (follows T w.posed few))
 

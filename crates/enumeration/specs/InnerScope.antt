@@ -13,7 +13,7 @@ use Rattle.enumeration.specs.declared.scope.Scope.{Scope}
 
 -- what the clauses of f name and a has not assigned
 abbrev pub named_less : Formula → Assignment → ℕ
-named_less f a = minus (union (map clause_variables (take f.count f.clauses))) (assigned a)
+named_less f a = minus (union (map clause_variables f.clauses.items)) (assigned a)
 
 -- a is assigned before, and these are to be assigned
 abbrev pub scope_under : Formula → Assignment → Scope

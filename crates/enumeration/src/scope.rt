@@ -1,6 +1,5 @@
 // What a walk goes over: a formula, the variables that it assigns, and what is assigned before it begins.
-ghost use Rattle.std.specs.Prelude.{◌≡◌, ◌≤◌};
-ghost use Rattle.limits.specs.Limits.{max_clauses};
+ghost use Rattle.std.specs.Prelude.{◌≡◌};
 ghost use Rattle.enumeration.specs.InnerScope.{scope_under, visible_in};
 
 use formula::{Assignment, Formula};
@@ -14,7 +13,7 @@ pub struct Scope {
 }
 
 // What a walk goes over.
-#[derive(Clone, Copy)]
+#[derive(Drop)]
 pub struct Task {
     pub formula: Formula,
     pub scope: Scope,
@@ -23,7 +22,6 @@ pub struct Task {
 impl Task {
     // S23.1: the variables that the clauses of the formula name and that are not assigned before are to be assigned.
     pub fn new(formula: Formula, before: Assignment) -> Self
-        requires { formula.count ≤ max_clauses }
         ensures { result ≡ record { formula = formula; scope = scope_under formula before } }
     {
         let mask = masks::minus(matched::named(&formula), before.variables());

@@ -38,14 +38,14 @@ declined_prints s r row e = ap acceptance_lines e
 
 -- an accepted one: the lines of its walk
 pub accepted_prints : (s : List ℕ) (f : Formula) (w : Takes s [] f)
-    → printed s ≡ header f.variables f.count ++ lines_from (tree_of s [] f w) f.variables (visible (under w.variables w.trail w.clauses)) max_models (down empty)
+    → printed s ≡ header f.variables (length f.clauses.items) ++ lines_from (tree_of s [] f w) f.variables (visible (under w.variables w.trail w.clauses)) max_models (down empty)
 unfolding printed
 accepted_prints s f w =
     let n = w.variables in
     let cs = w.clauses in
     ap acceptance_lines w.accepts
     ∙ ap (λ (l : List ℕ). header n (length cs) ++ l) (lines_resumed s n w.trail cs w.row w.accepts max_models)
-    ∙ ap (λ (g : Formula). header g.variables g.count ++ lines_from (tree_of s [] f w) g.variables (visible (under n w.trail cs)) max_models (down empty)) (sym w.formula)
+    ∙ ap (λ (g : Formula). header g.variables (length g.clauses.items) ++ lines_from (tree_of s [] f w) g.variables (visible (under n w.trail cs)) max_models (down empty)) (sym w.formula)
 
 -- what accept answers, as the task of the input
 pub accepted_task : (s : List ℕ) (a : Accepted) → held_acceptance (acceptance s []) ≡ Ok a → IsTask s (record { formula = a.formula; scope = scope_under a.formula a.assignment })
@@ -60,7 +60,7 @@ module _ (s : List ℕ) (T : Task) (t : IsTask s T) where
   task_follows = rw t.scope (tree_follows s [] T.formula t.takes (assignment_of t.takes.trail) refl)
 
   pub task_prints : printed s
-      ≡ header T.formula.variables T.formula.count ++ lines_from (tree_of s [] T.formula t.takes) T.formula.variables (visible_in T.scope) max_models (down empty)
+      ≡ header T.formula.variables (length T.formula.clauses.items) ++ lines_from (tree_of s [] T.formula t.takes) T.formula.variables (visible_in T.scope) max_models (down empty)
   task_prints =
       let e = ap visible_in t.scope ∙ takes_visible s [] T.formula t.takes (assignment_of t.takes.trail) refl in
       rw e (accepted_prints s T.formula t.takes)

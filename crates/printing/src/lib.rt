@@ -110,7 +110,7 @@ fn put_task(w: &mut Writer, task: &Task)
     requires { Printable task.now w.old }
     ensures { (s : List ℕ) → IsTask s task.now → Puts (printed s) w.old w.new }
 {
-    put_header(w, task.formula.variables, task.formula.count);
+    put_header(w, task.formula.variables, task.formula.clauses.len());
     put_walk(w, task);
 }
 

@@ -44,9 +44,6 @@ returns-in_err-a c us g =
     (entered_refused _ us (checkpoint_values c.args.checkpoint) c.args.serial c.args.page.now _ c.if-page-lt-PAGE_SIZE.false (omega arith) c.if-serial-gt-MAX_SERIAL.false
     (declined_calls _ us _ (sym (c.in_err-a.ensures us g)) (checkpoint_values c.args.checkpoint) ample_budget))
 
-pub new-task-requires : goal.new-task-requires
-new-task-requires c = let p = c.requires in (accepted_walked c.args.input.now p.0 c.in_ok-a.a (sym (c.in_ok-a.ensures p.0 p.1))).fits.few
-
 pub enter-requires : goal.enter-requires
 enter-requires c = let p = c.requires in (_, p.0, walked (goal.at.enter-requires c).After-new-task p.0 p.1)
 

@@ -15,7 +15,7 @@ put_header-requires c =
     let p = c.requires in
     let T = c.args.task.now in
     let lines = lines_from (tree_of p.input [] T.formula p.task.takes) T.formula.variables (visible_in T.scope) max_models (down empty) in
-    room_in_front (header T.formula.variables T.formula.count) lines (printed p.input) c.args.w.now (task_prints p.input T p.task) p.room
+    room_in_front (header T.formula.variables (length T.formula.clauses.items)) lines (printed p.input) c.args.w.now (task_prints p.input T p.task) p.room
 
 pub put_walk-requires : goal.put_walk-requires
 put_walk-requires c =
@@ -26,7 +26,7 @@ put_walk-requires c =
       fits = p.task.takes.fits;
       tree = tree_of p.input [] T.formula p.task.takes;
       follows = task_follows p.input T p.task;
-      room = room_in_behind (header T.formula.variables T.formula.count) lines (printed p.input) c.args.w.now c.put_header.new.w (task_prints p.input T p.task) p.room c.put_header.ensures;
+      room = room_in_behind (header T.formula.variables (length T.formula.clauses.items)) lines (printed p.input) c.args.w.now c.put_header.new.w (task_prints p.input T p.task) p.room c.put_header.ensures;
     }
 
 pub returns : goal.returns

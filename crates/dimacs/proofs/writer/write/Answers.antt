@@ -1,6 +1,7 @@
 -- `write` by its three answers: a short buffer, the reader's refusal, or the text.
 use mathlib.Core.Path.{sym, ◌∙◌}
 use native.Mathlib.Omega.{arith}
+use lib.ListN.{length}
 use Rattle.std.proofs.lemmas.Result.{err_from_is_err_and}
 use Rattle.formula.proofs.MaskedLaws.{decoded_accepted, decoded_refused}
 use Rattle.dimacs.specs.InnerWriter.{Readable}
@@ -10,7 +11,7 @@ use Rattle.dimacs.proofs.writer.write.Goals.{In_ok-f}
 use Rattle.dimacs.proofs.writer.write.Goals as goal
 
 -- the formula of an accepted input
-formula : (t : In_ok-f) → (let f = t.in_ok-f.f in Readable t.args.input.now f.variables f.count t.args.buffer.now)
+formula : (t : In_ok-f) → (let f = t.in_ok-f.f in Readable t.args.input.now f.variables (length f.clauses.items) t.args.buffer.now)
 formula t = accepted_readable (decoded_accepted t.args.input.now _ (sym t.decode.ensures ∙ t.in_ok-f.was)) (omega arith)
 
 pub returns-then-buffer-lt-TEXT_ROOM : goal.returns-then-buffer-lt-TEXT_ROOM
