@@ -25,6 +25,3 @@ loop-c-preserved c =
     let f = c.args.f.now in
     all_more _ _ c.loop-c.c-index c.loop-c.invariant
     (ap (satisfied_under c.args.a) (sym (get_or-take f.count f.clauses c.loop-c.c-index no_clause (omega arith))) ∙ sym c.satisfies.ensures ∙ c.if-not-satisfies.false)
-
-pub returns : goal.returns
-returns c = let e : c.loop-c.c-index ≡ c.args.f.now.count = omega arith in sym (rw e at c.loop-c.invariant)

@@ -23,6 +23,3 @@ loop-c-preserved c =
       | then-not-satisfies w ↦ rw (w.s-is, w.with-s.ensures, w.left.ensures) (survey_open cs a i _ at _ c.loop-c.invariant (sym c.satisfies.ensures ∙ w.if-not-satisfies.true))
       | else-not-satisfies w ↦ w.s-is ∙ survey_gone cs a i _ at _ c.loop-c.invariant (sym c.satisfies.ensures ∙ w.if-not-satisfies.false)
     ]
-
-pub returns : goal.returns
-returns c = let e : c.loop-c.c-index ≡ c.args.f.now.count = omega arith in rw e at c.loop-c.invariant

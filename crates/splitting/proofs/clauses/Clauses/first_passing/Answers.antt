@@ -43,9 +43,6 @@ loop-rest-init c =
     let n = c.args.counts in
     (search rules, (by_count (count_at n) 64 max_count, lists_counted n c.counted-rest.result (search rules) c.counted-rest.ensures, refl, omega (arith, counted_few n)))
 
-pub busiest-v-requires : goal.busiest-v-requires
-busiest-v-requires c = c.loop-rest-test.true
-
 pub try_variable-t-requires : goal.try_variable-t-requires
 try_variable-t-requires c = below c
 

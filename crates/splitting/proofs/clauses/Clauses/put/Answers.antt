@@ -6,7 +6,3 @@ use Rattle.splitting.proofs.clauses.Clauses.put.Goals as goal
 pub returns-clause-written : goal.returns-clause-written
 returns-clause-written c =
     clause_written c.args.self.now.positives c.args.self.now.negatives c.args.i c.args.c.positive c.args.c.negative (omega arith) (omega arith)
-
-pub returns-clause-kept : goal.returns-clause-kept
-returns-clause-kept c j l =
-    clause_kept c.args.self.now.positives c.args.self.now.negatives c.args.i c.args.c.positive c.args.c.negative j l
