@@ -13,7 +13,7 @@ use Rattle.formula.specs.declared.assignment.Assignment.{Assignment}
 use Rattle.formula.specs.declared.Clause.{Clause}
 use Rattle.formula.specs.declared.Formula.{Formula}
 use Rattle.formula.specs.Format.{Literal}
-use Rattle.formula.specs.InnerAssignment.{assigned, unassigned, set_to, satisfied_under, left_under}
+use Rattle.formula.specs.InnerAssignment.{assigned, set_to, satisfied_under, left_under}
 use Rattle.formula.specs.InnerCheck.{all_first}
 use Rattle.formula.specs.InnerMasked.{no_clause}
 use Rattle.formula.specs.InnerFits.{side, clause_variables}

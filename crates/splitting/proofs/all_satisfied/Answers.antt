@@ -1,9 +1,7 @@
 -- `all_satisfied` tells whether each clause is satisfied.
 use native.Mathlib.Omega.{arith}
-use mathlib.Core.Bool.{Bool}
-use mathlib.Core.Path.{◌≡◌, refl, sym, ap, ◌∙◌}
+use mathlib.Core.Path.{refl, sym, ap, ◌∙◌}
 use Rattle.std.proofs.lemmas.List.{get_or-take}
-use Rattle.formula.specs.declared.Clause.{Clause}
 use Rattle.formula.specs.InnerAssignment.{satisfied_under}
 use Rattle.formula.specs.InnerCheck.{all_first}
 use Rattle.formula.specs.InnerMasked.{no_clause}

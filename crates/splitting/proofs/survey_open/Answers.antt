@@ -1,7 +1,6 @@
 -- `survey_open` is the survey of the node.
 use native.Mathlib.Omega.{arith}
-use mathlib.Core.Path.{◌≡◌, refl, sym, ◌∙◌}
-use lib.ListN.{get_or}
+use mathlib.Core.Path.{sym, ◌∙◌}
 use Rattle.std.proofs.lemmas.List.{get_or-take}
 use Rattle.formula.specs.InnerMasked.{no_clause}
 use Rattle.splitting.specs.InnerChoose.{open_clauses, survey_from}

@@ -1,7 +1,7 @@
 -- `drop_named` keeps the clauses that do not name v.
 use Prim.Native.Nat.{ℕ}
 use native.Mathlib.Omega.{arith}
-use mathlib.Core.Path.{◌≡◌, sym, ap, ◌∙◌}
+use mathlib.Core.Path.{sym, ap, ◌∙◌}
 use Rattle.masks.specs.Mask.{bit}
 use Rattle.splitting.specs.InnerChoose.{clauses_of}
 use Rattle.splitting.proofs.OpenClauseLaws.{clause_read, unnamed_gone, unnamed_more}

@@ -1,7 +1,7 @@
 -- `match_with` is the outcome of matching the node: over zeros, what gather writes begins with what the node's clauses name.
 use mathlib.Core.Path.{refl}
 use Rattle.splitting.specs.InnerChoose.{formula_in}
-use Rattle.splitting.proofs.NodeMatchingLaws.{node_clauses, node_taken}
+use Rattle.splitting.proofs.NodeMatchingLaws.{node_clauses}
 use Rattle.splitting.proofs.CompactLaws.{small_in}
 use Rattle.splitting.proofs.clauses.Clauses.match_with.Goals as goal
 

@@ -1,6 +1,6 @@
 -- `put` writes both sides of the clause.
 use native.Mathlib.Omega.{arith}
-use Rattle.splitting.proofs.OpenClauseLaws.{clause_written, clause_kept}
+use Rattle.splitting.proofs.OpenClauseLaws.{clause_written}
 use Rattle.splitting.proofs.clauses.Clauses.put.Goals as goal
 
 pub returns-clause-written : goal.returns-clause-written
