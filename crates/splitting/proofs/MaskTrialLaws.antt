@@ -135,7 +135,7 @@ lists_counted c m l h = record {
       (λ t. t ∙ sym (h v ∙ lt-ltb 0 (count_at c v) (by_count_of (count_at c) 64 max_count v t).1))
       (λ t.
       ⊎_elim
-      (λ u. bool_clash (by_count_in (count_at c) 64 max_count v (bit_below 64 v m l u) (ltb-true 0 (count_at c v) (sym (h v) ∙ u)) (let k : count_at c v < 2 ^ 7 = rw c.seven at (count_below c.digits v) in omega arith)) t)
+      (λ u. bool_clash (by_count_in (count_at c) 64 max_count v (bit_below 64 v m l u) (ltb-true 0 (count_at c v) (sym (h v) ∙ u)) (let k : count_at c v < 2 ^ 7 = rw c.whole at (count_below c.digits v) in omega arith)) t)
       (λ u. t ∙ sym u)
       (bool_cases (bit m v)))
       (bool_cases (among (by_count (count_at c) 64 max_count) v));

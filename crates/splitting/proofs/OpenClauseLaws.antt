@@ -1,6 +1,6 @@
 -- What the code gathers of the clauses at a node: one clause more, and the survey of them.
 use Prim.Native.Nat.{ℕ, zero, suc, ◌+◌, ◌-◌, ◌<◌}
-use mathlib.Core.Bool.{Bool, true, false, not, ◌||◌, or-true, or-false, or_assoc}
+use mathlib.Core.Bool.{Bool, true, false, ◌||◌, or-true, or-false, or_assoc}
 use mathlib.Core.List.{List, [], ◌∷◌, ◌++◌, map, map-append, append-nil}
 use mathlib.Core.Path.{◌≡◌, refl, sym, ap, ◌∙◌}
 use native.Mathlib.Numerals.{add-one}
@@ -10,7 +10,6 @@ use borrow.Author.Tests.{eq-eqb, ne_eqb}
 use lib.ListN.{length, get_or, set, length-append, length-map}
 use lib.Seq.{get_or-set_same, get_or-set_other}
 use Rattle.lists.specs.Over.{over}
-use Rattle.lists.specs.Tabulated.{tabulated}
 use Rattle.lists.proofs.OverLaws.{over_set}
 use Rattle.lists.proofs.TabulatedLaws.{length_tabulated, tabulated_more, get_or_tabulated, tabulated-same}
 use Rattle.masks.specs.Mask.{bit}
@@ -38,10 +37,6 @@ module _ (p q : List ℕ) where
       let same = tabulated-same (clause_in (set p n x) (set q n y)) (clause_in p q) n
       (λ i m. let d : i ≡ n → ⊥ = λ e. omega arith in rw (get_or-set_other p n i x 0 d, get_or-set_other q n i y 0 d)) in
       rw (tabulated_more (clause_in (set p n x) (set q n y)) n, same, get_or-set_same p n x 0 k, get_or-set_same q n y 0 l)
-
-  -- those past it stay
-  pub clause_kept : (n x y j : ℕ) → n < j → clause_in (set p n x) (set q n y) j ≡ clause_in p q j
-  clause_kept n x y j l = let d : j ≡ n → ⊥ = λ e. omega arith in rw (get_or-set_other p n j x 0 d, get_or-set_other q n j y 0 d)
 
   -- they are a formula
   pub formula_held : (n : ℕ) (cs : List Clause) → clauses_in p q n ≡ cs

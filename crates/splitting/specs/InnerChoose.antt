@@ -57,6 +57,7 @@ clause_in p q i = record { positive = get_or p i 0; negative = get_or q i 0 }
 abbrev pub clauses_in : List ℕ → List ℕ → ℕ → List Clause
 clauses_in p q k = tabulated (clause_in p q) k
 
+-- the clauses that the code holds, and the formula of them
 abbrev pub clauses_of : Clauses → List Clause
 clauses_of s = clauses_in s.positives s.negatives s.count
 

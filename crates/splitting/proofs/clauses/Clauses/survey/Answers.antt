@@ -1,5 +1,5 @@
 -- `survey` is the survey of the clauses.
-use mathlib.Core.Path.{sym, ◌∙◌}
+use mathlib.Core.Path.{sym}
 use Rattle.lists.specs.Tabulated.{tabulated}
 use Rattle.splitting.proofs.OpenClauseLaws.{survey_more}
 use Rattle.splitting.proofs.clauses.Clauses.survey.Goals as goal
