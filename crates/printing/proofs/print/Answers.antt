@@ -29,8 +29,8 @@ refused s d e = let w = declined_by s [] d (sym e) in declined_prints s d.refusa
 pub returns-then-buffer-lt-MAX_PRINT : goal.returns-then-buffer-lt-MAX_PRINT
 returns-then-buffer-lt-MAX_PRINT c =
     elim c.then-buffer-lt-MAX_PRINT.branch [
-      then-buffer-lt-MAX_PRINT-via-then-buffer-lt-MAX_PRINT w ↦ print_short c.args.input.now c.args.buffer.now w.if-buffer-lt-MAX_PRINT.true
-    | then-buffer-lt-MAX_PRINT-via-else-buffer-lt-MAX_PRINT+then-input-gt-MAX_INPUT w ↦ print_long c.args.input.now c.args.buffer.now w.if-buffer-lt-MAX_PRINT.false w.if-input-gt-MAX_INPUT.true
+      | then-buffer-lt-MAX_PRINT-via-then-buffer-lt-MAX_PRINT w ↦ print_short c.args.input.now c.args.buffer.now w.if-buffer-lt-MAX_PRINT.true
+      | then-buffer-lt-MAX_PRINT-via-else-buffer-lt-MAX_PRINT+then-input-gt-MAX_INPUT w ↦ print_long c.args.input.now c.args.buffer.now w.if-buffer-lt-MAX_PRINT.false w.if-input-gt-MAX_INPUT.true
     ]
 
 pub accept-requires : goal.accept-requires
@@ -60,8 +60,8 @@ returns c =
     let g : MasksOf s [] (Ok c.none.result) = rw c.none.ensures (given_none s) in
     let p : Puts (printed s) c.new-w.result c.match-accept.w =
     elim c.match-accept.branch [
-      in-Ok w ↦ rw w.w-is (w.put_task.ensures s (rw w.new.ensures (accepted_task s w.in-Ok.a (sym (w.in-Ok.ensures [] g)))))
-    | in-Err w ↦ rw (w.w-is, refused s w.in-Err.declined (w.in-Err.ensures [] g)) w.put_refusal_line.ensures
+      | in-Ok w ↦ rw w.w-is (w.put_task.ensures s (rw w.new.ensures (accepted_task s w.in-Ok.a (sym (w.in-Ok.ensures [] g)))))
+      | in-Err w ↦ rw (w.w-is, refused s w.in-Err.declined (w.in-Err.ensures [] g)) w.put_refusal_line.ensures
     ] in
     let h = lent_puts c.new-w.ensures p in
     let e = print_written s c.args.buffer.now c.if-buffer-lt-MAX_PRINT.false _ _ c.if-input-gt-MAX_INPUT.false h.1 in
