@@ -1,5 +1,5 @@
 -- The form of a checkpoint, byte by byte; its trail, one byte more.
-use Prim.Native.Nat.{ℕ, zero, suc, ◌+◌, ◌-◌, ◌≤◌, ◌<◌}
+use Prim.Native.Nat.{ℕ, zero, suc, ◌-◌, ◌≤◌, ◌<◌}
 use mathlib.Core.Bool.{Bool, true, false, not, ◌&&◌, and-false}
 use mathlib.Core.List.{List, [], ◌∷◌}
 use mathlib.Core.Path.{◌≡◌, refl, sym, ap, ◌∙◌}
@@ -8,7 +8,7 @@ use lib.Dec.{eqb, leb}
 use lib.ListN.{length, take, drop, get_or}
 use Rattle.std.specs.List.{list_all}
 use Rattle.std.proofs.lemmas.List.{take-append-drop, take_rest}
-use borrow.Author.Tests.{eq-eqb, ne_eqb, eqb-false, not-true, leb-true, le-leb, lt-leb}
+use borrow.Author.Tests.{eqb-false, not-true, leb-true, le-leb, lt-leb}
 use Rattle.limits.specs.Limits.{max_variables}
 use Rattle.lists.proofs.TestLaws.{and_left, and_right}
 use Rattle.walk.specs.Checkpoints.{Checkpoint, byte_number}

@@ -1,11 +1,10 @@
 -- `replay_byte` meets its contract: by the length, the chosen variable and the value.
-use Rattle.std.proofs.Common.{◌≡◌, sym, ap, ◌∙◌, ◌<◌, arith}
-use Rattle.limits.specs.Limits.{max_variables}
+use Rattle.std.proofs.Common.{◌≡◌, sym, ap, ◌∙◌, arith}
 use Rattle.walk.specs.Checkpoints.{byte_value}
 use Rattle.walk.specs.InnerStack.{Tree}
 use Rattle.enumeration.specs.declared.state.State.{State}
 use Rattle.enumeration.specs.InnerState.{Follows, Holds, stack_in, pushing}
-use Rattle.enumeration.proofs.ReplayLaws.{choice_is, replayed_full, replayed_other, replayed_shut, replayed_chosen, valid_low}
+use Rattle.enumeration.proofs.ReplayLaws.{choice_is, replayed_full, replayed_other, replayed_shut, replayed_chosen}
 use Rattle.enumeration.proofs.scope.Task.replay_byte.Goals.{After-pick-p, then-number_of-c-via-then-number_of-c, then-number_of-c-via-else-number_of-c+then-not-is_open}
 use Rattle.enumeration.proofs.scope.Task.replay_byte.Goals as goal
 

@@ -1,5 +1,5 @@
 -- `take_place` meets its contract: by the mode.
-use Rattle.std.proofs.Common.{inl, inr, arith}
+use Rattle.std.proofs.Common.{arith}
 use Rattle.enumeration.proofs.PlaceLaws.{taken_start, taken_end, taken_model, taken_assigned, taken_root_none}
 use Rattle.enumeration.proofs.scope.Task.take_place.Goals as goal
 

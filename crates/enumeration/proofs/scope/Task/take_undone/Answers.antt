@@ -1,5 +1,5 @@
 -- `take_undone` meets its contract: by the length, then by the value and what is open.
-use Rattle.std.proofs.Common.{◌≡◌, inl, inr, sym, ap, ◌∙◌, arith}
+use Rattle.std.proofs.Common.{◌≡◌, inl, inr, sym, ◌∙◌}
 use borrow.Author.Tests.{eqb-true, not-true, not-false}
 use Rattle.walk.specs.InnerStack.{Tree}
 use Rattle.enumeration.specs.InnerState.{Follows, Holds, stack_in}
