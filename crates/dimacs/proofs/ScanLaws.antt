@@ -21,11 +21,18 @@ use Rattle.dimacs.specs.InnerScan.{cap, capped, number_held}
 pub run_digits : (s : List ℕ) → (length s ≡ 0 → ⊥) → run s ≡ all_digits s
 run_digits s h = rw (ne_eqb (length s) 0 h)
 
--- they are if each is one
-pub digits_all : (s : List ℕ) → list_all is_digit s ≡ all_digits s
+-- one byte more
+pub digits_next : (s : List ℕ) (i : ℕ) → i < length s → is_digit (get_or s i 0) ≡ true → all_digits (drop (i + 1) s) ≡ all_digits (drop i s)
 unfolding all_digits
-digits_all [] = refl
-digits_all (x ∷ s) = rw (digits_all s)
+digits_next s i h e = rw (drop-cons s i 0 h, e, add-one)
+
+pub digits_bad : (s : List ℕ) (i : ℕ) → i < length s → is_digit (get_or s i 0) ≡ false → all_digits (drop i s) ≡ false
+unfolding all_digits
+digits_bad s i h e = rw (drop-cons s i 0 h, e)
+
+pub digits_end : (s : List ℕ) (i : ℕ) → length s ≤ i → all_digits (drop i s) ≡ true
+unfolding all_digits
+digits_end s i h = rw (drop_of_length-le s h)
 
 -- ---- numbers with a cap
 
@@ -103,6 +110,13 @@ capped_zero x e = go (ltb x cap) refl
     go false p = absurd (let f : cap ≡ 0 = sym (rw p) ∙ e in omega arith)
 
 -- ---- tokens
+
+-- a run of digits has a number, and no other word
+pub number_digits : (s : List ℕ) → (length s ≡ 0 → ⊥) → all_digits s ≡ true → number_held s ≡ Some (capped (value s))
+number_digits s h e = let r : run s ≡ true = run_digits s h ∙ e in rw r
+
+pub number_other : (s : List ℕ) → (length s ≡ 0 → ⊥) → all_digits s ≡ false → number_held s ≡ None
+number_other s h e = let r : run s ≡ false = run_digits s h ∙ e in rw r
 
 pub number-none : (s : List ℕ) → number_held s ≡ None → run s ≡ false
 number-none s = go (run s)

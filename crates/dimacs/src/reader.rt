@@ -1,7 +1,7 @@
 // The act read: a text into an encoded formula (S15).
 //
 // A refusal may come behind any word, and leaves the lent buffer as it was: so the bytes are first kept in an array.
-ghost use Rattle.std.specs.Prelude.{◌≡◌, ◌+◌, ◌-◌, ◌<◌, ◌≤◌, ℕ, length};
+ghost use Rattle.std.specs.Prelude.{◌≡◌, ◌+◌, ◌-◌, ◌<◌, ◌≤◌, ℕ, take};
 ghost use Rattle.limits.specs.Limits.{max_variables};
 ghost use Rattle.formula.specs.Format.{literal_kind};
 ghost use Rattle.dimacs.specs.Text.{words, all_words, Progress, progress_start, take_literal, take_end, take_word, take_words, next, closing};
@@ -153,6 +153,14 @@ impl Reader {
         self.keep(5);
         Ok(())
     }
+
+    // The bytes that are kept.
+    fn bytes(&self) -> &[u8]
+        requires { self.now.length ≤ kept_room }
+        ensures { result.now ≡ take self.now.length self.now.kept }
+    {
+        &self.kept[..self.length]
+    }
 }
 
 // The kind of a literal's record.
@@ -190,5 +198,5 @@ pub fn read(text: &[u8], buffer: &mut [u8]) -> Result<usize, Refusal>
     let mut reader = Reader::new(p.variables);
     reader.take_lines(lines)?;
     reader.close(text.len(), p)?;
-    Ok(writing::put_word(&reader.kept[..reader.length], buffer, 0))
+    Ok(writing::put_word(reader.bytes(), buffer, 0))
 }

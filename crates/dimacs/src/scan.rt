@@ -2,7 +2,7 @@
 ghost use Rattle.std.specs.Prelude.{◌≡◌, ◌+◌, ◌-◌, ◌*◌, ◌≤◌};
 ghost use Rattle.std.specs.Iterator.{YieldsFirstBy, item_count};
 ghost use Rattle.writing.specs.Text.{digit_zero};
-ghost use Rattle.dimacs.specs.Text.{lines, parts_words, words, others, run, value, token};
+ghost use Rattle.dimacs.specs.Text.{lines, parts_words, words, others, token};
 ghost use Rattle.dimacs.specs.InnerPiece.{piece_of};
 ghost use Rattle.dimacs.specs.InnerScan.{lines_left, words_left, cap, capped, number_held, token_held};
 
@@ -97,40 +97,29 @@ fn parts_words(x: &u8) -> bool
     matches!(*x, b' ' | b'\t' | b'\r' | b'\n')
 }
 
-// Whether a word is a run of digits.
-fn is_run(word: &[u8]) -> bool
-    ensures { result ≡ run word.now }
-{
-    !word.is_empty() && word.iter().all(|x| x.is_ascii_digit())
-}
-
 // The number behind a with one digit more, at most the cap.
 fn push_digit(a: usize, x: u8) -> usize
-    requires { a ≤ cap }
+    requires { (a ≤ cap) × (digit_zero ≤ x) }
     ensures { result ≡ capped (10 * a + (x - digit_zero)) }
 {
-    (10 * a + usize::from(x.saturating_sub(b'0'))).min(CAP)
-}
-
-// The number that digits write, at most the cap.
-fn capped_value(word: &[u8]) -> usize
-    ensures { result ≡ capped (value word.now) }
-{
-    let mut a = 0;
-    for x in word {
-        a = push_digit(a, *x);
-    }
-    a
+    (10 * a + usize::from(x - b'0')).min(CAP)
 }
 
 // The number that a run of digits writes, at most the cap.
 pub fn number(word: &[u8]) -> Option<usize>
     ensures { result ≡ number_held word.now }
 {
-    if !is_run(word) {
+    if word.is_empty() {
         return None;
     }
-    Some(capped_value(word))
+    let mut a = 0;
+    for x in word {
+        if !x.is_ascii_digit() {
+            return None;
+        }
+        a = push_digit(a, *x);
+    }
+    Some(a)
 }
 
 // A word after the p line: digits, of which zero ends a clause, or a minus before digits that are not zero.

@@ -13,7 +13,7 @@ use lib.Dec.{eqb}
 use borrow.Author.Tests.{eqb-true, eqb-false, eq-eqb, ne_eqb}
 use Rattle.std.specs.Option.{is_some}
 use Rattle.limits.specs.Limits.{max_clauses}
-use Rattle.lists.proofs.TestLaws.{bool_cases}
+use Rattle.std.proofs.lemmas.Bool.{cases_Bool}
 use Rattle.lists.specs.Padded.{padded}
 use Rattle.lists.proofs.PaddedLaws.{padded_none, take_padded}
 use Rattle.lists.proofs.StoreLaws.{padded_store, held_length}
@@ -25,7 +25,7 @@ use Rattle.matching.specs.Inner.{at, owners_of, Partial, Tables, Stored, number_
 use Rattle.matching.specs.Result.{Clauses, packed}
 use Rattle.matching.specs.declared.Front.{Front}
 use Rattle.matching.specs.declared.Queue.{Queue}
-use Rattle.matching.proofs.Counting.{zero_or_pos}
+use native.Mathlib.Nat.{eq-zero-or-pos}
 use Rattle.matching.proofs.OwnerLaws.{free_owner}
 use Rattle.matching.proofs.Augmenting.{rematch_partial}
 use Rattle.matching.proofs.SearchLaws.{Stuck, Reached, Ended, search_next, word_all}
@@ -159,7 +159,7 @@ marks_more n (d ∷ l) c =
     ∙ ⊎_elim
     (λ (t : eqb c d ≡ true). rw (eqb-true c d t))
     (λ (f : eqb c d ≡ false). set_comm (marks n l) c d 1 1 (eqb-false c d f))
-    (bool_cases (eqb c d))
+    (cases_Bool (eqb c d))
 
 -- one clause more of the queue is marked
 pub marks_next : (n : ℕ) (queue : List ℕ) (i : ℕ) → i < length queue → set (marks n (take i queue)) (at queue i) 1 ≡ marks n (take (i + 1) queue)
@@ -246,7 +246,7 @@ module _ {sets : List ℕ} {count i : ℕ} {table owners : List ℕ} {e : ℕ} (
           rw taken_is (⊎_elim
           (λ (q : k ≡ 0). rw (q, I.root) (omega (arith, matching_long)))
           (λ p. omega (arith, (I.each k p (subst (λ (l : List ℕ). k < length l) taken_is h)).0, matching_long))
-          (zero_or_pos k))
+          (eq-zero-or-pos k))
 
       pub failed : (record { expansions = e + front.head; found = Err (record { size = front.head; marks = marks max_clauses (take front.head queue') }) }) ≡ packed count (outcome (take count sets))
       unfolding packed

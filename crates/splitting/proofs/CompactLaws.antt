@@ -1,6 +1,6 @@
 -- The clauses that are left at a node, as a formula of their own, choose what the whole formula chooses there: all that the choice
 -- looks at is what the clauses of later nodes are, and those are the same.
-use Prim.Native.Nat.{ℕ, zero, suc, ◌+◌, ◌≤◌, ◌<◌, ◌^◌}
+use Prim.Native.Nat.{ℕ, zero, suc, ◌+◌, ◌<◌, ◌^◌}
 use mathlib.Core.Bool.{Bool, true, false, not, xor, cond, ◌&&◌, or-false, and-true}
 use mathlib.Core.List.{List, [], ◌∷◌, ◌++◌, map}
 use mathlib.Core.Logic.{⊎_elim}
@@ -11,7 +11,6 @@ use lib.Bits.{bit_or, bit_xor}
 use lib.Dec.{eqb}
 use lib.ListN.{length, get_or}
 use borrow.Author.Tests.{not-true, eqb-true}
-use Rattle.limits.specs.Limits.{max_clauses}
 use Rattle.lists.specs.Every.{Every}
 use Rattle.lists.specs.Tabulated.{tabulated}
 use Rattle.lists.proofs.EveryLaws.{every_get_or}
@@ -35,7 +34,6 @@ use Rattle.splitting.specs.declared.clauses.Trial.{Trial}
 use Rattle.splitting.specs.Choosing.{both_open}
 use Rattle.formula.specs.InnerAssignment.{assigned, set_to, satisfied_under, left_under, unassigned}
 use Rattle.splitting.specs.InnerChoose.{open_clauses, node, unnamed, formula_at, clause_in, clauses_of, formula_in, Small, surveys, survey_from, survey_of, matching_at, pure_of, reduce_from, reduced, tried, passing, occurrences_in, busiest_first, greatest, listed_last, mask_choice}
-use Rattle.splitting.proofs.NodeMatchingLaws.{small_at}
 use Rattle.splitting.proofs.ReduceLaws.{pure_lowest, reduce_done, reduce_turn}
 use Rattle.splitting.proofs.LastMemberLaws.{greatest_member}
 use Rattle.splitting.proofs.SearchLaws.{every_among}

@@ -1,5 +1,5 @@
 -- Trials over masks, and the masks of what is left to try.
-use Prim.Native.Nat.{ℕ, suc, ◌+◌, ◌-◌, ◌^◌, ◌≤◌, ◌<◌}
+use Prim.Native.Nat.{ℕ, ◌+◌, ◌-◌, ◌^◌, ◌≤◌, ◌<◌}
 use mathlib.Core.Bool.{Bool, true, false, not, ◌&&◌}
 use mathlib.Core.List.{List, [], ◌∷◌}
 use mathlib.Core.Logic.{⊎_elim}
@@ -11,10 +11,9 @@ use lib.ListN.{length}
 use borrow.Author.Tests.{lt-ltb, ltb-true}
 use Rattle.lists.proofs.TabulatedLaws.{length_tabulated}
 use Rattle.lists.proofs.TestLaws.{and_left, bool_cases, bool_clash}
-use Rattle.masks.specs.Mask.{bit, members, size}
-use Rattle.masks.specs.InnerMask.{without, lowest}
+use Rattle.masks.specs.Mask.{bit, size}
+use Rattle.masks.specs.InnerMask.{without}
 use Rattle.masks.proofs.BitLaws.{minus_lt, bit-none, bit_below, bit-without, bit-without-same}
-use Rattle.masks.proofs.MembersLaws.{lowest_is, members-lowest}
 use Rattle.std.specs.Result.{is_ok}
 use Rattle.matching.specs.declared.Matching.{Matching}
 use Rattle.matching.specs.Search.{succeeds}
@@ -136,7 +135,7 @@ lists_counted c m l h = record {
       (λ t. t ∙ sym (h v ∙ lt-ltb 0 (count_at c v) (by_count_of (count_at c) 64 max_count v t).1))
       (λ t.
       ⊎_elim
-      (λ u. bool_clash (by_count_in (count_at c) 64 max_count v (bit_below 64 v m l u) (ltb-true 0 (count_at c v) (sym (h v) ∙ u)) (let k : count_at c v < 2 ^ 7 = rw c.seven at (count_below c.digits v) in omega arith)) t)
+      (λ u. bool_clash (by_count_in (count_at c) 64 max_count v (bit_below 64 v m l u) (ltb-true 0 (count_at c v) (sym (h v) ∙ u)) (let k : count_at c v < 2 ^ 7 = rw c.whole at (count_below c.digits v) in omega arith)) t)
       (λ u. t ∙ sym u)
       (bool_cases (bit m v)))
       (bool_cases (among (by_count (count_at c) 64 max_count) v));

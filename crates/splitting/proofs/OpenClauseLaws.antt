@@ -1,6 +1,6 @@
 -- What the code gathers of the clauses at a node: one clause more, and the survey of them.
 use Prim.Native.Nat.{ℕ, zero, suc, ◌+◌, ◌-◌, ◌<◌}
-use mathlib.Core.Bool.{Bool, true, false, not, ◌||◌, or-true, or-false, or_assoc}
+use mathlib.Core.Bool.{Bool, true, false, ◌||◌, or-true, or-false, or_assoc}
 use mathlib.Core.List.{List, [], ◌∷◌, ◌++◌, map, map-append, append-nil}
 use mathlib.Core.Path.{◌≡◌, refl, sym, ap, ◌∙◌}
 use native.Mathlib.Numerals.{add-one}
@@ -10,7 +10,6 @@ use borrow.Author.Tests.{eq-eqb, ne_eqb}
 use lib.ListN.{length, get_or, set, length-append, length-map}
 use lib.Seq.{get_or-set_same, get_or-set_other}
 use Rattle.lists.specs.Over.{over}
-use Rattle.lists.specs.Tabulated.{tabulated}
 use Rattle.lists.proofs.OverLaws.{over_set}
 use Rattle.lists.proofs.TabulatedLaws.{length_tabulated, tabulated_more, get_or_tabulated, tabulated-same}
 use Rattle.masks.specs.Mask.{bit}
@@ -31,16 +30,12 @@ module _ (p q : List ℕ) where
   clause_read k i l = get_or_tabulated (clause_in p q) k i no_clause l
 
   -- one more is written
-  clause_written : (n x y : ℕ) → n < length p → n < length q
+  pub clause_written : (n x y : ℕ) → n < length p → n < length q
       → clauses_in (set p n x) (set q n y) (n + 1) ≡ clauses_in p q n ++ (record { positive = x; negative = y } ∷ [])
   clause_written n x y k l =
       let same = tabulated-same (clause_in (set p n x) (set q n y)) (clause_in p q) n
       (λ i m. let d : i ≡ n → ⊥ = λ e. omega arith in rw (get_or-set_other p n i x 0 d, get_or-set_other q n i y 0 d)) in
       rw (tabulated_more (clause_in (set p n x) (set q n y)) n, same, get_or-set_same p n x 0 k, get_or-set_same q n y 0 l)
-
-  -- those past it stay
-  pub clause_kept : (n x y j : ℕ) → n < j → clause_in (set p n x) (set q n y) j ≡ clause_in p q j
-  clause_kept n x y j l = let d : j ≡ n → ⊥ = λ e. omega arith in rw (get_or-set_other p n j x 0 d, get_or-set_other q n j y 0 d)
 
   -- they are a formula
   pub formula_held : (n : ℕ) (cs : List Clause) → clauses_in p q n ≡ cs
@@ -58,15 +53,9 @@ module _ (cs : List Clause) (a : Assignment) (i : ℕ) (c : Clause) (at : get_or
   open_gone t = rw (add-one, open_clauses, at, t) (append-nil (open_clauses cs a i))
 
   -- one that is not
-  open_more : satisfied_under a c ≡ false → open_clauses cs a (i + 1) ≡ open_clauses cs a i ++ (left_under a c ∷ [])
+  pub open_more : satisfied_under a c ≡ false → open_clauses cs a (i + 1) ≡ open_clauses cs a i ++ (left_under a c ∷ [])
   unfolding open_clauses
   open_more e = rw (add-one, open_clauses, at, e)
-
-  -- what is left of it is written to the arrays
-  pub keep_more : (p q : List ℕ) (n : ℕ) → satisfied_under a c ≡ false → n < length p → n < length q → clauses_in p q n ≡ open_clauses cs a i
-      → clauses_in (set p n (left_under a c).positive) (set q n (left_under a c).negative) (n + 1) ≡ open_clauses cs a (i + 1)
-  keep_more p q n e k l h =
-      clause_written p q n (left_under a c).positive (left_under a c).negative k l ∙ ap (λ (x : List Clause). x ++ (left_under a c ∷ [])) h ∙ sym (open_more e)
 
   -- what the node's clauses name, over a buffer
   pub gather_more : (n : ℕ) (b s : List ℕ) → satisfied_under a c ≡ false → n ≡ length (open_clauses cs a i) → n < length b
@@ -88,20 +77,15 @@ module _ (cs : List Clause) (v i : ℕ) (c : Clause) (at : get_or cs i no_clause
   unnamed_gone t = rw (add-one, unnamed, at, t) (append-nil (unnamed cs v i))
 
   -- one that does not
-  unnamed_next : bit (clause_variables c) v ≡ false → unnamed cs v (i + 1) ≡ unnamed cs v i ++ (c ∷ [])
+  pub unnamed_more : bit (clause_variables c) v ≡ false → unnamed cs v (i + 1) ≡ unnamed cs v i ++ (c ∷ [])
   unfolding unnamed
-  unnamed_next e = rw (add-one, unnamed, at, e)
-
-  -- it is written to the arrays
-  pub unnamed_more : (p q : List ℕ) (n : ℕ) → bit (clause_variables c) v ≡ false → n < length p → n < length q → clauses_in p q n ≡ unnamed cs v i
-      → clauses_in (set p n c.positive) (set q n c.negative) (n + 1) ≡ unnamed cs v (i + 1)
-  unnamed_more p q n e k l h = clause_written p q n c.positive c.negative k l ∙ ap (λ (x : List Clause). x ++ (c ∷ [])) h ∙ sym (unnamed_next e)
+  unnamed_more e = rw (add-one, unnamed, at, e)
 
 -- as long as no clause names v, all are kept
 pub unnamed-whole : (p q : List ℕ) (k v i : ℕ) → i < k → bit (clause_variables (clause_in p q i)) v ≡ false → unnamed (clauses_in p q k) v i ≡ clauses_in p q i
     → unnamed (clauses_in p q k) v (i + 1) ≡ clauses_in p q (i + 1)
 unnamed-whole p q k v i l e h =
-    unnamed_next (clauses_in p q k) v i (clause_in p q i) (clause_read p q k i l) e ∙ ap (λ (x : List Clause). x ++ (clause_in p q i ∷ [])) h
+    unnamed_more (clauses_in p q k) v i (clause_in p q i) (clause_read p q k i l) e ∙ ap (λ (x : List Clause). x ++ (clause_in p q i ∷ [])) h
     ∙ sym (tabulated_more (clause_in p q) i)
 
 -- the survey of one clause more
@@ -124,14 +108,6 @@ survey_gone cs a i c at s e q = e ∙ ap survey_of (sym (open_gone cs a i c at q
 
 pub survey_more : (p q : List ℕ) (i : ℕ) → survey_of (clauses_in p q (i + 1)) ≡ surveys (survey_of (clauses_in p q i)) (clause_in p q i)
 survey_more p q i = rw (tabulated_more (clause_in p q) i) (survey_snoc (record { positive = 0; negative = 0; any = false }) (clauses_in p q i) (clause_in p q i))
-
--- whether there is a clause
-pub survey_any : (p q : List ℕ) (k : ℕ) → (survey_of (clauses_in p q k)).any ≡ not (eqb k 0)
-unfolding survey_from tabulated
-survey_any p q zero = refl
-survey_any p q (suc k) =
-    ap (λ (s : Survey). s.any) (survey_snoc (record { positive = 0; negative = 0; any = false }) (clauses_in p q k) (clause_in p q k))
-    ∙ sym (ap not (ne_eqb (suc k) 0 (λ e. omega arith)))
 
 -- a clause that names nothing, among one clause more
 empty_snoc : (l : List Clause) (c : Clause) → some_empty (l ++ (c ∷ [])) ≡ some_empty l || eqb (clause_variables c) 0

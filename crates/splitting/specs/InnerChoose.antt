@@ -13,7 +13,7 @@ use Rattle.formula.specs.declared.assignment.Assignment.{Assignment}
 use Rattle.formula.specs.declared.Clause.{Clause}
 use Rattle.formula.specs.declared.Formula.{Formula}
 use Rattle.formula.specs.Format.{Literal}
-use Rattle.formula.specs.InnerAssignment.{assigned, unassigned, set_to, satisfied_under, left_under}
+use Rattle.formula.specs.InnerAssignment.{assigned, set_to, satisfied_under, left_under}
 use Rattle.formula.specs.InnerCheck.{all_first}
 use Rattle.formula.specs.InnerMasked.{no_clause}
 use Rattle.formula.specs.InnerFits.{side, clause_variables}
@@ -58,6 +58,7 @@ clause_in p q i = record { positive = get_or p i 0; negative = get_or q i 0 }
 abbrev pub clauses_in : List ℕ → List ℕ → ℕ → List Clause
 clauses_in p q k = tabulated (clause_in p q) k
 
+-- the clauses that the code holds, and the formula of them
 abbrev pub clauses_of : Clauses → List Clause
 clauses_of s = clauses_in s.positives s.negatives s.count
 

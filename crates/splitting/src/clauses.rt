@@ -1,5 +1,5 @@
 // What is left of a node's clauses: its survey, stripping, matching, trials.
-ghost use Rattle.std.specs.Prelude.{◌≡◌, true, ℕ, ◌<◌, ◌≤◌, map, length};
+ghost use Rattle.std.specs.Prelude.{◌≡◌, true, ℕ, ◌+◌, ◌<◌, ◌≤◌, [], ◌∷◌, ◌++◌, map, length};
 ghost use Rattle.limits.specs.Limits.{max_clauses};
 ghost use Rattle.lists.specs.Over.{over};
 ghost use Rattle.masks.specs.Mask.{bit};
@@ -7,8 +7,8 @@ ghost use Rattle.formula.specs.InnerAssignment.{unassigned, set_to, left_under};
 ghost use Rattle.formula.specs.InnerFits.{clause_variables};
 ghost use Rattle.splitting.specs.InnerWords.{Words};
 
-use crate::counts::Counts;
 use crate::Choice;
+use crate::counts::Counts;
 use formula::{Assignment, Clause, Formula};
 use limits::MAX_CLAUSES;
 use matching::Matching;
@@ -57,6 +57,32 @@ pub fn left(a: Assignment, c: Clause) -> Clause
     }
 }
 
+impl Survey {
+    ghost use Rattle.splitting.specs.InnerChoose.{surveys, survey_of};
+
+    // There is no clause.
+    pub fn none() -> Self
+        ensures { result ≡ survey_of [] }
+    {
+        Survey {
+            positive: 0,
+            negative: 0,
+            any: false,
+        }
+    }
+
+    // One clause more.
+    pub fn with(self, c: Clause) -> Self
+        ensures { result ≡ surveys self c }
+    {
+        Survey {
+            positive: self.positive | c.positive,
+            negative: self.negative | c.negative,
+            any: true,
+        }
+    }
+}
+
 impl Clauses {
     ghost use Rattle.splitting.specs.Choosing.{by_count};
     ghost use Rattle.splitting.specs.InnerChoose.{node, unnamed, survey_of, some_empty, matching_at, clause_in, clauses_in, clauses_of, formula_in, formula_at, reduce_from, tried, passing, occurrences_in, count_at, max_count, listed_last};
@@ -78,9 +104,7 @@ impl Clauses {
         let mut count = 0;
         for c in &f.clauses[..f.count] {
             if !a.satisfies(*c) {
-                let l = left(a, *c);
-                self.positives[count] = l.positive;
-                self.negatives[count] = l.negative;
+                self.put(count, left(a, *c));
                 count += 1;
             }
         }
@@ -98,6 +122,17 @@ impl Clauses {
         }
     }
 
+    // Writes c as the i-th clause.
+    fn put(&mut self, i: usize, c: Clause)
+        requires { i < max_clauses }
+        ensures written { clauses_in self.new.positives self.new.negatives (i + 1) ≡ clauses_in self.old.positives self.old.negatives i ++ (c ∷ []) }
+        ensures kept { (j : ℕ) → i < j → clause_in self.new.positives self.new.negatives j ≡ clause_in self.old.positives self.old.negatives j }
+        ensures count { self.new.count ≡ self.old.count }
+    {
+        self.positives[i] = c.positive;
+        self.negatives[i] = c.negative;
+    }
+
     // Keeps what is left of the open clauses, in place.
     pub fn compact(&mut self, a: Assignment)
         ensures { formula_in self.new ≡ formula_at (formula_in self.old) a }
@@ -106,9 +141,7 @@ impl Clauses {
         for i in 0..self.count {
             let c = self.clause(i);
             if !a.satisfies(c) {
-                let l = left(a, c);
-                self.positives[kept] = l.positive;
-                self.negatives[kept] = l.negative;
+                self.put(kept, left(a, c));
                 kept += 1;
             }
         }
@@ -138,8 +171,7 @@ impl Clauses {
         for i in kept..self.count {
             let c = self.clause(i);
             if !masks::member(c.variables(), v) {
-                self.positives[kept] = c.positive;
-                self.negatives[kept] = c.negative;
+                self.put(kept, c);
                 kept += 1;
             }
         }
@@ -150,17 +182,11 @@ impl Clauses {
     pub fn survey(&self) -> Survey
         ensures { result ≡ survey_of (clauses_of self.now) }
     {
-        let mut positive = 0;
-        let mut negative = 0;
+        let mut s = Survey::none();
         for i in 0..self.count {
-            positive |= self.positives[i];
-            negative |= self.negatives[i];
+            s = s.with(self.clause(i));
         }
-        Survey {
-            positive,
-            negative,
-            any: self.count != 0,
-        }
+        s
     }
 
     // Some clause of the node names nothing.
@@ -206,12 +232,12 @@ impl Clauses {
     pub fn reduce(&self, variables: usize) -> Reduced
         ensures { result ≡ reduce_from variables (formula_in self.now) unassigned 0 0 }
     {
-        let mut left = *self;
+        let mut copy = *self;
         let mut r = Reduced {
             assignment: Assignment::none(),
             noted: 0,
             last: 0,
-            survey: left.survey(),
+            survey: copy.survey(),
         };
         for _ in 0..variables {
             let pure = r.survey.positive ^ r.survey.negative;
@@ -219,12 +245,12 @@ impl Clauses {
                 return r;
             }
             let v = masks::lowest(pure);
-            left.drop_named(v);
+            copy.drop_named(v);
             r = Reduced {
                 assignment: r.assignment.with(v, masks::member(r.survey.positive, v)),
                 noted: masks::with(r.noted, v),
                 last: v,
-                survey: left.survey(),
+                survey: copy.survey(),
             };
         }
         r

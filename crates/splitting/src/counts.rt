@@ -1,6 +1,7 @@
 // How many clauses name each variable, and the busiest of them.
 ghost use Rattle.std.specs.Prelude.{◌≡◌, ℕ, cond, suc, ◌<◌, ltb, length};
 ghost use Rattle.masks.specs.Mask.{bit};
+ghost use Rattle.splitting.specs.declared.counts.TheConstants.{DIGITS};
 
 // A count of 96 clauses at most has so many binary digits.
 const DIGITS: usize = 7;
@@ -9,7 +10,7 @@ const DIGITS: usize = 7;
 #[derive(Clone, Copy)]
 pub struct Counts {
     digits: [u64; DIGITS],
-    ghost seven: { length digits ≡ 7 },
+    ghost whole: { length digits ≡ DIGITS },
 }
 
 impl Counts {

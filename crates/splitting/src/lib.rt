@@ -79,19 +79,10 @@ fn survey_open(f: &Formula, a: Assignment) -> Survey
     requires { f.now.count ≤ max_clauses }
     ensures { result ≡ survey_of (node f.now a) }
 {
-    let mut s = Survey {
-        positive: 0,
-        negative: 0,
-        any: false,
-    };
+    let mut s = Survey::none();
     for c in &f.clauses[..f.count] {
         if !a.satisfies(*c) {
-            let l = clauses::left(a, *c);
-            s = Survey {
-                positive: s.positive | l.positive,
-                negative: s.negative | l.negative,
-                any: true,
-            };
+            s = s.with(clauses::left(a, *c));
         }
     }
     s
@@ -143,10 +134,8 @@ fn choose_open(f: &Formula, a: Assignment) -> Choice
         return clauses.first_passing(counts);
     }
     let others = masks::minus(names.positive | names.negative, r.noted);
-    if others == 0 {
-        return clauses.last_listed(r.last);
-    }
-    clauses.last_listed(highest(others))
+    let v = if others == 0 { r.last } else { highest(others) };
+    clauses.last_listed(v)
 }
 
 // The choice where no clause is left: the lowest variable without a value.

@@ -1,9 +1,7 @@
 -- `all_satisfied` tells whether each clause is satisfied.
 use native.Mathlib.Omega.{arith}
-use mathlib.Core.Bool.{Bool}
-use mathlib.Core.Path.{◌≡◌, refl, sym, ap, ◌∙◌}
+use mathlib.Core.Path.{refl, sym, ap, ◌∙◌}
 use Rattle.std.proofs.lemmas.List.{get_or-take}
-use Rattle.formula.specs.declared.Clause.{Clause}
 use Rattle.formula.specs.InnerAssignment.{satisfied_under}
 use Rattle.formula.specs.InnerCheck.{all_first}
 use Rattle.formula.specs.InnerMasked.{no_clause}
@@ -25,6 +23,3 @@ loop-c-preserved c =
     let f = c.args.f.now in
     all_more _ _ c.loop-c.c-index c.loop-c.invariant
     (ap (satisfied_under c.args.a) (sym (get_or-take f.count f.clauses c.loop-c.c-index no_clause (omega arith))) ∙ sym c.satisfies.ensures ∙ c.if-not-satisfies.false)
-
-pub returns : goal.returns
-returns c = let e : c.loop-c.c-index ≡ c.args.f.now.count = omega arith in sym (rw e at c.loop-c.invariant)

@@ -6,13 +6,13 @@ use mathlib.Core.Path.{◌≡◌, ap, ap₂, ◌∙◌}
 use Rattle.formula.specs.declared.Formula.{Formula}
 use Rattle.formula.specs.InnerAssignment.{unassigned}
 use Rattle.splitting.specs.Choosing.{by_count}
-use Rattle.splitting.specs.InnerChoose.{node, formula_at, formula_in, Small, survey_of, reduce_from, passing, busiest_first, count_at, max_count, listed_last}
+use Rattle.splitting.specs.InnerChoose.{node, formula_at, formula_in, survey_of, reduce_from, passing, busiest_first, count_at, max_count, listed_last}
 use Rattle.splitting.proofs.MaskTrialLaws.{counted-first}
 use Rattle.splitting.proofs.NodeMatchingLaws.{small_at}
 use Rattle.splitting.proofs.ReduceLaws.{reduce_last}
 use Rattle.splitting.proofs.LastMemberLaws.{greatest_below}
 use Rattle.splitting.proofs.CompactLaws.{choice_passing, choice_noted, choice_other}
-use Rattle.splitting.proofs.choose_open.Goals.{After-compact, After-count_names-counts, After-reduce-r, After-survey-names}
+use Rattle.splitting.proofs.choose_open.Goals.{After-compact, After-count_names-counts, After-reduce-r, After-survey-names, then-others-eq0, else-others-eq0}
 use Rattle.splitting.proofs.choose_open.Goals as goal
 
 -- ---- what is left at the node
@@ -56,26 +56,27 @@ returns-then-r c scope =
     (rw (surveyed n) c.requires.1) c.reduce-r.result (reduced r) c.if-r.true
 
 pub last_listed-requires : goal.last_listed-requires
-last_listed-requires c = last_below (goal.at.last_listed-requires c).After-reduce-r
-
-pub returns-then-others-eq0 : goal.returns-then-others-eq0
-returns-then-others-eq0 c scope =
-    let r = (goal.at.returns-then-others-eq0 c).After-reduce-r in
-    let n = (goal.at.returns-then-others-eq0 c).After-survey-names in
-    c.last_listed.ensures
-    ∙ ap (λ (g : Formula). listed_last g unassigned c.reduce-r.result.last) c.take_open.ensures
-    ∙ choice_noted c.args.f.now c.requires.0 scope c.args.a c.survey-names.result (surveyed n)
-    (rw (surveyed n) c.requires.1) c.reduce-r.result (reduced r) c.if-r.false c.minus-others.result c.minus-others.ensures
-    c.if-others-eq0.true
-
-pub last_listed-requires-2 : goal.last_listed-requires-2
-last_listed-requires-2 c = rw c.highest.ensures (greatest_below c.minus-others.result)
+last_listed-requires c =
+    elim c.if-others-eq0.branch [
+      | then-others-eq0 w ↦ rw w.v-is (last_below (goal.at.last_listed-requires c).After-reduce-r)
+      | else-others-eq0 w ↦ rw (w.v-is, w.highest-v.ensures) (greatest_below c.minus-others.result)
+    ]
 
 pub returns : goal.returns
 returns c scope =
     let r = (goal.at.returns c).After-reduce-r in
     let n = (goal.at.returns c).After-survey-names in
-    rw (c.last_listed-2.ensures, c.highest.ensures, c.take_open.ensures)
-    (choice_other c.args.f.now c.requires.0 scope c.args.a c.survey-names.result (surveyed n)
-    (rw (surveyed n) c.requires.1) c.reduce-r.result (reduced r) c.if-r.false c.minus-others.result c.minus-others.ensures
-    (omega (arith, c.minus-others.type_inv)) c.if-others-eq0.false)
+    let listed = c.last_listed.ensures ∙ ap (λ (g : Formula). listed_last g unassigned c.if-others-eq0.v) c.take_open.ensures in
+    elim c.if-others-eq0.branch [
+      | then-others-eq0 w ↦
+          listed
+          ∙ rw w.v-is
+          (choice_noted c.args.f.now c.requires.0 scope c.args.a c.survey-names.result (surveyed n)
+          (rw (surveyed n) c.requires.1) c.reduce-r.result (reduced r) c.if-r.false c.minus-others.result c.minus-others.ensures w.if-others-eq0.true)
+      | else-others-eq0 w ↦
+          listed
+          ∙ rw (w.v-is, w.highest-v.ensures)
+          (choice_other c.args.f.now c.requires.0 scope c.args.a c.survey-names.result (surveyed n)
+          (rw (surveyed n) c.requires.1) c.reduce-r.result (reduced r) c.if-r.false c.minus-others.result c.minus-others.ensures
+          (omega (arith, c.minus-others.type_inv)) w.if-others-eq0.false)
+    ]

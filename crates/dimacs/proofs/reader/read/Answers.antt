@@ -82,17 +82,17 @@ returns-in_err-close c =
     (encoded_refused c.args.text.now c.args.buffer.now (omega arith) _
     (closes d ∙ c.in_err-close.ensures (n (before d)) s.progress o.third o.fourth s.keeps o.numbers))
 
-pub shared_ref_as_front-put_word : goal.shared_ref_as_front-put_word
-shared_ref_as_front-put_word c =
-    let k = kept (goal.at.shared_ref_as_front-put_word c).In_ok-close in
+pub bytes-requires : goal.bytes-requires
+bytes-requires c =
+    let k = kept (goal.at.bytes-requires c).In_ok-close in
     omega (arith, k.holds.long, formula_le k.sized)
 
 pub put_word-requires : goal.put_word-requires
 put_word-requires c =
     let k = kept (goal.at.put_word-requires c).In_ok-close in
-    rw k.holds.starts (omega (arith, formula_le k.sized))
+    rw (c.bytes.ensures, k.holds.starts) (omega (arith, formula_le k.sized))
 
 pub returns : goal.returns
 returns c =
     let k = kept (goal.at.returns c).In_ok-close in
-    encoded_written c.args.text.now c.args.buffer.now (omega arith) k.variables k.clauses _ _ (closes (goal.at.returns c).In_ok-take_lines ∙ k.reads) (rw k.holds.starts at c.put_word.ensures)
+    encoded_written c.args.text.now c.args.buffer.now (omega arith) k.variables k.clauses _ _ (closes (goal.at.returns c).In_ok-take_lines ∙ k.reads) (rw (c.bytes.ensures, k.holds.starts) at c.put_word.ensures)

@@ -1,6 +1,6 @@
 -- `count_names` counts how many clauses name each variable.
 use native.Mathlib.Omega.{arith}
-use mathlib.Core.Path.{◌≡◌, sym, ◌∙◌}
+use mathlib.Core.Path.{sym, ◌∙◌}
 use Rattle.lists.specs.Tabulated.{tabulated}
 use Rattle.lists.proofs.TabulatedLaws.{length_tabulated}
 use Rattle.splitting.specs.InnerChoose.{clause_in, clauses_in, occurrences_in}

@@ -62,7 +62,7 @@ loop-preserved c =
     let v = c.lowest-v.result in
     let n : clauses_of c.drop_named.new.self ≡ node f c.with.result =
     c.drop_named.ensures
-    ∙ strip_more f (small_in c.args.self.now) r.assignment c.loop.left c.loop.invariant.0 (λ e. c.if-pure-eq0.false (p ∙ e)) v (c.lowest-v.ensures ∙ ap lowest p) c.member.result
+    ∙ strip_more f (small_in c.args.self.now) r.assignment c.loop.copy c.loop.invariant.0 (λ e. c.if-pure-eq0.false (p ∙ e)) v (c.lowest-v.ensures ∙ ap lowest p) c.member.result
     (c.member.ensures ∙ ap (λ (t : Survey). bit t.positive v) c.loop.invariant.1)
     ∙ ap (node f) (sym c.with.ensures) in (
       n,

@@ -5,7 +5,7 @@ use Rattle.std.proofs.lemmas.List.{get_or-take}
 use Rattle.lists.specs.Tabulated.{tabulated}
 use Rattle.formula.specs.InnerMasked.{no_clause}
 use Rattle.splitting.specs.InnerChoose.{open_clauses}
-use Rattle.splitting.proofs.OpenClauseLaws.{formula_held, open_gone, keep_more}
+use Rattle.splitting.proofs.OpenClauseLaws.{formula_held, open_gone, open_more}
 use Rattle.splitting.proofs.clauses.Clauses.take_open.Goals.{then-not-satisfies, else-not-satisfies}
 use Rattle.splitting.proofs.clauses.Clauses.take_open.Goals as goal
 
@@ -22,9 +22,8 @@ loop-c-preserved c =
     elim c.if-not-satisfies.branch [
       | then-not-satisfies w ↦ (
         omega arith,
-        rw (w.self-is, w.count-is, w.left-l.ensures)
-            (keep_more cs a i _ at c.loop-c.self.positives c.loop-c.self.negatives c.loop-c.count (sym c.satisfies.ensures ∙ w.if-not-satisfies.true)
-            (omega arith) (omega arith) c.loop-c.invariant.1),
+        rw (w.self-is, w.count-is)
+            (w.put.ensures.written ∙ rw (c.loop-c.invariant.1, w.left.ensures, open_more cs a i _ at (sym c.satisfies.ensures ∙ w.if-not-satisfies.true))),
       )
       | else-not-satisfies w ↦ (
         omega arith,

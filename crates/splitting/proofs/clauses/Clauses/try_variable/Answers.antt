@@ -1,8 +1,8 @@
 -- `try_variable` is the trial of v: the matching with v false and, if that succeeds, the one with v true.
 use native.Mathlib.Omega.{arith}
-use mathlib.Core.Path.{◌≡◌, sym, ap, ◌∙◌}
+use mathlib.Core.Path.{ap, ◌∙◌}
 use mathlib.Core.Bool.{not}
-use Rattle.splitting.specs.InnerChoose.{formula_in, matching_at}
+use Rattle.splitting.specs.InnerChoose.{formula_in}
 use Rattle.splitting.proofs.NodeMatchingLaws.{match_cost}
 use Rattle.splitting.proofs.CompactLaws.{small_in}
 use Rattle.splitting.proofs.MaskTrialLaws.{tried_false, tried_true}

@@ -6,12 +6,12 @@ use Rattle.splitting.proofs.CounterLaws.{greatest_all, greatest_turn, busiest_lo
 use Rattle.splitting.proofs.counts.Counts.busiest.Goals as goal
 
 pub loop-i-init : goal.loop-i-init
-loop-i-init c = greatest_all c.args.self.digits 7 c.args.mask (omega (arith, c.args.self.seven)) c.requires
+loop-i-init c = greatest_all c.args.self.digits 7 c.args.mask (omega (arith, c.args.self.whole)) c.requires
 
 pub loop-i-preserved : goal.loop-i-preserved
 loop-i-preserved c =
     let l = c.loop-i in
-    greatest_turn c.args.self.digits l.i c.args.mask l.most c.narrow-most.result c.loop-i-test.true (omega (arith, c.args.self.seven)) c.narrow-most.ensures l.invariant
+    greatest_turn c.args.self.digits l.i c.args.mask l.most c.narrow-most.result c.loop-i-test.true (omega (arith, c.args.self.whole)) c.narrow-most.ensures l.invariant
 
 pub returns : goal.returns
 returns c =

@@ -10,8 +10,8 @@ loop-digit-init c v = rw (bit-none v)
 
 pub loop-digit-preserved : goal.loop-digit-preserved
 loop-digit-preserved c v =
-    let l = c.loop-digit in counted_turn c.args.self.digits l.digit-index l.mask v (omega (arith, c.args.self.seven)) ∙ l.invariant v
+    let l = c.loop-digit in counted_turn c.args.self.digits l.digit-index l.mask v (omega (arith, c.args.self.whole)) ∙ l.invariant v
 
 pub returns : goal.returns
 returns c v =
-    let l = c.loop-digit in sym (counted_done c.args.self.digits l.digit-index l.mask v (omega (arith, c.args.self.seven))) ∙ l.invariant v
+    let l = c.loop-digit in sym (counted_done c.args.self.digits l.digit-index l.mask v (omega (arith, c.args.self.whole))) ∙ l.invariant v

@@ -1,8 +1,6 @@
 -- `with` counts one more of each member: the digits that it writes are those of the sums.
 use native.Mathlib.Omega.{arith}
 use mathlib.Core.Path.{◌≡◌, sym, ◌∙◌}
-use lib.ListN.{length}
-use Rattle.splitting.specs.InnerChoose.{count_of}
 use Rattle.splitting.proofs.CounterLaws.{added, count_added, added_turn, added_done}
 use Rattle.splitting.proofs.counts.Counts.with.Goals as goal
 
@@ -14,4 +12,4 @@ pub returns : goal.returns
 returns c v =
     let l = c.loop-digit in
     let e : l.digit-items ≡ added c.args.self.digits c.args.mask = sym (added_done l.digit-items l.digit-index l.carry (omega arith)) ∙ l.invariant in
-    rw e (count_added c.args.self.digits c.args.mask v (λ t. rw c.args.self.seven (omega (arith, c.requires v))))
+    rw e (count_added c.args.self.digits c.args.mask v (λ t. rw c.args.self.whole (omega (arith, c.requires v))))
