@@ -7,16 +7,13 @@ use Prim.Native.Nat.{ℕ}
 use lib.ListN.{length}
 use Rattle.assumptions.specs.InnerAssumed.{MasksOf}
 use Rattle.assumptions.proofs.StatedLaws.{given_none}
-use Rattle.matched.specs.declared.Accepted.{Accepted}
 use Rattle.matched.specs.declared.Declined.{Declined}
 use Rattle.matched.specs.Acceptance.{acceptance}
 use Rattle.matched.specs.InnerAccept.{held_acceptance}
 use Rattle.matched.proofs.AcceptLaws.{declined_by}
-use Rattle.writing.specs.Placed.{Room, Puts}
+use Rattle.writing.specs.Placed.{Puts}
 use Rattle.writing.proofs.PlacedLaws.{lent_puts}
-use Rattle.printing.specs.Printing.{max_input, max_print}
 use Rattle.printing.specs.Printed.{printed, refusal_line}
-use Rattle.printing.specs.InnerLines.{IsTask}
 use Rattle.printing.proofs.PrintedLaws.{printed-length}
 use Rattle.printing.proofs.PrintLaws.{declined_prints, accepted_task, print_short, print_long, print_written}
 use Rattle.printing.proofs.print.Goals.{then-buffer-lt-MAX_PRINT-via-then-buffer-lt-MAX_PRINT, then-buffer-lt-MAX_PRINT-via-else-buffer-lt-MAX_PRINT+then-input-gt-MAX_INPUT, in-Ok, in-Err}
