@@ -24,7 +24,7 @@ returns-in_err-f c =
     rw (p.1, p.2) (text_refused a.input.now a.buffer.now (omega arith) _ (decoded_refused a.input.now _ (sym c.decode.ensures ∙ c.in_err-f.was)))
 
 pub put_text-requires : goal.put_text-requires
-put_text-requires c = formula (goal.at.put_text-requires c).In_ok-f
+put_text-requires c = rw c.len.ensures.value (formula (goal.at.put_text-requires c).In_ok-f)
 
 pub returns : goal.returns
 returns c =
