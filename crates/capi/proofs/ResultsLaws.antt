@@ -14,7 +14,6 @@ use Rattle.enumeration.specs.declared.steps.Answer.{Answer}
 use Rattle.enumeration.specs.declared.steps.Answer.TheVariants.{Model, Spent, Ended}
 use Rattle.enumeration.specs.Values.{answer_values}
 use Rattle.capi.specs.InnerResults.{refusal_results, told_results}
-use Rattle.capi.specs.Interface.{walk_results, list_results}
 
 -- a refusal's number is never 0
 pub refused_code : (r : Refusal) (n : ℕ) → cond (eqb (table_row r).number 0) n 3 ≡ 3
@@ -27,15 +26,7 @@ told F refused (Ok x) (Ok y) h = h
 told F refused (Ok x) (Err e) h = absurd h
 told F refused (Err e) m h = rw (h, refused e)
 
--- the results of a list are those of a walk, with the number of models in place of the steps
-pub counted : (a : Answer) (n : ℕ) (c : Checkpoint) → walk_results (answer_values a n 0 c) ≡ list_results n (answer_values a 0 0 c)
-counted (Model m) n c = refl
-counted Spent n c = refl
-counted Ended n c = refl
-
--- ---- the checkpoint that comes back
-
--- it is that behind an answer
+-- the values of an answer have the checkpoint beside it
 pub beside : (a : Answer) (s e : ℕ) (c : Checkpoint) → (answer_values a s e c).checkpoint ≡ c
 beside (Model m) s e c = refl
 beside Spent s e c = refl

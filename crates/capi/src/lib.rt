@@ -42,25 +42,28 @@ fn plain_results(answer: u64, model: u64, steps: u64, expansions: u64) -> Result
     [answer, model, 0, 0, steps, expansions]
 }
 
-// A refusal.
+// A refusal: its number and its place.
 fn refusal_results(refusal: Refusal) -> Results
     ensures { result ≡ refusal_results refusal }
 {
     [3, 0, refusal.number(), refusal.place() as u64, 0, 0]
 }
 
+// A verdict: model or not.
 fn check_results(model: bool) -> Results
     ensures { result ≡ check_results (check.verdict_values (Ok model)) }
 {
     plain_results(u64::from(!model), 0, 0, 0)
 }
 
+// An accepted input.
 fn judge_results(sizes: Sizes) -> Results
     ensures { result ≡ judge_results (judging.judgement_values (Ok sizes)) }
 {
     plain_results(0, 0, sizes.variables as u64, sizes.clauses as u64)
 }
 
+// Weighed marks.
 fn weigh_results(weight: Weight) -> Results
     ensures { result ≡ weigh_results (weighed_values (Ok weight)) }
 {
@@ -85,18 +88,21 @@ fn answer_results(answer: Answer, steps: u64, expansions: u64) -> Results
     }
 }
 
+// A walk call.
 fn walk_results(walked: Walked) -> Results
     ensures { result ≡ walk_results (walked_values walked) }
 {
     answer_results(walked.answer, walked.steps, walked.expansions)
 }
 
+// A list: the last call's answer, and how many models were brought.
 fn list_results(listed: Listed) -> Results
     ensures { result ≡ list_results listed.count (listed_values listed) }
 {
     answer_results(listed.answer, listed.count as u64, 0)
 }
 
+// A page: filled, or not to its end, so that no model is left.
 fn page_results(paged: Paged) -> Results
     ensures { result ≡ page_results (page_values (Ok paged)) }
 {
