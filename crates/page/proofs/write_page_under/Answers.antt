@@ -1,10 +1,8 @@
 -- `write_page_under` meets its contract: the refusals first, then from where `enter` says.
-use Prim.Native.Nat.{◌≤◌, ◌<◌}
 use mathlib.Core.List.{List}
 use mathlib.Core.Logic.{inl, inr}
-use mathlib.Core.Path.{◌≡◌, sym}
+use mathlib.Core.Path.{sym}
 use native.Mathlib.Omega.{arith}
-use lib.ListN.{length}
 use Rattle.std.proofs.lemmas.Result.{err_from_is_err_and}
 use Rattle.assumptions.specs.declared.Assumption.{Assumption}
 use Rattle.assumptions.specs.InnerAssumed.{MasksOf}
@@ -33,8 +31,8 @@ pub returns-then-serial-eq0 : goal.returns-then-serial-eq0
 returns-then-serial-eq0 c us g =
     bad_refused _ us (checkpoint_values c.args.checkpoint) c.args.serial c.args.page.now c.if-page-lt-PAGE_SIZE.false
     (elim c.then-serial-eq0.branch [
-      then-serial-eq0-via-then-serial-eq0 w ↦ inl w.if-serial-eq0.true
-    | then-serial-eq0-via-else-serial-eq0+then-serial-gt-MAX_SERIAL w ↦ inr w.if-serial-gt-MAX_SERIAL.true
+      | then-serial-eq0-via-then-serial-eq0 w ↦ inl w.if-serial-eq0.true
+      | then-serial-eq0-via-else-serial-eq0+then-serial-gt-MAX_SERIAL w ↦ inr w.if-serial-gt-MAX_SERIAL.true
     ])
 
 pub returns-in_err-a : goal.returns-in_err-a
