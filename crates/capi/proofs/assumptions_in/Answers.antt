@@ -9,4 +9,3 @@ use Rattle.capi.proofs.assumptions_in.Goals as goal
 
 pub read_pairs-requires : goal.read_pairs-requires
 read_pairs-requires c = rw c.stated.ensures (stated_le c.args.input.now)
-
