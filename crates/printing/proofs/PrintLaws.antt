@@ -6,11 +6,12 @@ use mathlib.Core.List.{List, [], ◌++◌}
 use mathlib.Core.Path.{◌≡◌, refl, sym, ap, ◌∙◌}
 use native.Mathlib.Omega.{arith}
 use lib.Dec.{ltb}
-use lib.ListN.{length}
+use lib.ListN.{length, length-map}
 use borrow.Author.Tests.{ltb-false, lt-ltb, le-ltb}
 use Rattle.lists.specs.Over.{over}
 use Rattle.lists.proofs.OverLaws.{over_length}
 use Rattle.formula.specs.declared.Formula.{Formula}
+use Rattle.formula.specs.InnerMasked.{clause_of}
 use Rattle.formula.specs.declared.Refusal.{Refusal}
 use Rattle.matched.specs.Acceptance.{declined, acceptance}
 use Rattle.matched.specs.declared.Accepted.{Accepted}
@@ -45,6 +46,7 @@ accepted_prints s f w =
     let cs = w.clauses in
     ap acceptance_lines w.accepts
     ∙ ap (λ (l : List ℕ). header n (length cs) ++ l) (lines_resumed s n w.trail cs w.row w.accepts max_models)
+    ∙ ap (λ (m : ℕ). header n m ++ lines_from (tree_of s [] f w) n (visible (under n w.trail cs)) max_models (down empty)) (sym (length-map cs clause_of))
     ∙ ap (λ (g : Formula). header g.variables (length g.clauses.items) ++ lines_from (tree_of s [] f w) g.variables (visible (under n w.trail cs)) max_models (down empty)) (sym w.formula)
 
 -- what accept answers, as the task of the input

@@ -33,11 +33,6 @@ returns-then-buffer-lt-MAX_PRINT c =
 pub accept-requires : goal.accept-requires
 accept-requires c = ([], rw c.none.ensures (given_none c.args.input.now))
 
-pub new-requires : goal.new-requires
-new-requires c =
-    let t = accepted_task c.args.input.now c.in-Ok.a (sym (c.in-Ok.ensures [] (rw c.none.ensures (given_none c.args.input.now)))) in
-    t.takes.fits.few
-
 pub put_task-requires : goal.put_task-requires
 put_task-requires c =
     record {

@@ -1,5 +1,6 @@
 -- `put_task` prints the header and the walk.
 use mathlib.Core.List.{[]}
+use lib.ListN.{length}
 use Rattle.walk.specs.InnerStack.{empty}
 use Rattle.walk.specs.InnerMachine.{down}
 use Rattle.enumeration.specs.InnerScope.{visible_in}
@@ -15,7 +16,8 @@ put_header-requires c =
     let p = c.requires in
     let T = c.args.task.now in
     let lines = lines_from (tree_of p.input [] T.formula p.task.takes) T.formula.variables (visible_in T.scope) max_models (down empty) in
-    room_in_front (header T.formula.variables (length T.formula.clauses.items)) lines (printed p.input) c.args.w.now (task_prints p.input T p.task) p.room
+    rw c.len.ensures.value
+    (room_in_front (header T.formula.variables (length T.formula.clauses.items)) lines (printed p.input) c.args.w.now (task_prints p.input T p.task) p.room)
 
 pub put_walk-requires : goal.put_walk-requires
 put_walk-requires c =
@@ -26,8 +28,9 @@ put_walk-requires c =
       fits = p.task.takes.fits;
       tree = tree_of p.input [] T.formula p.task.takes;
       follows = task_follows p.input T p.task;
-      room = room_in_behind (header T.formula.variables (length T.formula.clauses.items)) lines (printed p.input) c.args.w.now c.put_header.new.w (task_prints p.input T p.task) p.room c.put_header.ensures;
+      room = room_in_behind (header T.formula.variables (length T.formula.clauses.items)) lines (printed p.input) c.args.w.now c.put_header.new.w (task_prints p.input T p.task) p.room
+          (rw c.len.ensures.value at c.put_header.ensures);
     }
 
 pub returns : goal.returns
-returns c = λ s t. rw (task_prints s c.args.task.now t) (puts_more c.put_header.ensures (c.put_walk.ensures _ (task_follows s c.args.task.now t)))
+returns c = λ s t. rw (task_prints s c.args.task.now t) (puts_more (rw c.len.ensures.value at c.put_header.ensures) (c.put_walk.ensures _ (task_follows s c.args.task.now t)))
