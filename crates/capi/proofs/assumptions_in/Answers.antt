@@ -1,9 +1,4 @@
 -- `assumptions_in`: the pairs are read for the number of variables that the input states.
-use Prim.Native.Nat.{ℕ}
-use mathlib.Core.Path.{ap, ◌∙◌}
-use Rattle.assumptions.specs.Assumed.{assumed}
-use Rattle.assumptions.specs.InnerAssumed.{masks_of}
-use Rattle.assumptions.specs.Bytes.{of_bytes}
 use Rattle.assumptions.proofs.StatedLaws.{stated_le}
 use Rattle.capi.proofs.assumptions_in.Goals as goal
 
