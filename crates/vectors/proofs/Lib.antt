@@ -1,4 +1,2 @@
-pub mod CheckingLaws
 pub mod ComparingLaws
-pub mod FrameLaws
 pub mod TotalsLaws
