@@ -1,2 +1,3 @@
 pub mod ComparingLaws
+pub mod FrameLaws
 pub mod TotalsLaws
