@@ -1,11 +1,8 @@
 -- From which state a call goes on.
-use Rattle.std.specs.Prelude.{ℕ, ◌<◌, true, false, List, ◌≡◌, length}
+use Rattle.std.specs.Prelude.{ℕ, ◌<◌, true, List, ◌≡◌, length, Result, Ok, Err}
 use Rattle.limits.specs.Limits.{max_variables}
 use Rattle.formula.specs.declared.Formula.{Formula}
-use Rattle.formula.specs.declared.Outcome.{Outcome}
-use Rattle.formula.specs.declared.Outcome.TheVariants as outcomes
 use Rattle.formula.specs.declared.Refusal.{Refusal}
-use Rattle.formula.specs.declared.Refusal.TheVariants.{ForeignCheckpoint}
 use Rattle.formula.specs.Format.{Literal}
 use Rattle.formula.specs.InnerMasked.{formula_of}
 use Rattle.formula.specs.InnerFits.{FormulaFits}
@@ -20,18 +17,12 @@ use Rattle.walk.specs.InnerCall.{resumed_result, resumed_call}
 use Rattle.walk.specs.InnerLocate.{task_call}
 use Rattle.walk.specs.WalkCall.{walk_call}
 use Rattle.walk.specs.Results.{refusing}
-use Rattle.enumeration.specs.declared.entering.Entered.{Entered}
 use Rattle.enumeration.specs.declared.scope.Scope.{Scope}
+use Rattle.enumeration.specs.declared.state.State.{State}
 use Rattle.enumeration.specs.InnerScope.{visible_in, task_scope}
 use Rattle.enumeration.specs.InnerState.{position_in, Follows, Holds}
 use Rattle.enumeration.specs.InnerLists.{filling}
 use Rattle.enumeration.specs.Lists.{next_models}
-
--- what comes of the checkpoint c in the tree K: the state of its position, or 11
-pub record Stands (K : Tree) (c : Checkpoint) (r : Entered) : Type 0 where
-  pub passed : r.outcome ≡ outcomes.Accepted
-      → (accepts K c ≡ true) × Holds K r.state × (position_in r.state ≡ position_of K.size c.mode (read c))
-  pub foreign : (e : Refusal) → r.outcome ≡ outcomes.Refused e → (e ≡ ForeignCheckpoint 0) × (accepts K c ≡ false)
 
 -- the input is accepted, f has its number of variables, and z shows the variables that its task does
 pub record AcceptedAs (s : List ℕ) (us : List Assumption) (f : Formula) (z : Scope) : Type 0 where
@@ -51,26 +42,21 @@ pub record WalkedAs (s : List ℕ) (us : List Assumption) (f : Formula) (z : Sco
   pub accepted : AcceptedAs s us f z
   pub calls : (c : Checkpoint) (b : ℕ) → walk_call s us c b ≡ task_call task c b
 
--- o is what comes of the input: it is walked so, or every call is refused
-pub record Walkable (s : List ℕ) (us : List Assumption) (o : Outcome) (f : Formula) (z : Scope) : Type 0 where
-  pub walked : o ≡ outcomes.Accepted → WalkedAs s us f z
-  pub declined : (e : Refusal) → o ≡ outcomes.Refused e → (c : Checkpoint) (b : ℕ) → walk_call s us c b ≡ refusing e c
-
--- The state of the checkpoint c in the walk of the input s under us, which f and z hold: c passes the test, and the calls and the lists
+-- The state q of the checkpoint c in the walk of the input s under us, which f and z hold: c passes the test, and the calls and the lists
 -- from it go on from the state. A call from any checkpoint of 48 bytes is that of the machine that tests it.
-pub record Begun (s : List ℕ) (us : List Assumption) (f : Formula) (z : Scope) (c : Checkpoint) (r : Entered) : Type 0 where
+pub record Begun (s : List ℕ) (us : List Assumption) (f : Formula) (z : Scope) (c : Checkpoint) (q : State) : Type 0 where
   pub tree : Tree
   pub fits : FormulaFits f
   pub accepted : AcceptedAs s us f z
   pub follows : Follows f z tree
-  pub holds : Holds tree r.state
+  pub holds : Holds tree q
   pub passes : accepts tree c ≡ true
-  pub position : position_in r.state ≡ position_of tree.size c.mode (read c)
-  pub calls : (b : ℕ) → walk_call s us c b ≡ resumed_result (resume tree b (position_in r.state))
-  pub lists : (k : ℕ) → 0 < k → next_models s us c k ≡ filling tree (position_in r.state) k
+  pub position : position_in q ≡ position_of tree.size c.mode (read c)
+  pub calls : (b : ℕ) → walk_call s us c b ≡ resumed_result (resume tree b (position_in q))
+  pub lists : (k : ℕ) → 0 < k → next_models s us c k ≡ filling tree (position_in q) k
   pub tested : (x : Checkpoint) (b : ℕ) → length x.bytes ≡ max_variables → walk_call s us x b ≡ resumed_call tree x b
 
 -- that state, or the refusal of every call from c
-pub record Enters (s : List ℕ) (us : List Assumption) (f : Formula) (z : Scope) (c : Checkpoint) (r : Entered) : Type 0 where
-  pub begun : r.outcome ≡ outcomes.Accepted → Begun s us f z c r
-  pub refused : (e : Refusal) → r.outcome ≡ outcomes.Refused e → (b : ℕ) → walk_call s us c b ≡ refusing e c
+pub record Enters (s : List ℕ) (us : List Assumption) (f : Formula) (z : Scope) (c : Checkpoint) (r : Result State Refusal) : Type 0 where
+  pub begun : (q : State) → r ≡ Ok q → Begun s us f z c q
+  pub refused : (e : Refusal) → r ≡ Err e → (b : ℕ) → walk_call s us c b ≡ refusing e c

@@ -2,11 +2,12 @@
 use Rattle.std.specs.Prelude.{ℕ, map, take}
 use Rattle.std.specs.Int.Bits.{bit_or}
 use Rattle.masks.specs.Mask.{minus, size}
+use Rattle.formula.specs.declared.assignment.Assignment.{Assignment}
 use Rattle.formula.specs.declared.Formula.{Formula}
+use Rattle.formula.specs.InnerAssignment.{assigned}
 use Rattle.formula.specs.InnerFits.{clause_variables}
 use Rattle.matching.specs.Sets.{union}
-use Rattle.splitting.specs.declared.Assignment.{Assignment}
-use Rattle.splitting.specs.InnerChoose.{assigned, assignment_of}
+use Rattle.splitting.specs.InnerChoose.{assignment_of}
 use Rattle.walk.specs.Task.{Task, to_assign}
 use Rattle.enumeration.specs.declared.scope.Scope.{Scope}
 

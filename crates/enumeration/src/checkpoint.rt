@@ -1,17 +1,18 @@
 // S7.2: checkpoints: the one of the start, the bytes of assigned variables, and the form that a checkpoint has.
-ghost use Rattle.std.specs.Prelude.{◌≡◌, ◌<◌, ◌≤◌, length, take, drop};
+ghost use Rattle.std.specs.Prelude.{◌≡◌, ◌<◌};
 ghost use Rattle.limits.specs.Limits.{max_variables};
 ghost use Rattle.walk.specs.Checkpoints.{byte, byte_number, start};
-ghost use Rattle.walk.specs.InnerTest.{numbered, zeros};
+ghost use Rattle.walk.specs.InnerTest.{formed};
 ghost use Rattle.enumeration.specs.Values.{checkpoint_values};
-ghost use Rattle.enumeration.specs.InnerRead.{FormTested};
+
+use limits::MAX_VARIABLES;
 
 // A checkpoint (request: marker): its mode, its length, and a byte for each assigned variable in order.
 #[derive(Clone, Copy)]
 pub struct Checkpoint {
     pub mode: u8,
     pub length: u8,
-    pub bytes: [u8; limits::MAX_VARIABLES],
+    pub bytes: [u8; MAX_VARIABLES],
 }
 
 // S8.3: the start checkpoint (request: start marker).
@@ -21,7 +22,7 @@ pub fn start_checkpoint() -> Checkpoint
     Checkpoint {
         mode: 0,
         length: 0,
-        bytes: [0u8; limits::MAX_VARIABLES],
+        bytes: [0u8; MAX_VARIABLES],
     }
 }
 
@@ -42,56 +43,22 @@ pub fn number_of(b: u8) -> usize
     ensures { result ≡ byte_number b }
 {
     if 128 <= b {
-        (b - 128) as usize
+        usize::from(b - 128)
     } else {
-        b as usize
+        usize::from(b)
     }
 }
 
-// No byte before the end has the number 0.
-fn has_numbers(bytes: [u8; limits::MAX_VARIABLES], end: usize) -> bool
-    requires { end ≤ max_variables }
-    ensures { result ≡ numbered (take end bytes) }
-{
-    let mut i: usize = 0;
-    while i < end {
-        if number_of(bytes[i]) == 0 {
-            return false;
-        }
-        i += 1;
+impl Checkpoint {
+    // The checkpoint's mode, length and bytes have the form of one: no byte before the end has the number 0, and every byte from the end
+    // on is 0.
+    pub fn is_well_formed(self) -> bool
+        ensures { result ≡ formed (checkpoint_values self) }
+    {
+        let length = usize::from(self.length);
+        self.mode <= 4
+            && length <= MAX_VARIABLES
+            && self.bytes[..length].iter().all(|b| number_of(*b) != 0)
+            && self.bytes[length..].iter().all(|b| *b == 0)
     }
-    true
-}
-
-// Every byte from the end on is 0.
-fn has_zeros(bytes: [u8; limits::MAX_VARIABLES], end: usize) -> bool
-    requires { end ≤ max_variables }
-    ensures { (result ≡ zeros (drop end bytes)) × (length bytes ≡ max_variables) }
-{
-    let mut i = end;
-    while i < limits::MAX_VARIABLES {
-        if bytes[i] != 0 {
-            return false;
-        }
-        i += 1;
-    }
-    true
-}
-
-// The checkpoint's mode, length and bytes have the form of one.
-pub fn well_formed(c: Checkpoint) -> bool
-    ensures { FormTested c result }
-{
-    if 4 < c.mode {
-        return false;
-    }
-    let length = c.length as usize;
-    if limits::MAX_VARIABLES < length {
-        return false;
-    }
-    let bytes = c.bytes;
-    if has_numbers(bytes, length) {
-        return has_zeros(bytes, length);
-    }
-    false
 }

@@ -1,10 +1,9 @@
-// What a walk assigns, and what is assigned before it begins.
+// What a walk goes over: a formula, the variables that it assigns, and what is assigned before it begins.
 ghost use Rattle.std.specs.Prelude.{◌≡◌, ◌≤◌};
 ghost use Rattle.limits.specs.Limits.{max_clauses};
 ghost use Rattle.enumeration.specs.InnerScope.{scope_under, visible_in};
 
-use formula::Formula;
-use splitting::Assignment;
+use formula::{Assignment, Formula};
 
 // The variables to assign, how many they are, and what is assigned before.
 #[derive(Clone, Copy)]
@@ -14,25 +13,34 @@ pub struct Scope {
     pub before: Assignment,
 }
 
-// S23.1: the variables that the clauses of a formula name and that a has not assigned are to be assigned.
-pub fn scope_of(f: Formula, a: Assignment) -> Scope
-    requires { f.count ≤ max_clauses }
-    ensures { result ≡ scope_under f a }
-{
-    let named = matched::named(f);
-    let assigned = a.trues | a.falses;
-    let mask = masks::minus(named, assigned);
-    Scope {
-        mask,
-        size: masks::size(mask) as usize,
-        before: a,
-    }
+// What a walk goes over.
+#[derive(Clone, Copy)]
+pub struct Task {
+    pub formula: Formula,
+    pub scope: Scope,
 }
 
-// S23.3: the variables whose values a model shows: those to assign and those assigned before.
-pub fn visible_in(z: Scope) -> u64
-    ensures { result ≡ visible_in z }
-{
-    let a = z.before;
-    z.mask | (a.trues | a.falses)
+impl Task {
+    // S23.1: the variables that the clauses of the formula name and that are not assigned before are to be assigned.
+    pub fn new(formula: Formula, before: Assignment) -> Self
+        requires { formula.count ≤ max_clauses }
+        ensures { result ≡ record { formula = formula; scope = scope_under formula before } }
+    {
+        let mask = masks::minus(matched::named(&formula), before.variables());
+        Task {
+            formula,
+            scope: Scope {
+                mask,
+                size: masks::size(mask) as usize,
+                before,
+            },
+        }
+    }
+
+    // S23.3: the variables whose values a model shows: those to assign and those assigned before.
+    pub fn visible(&self) -> u64
+        ensures { result ≡ visible_in self.now.scope }
+    {
+        self.scope.mask | self.scope.before.variables()
+    }
 }

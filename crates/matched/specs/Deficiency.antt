@@ -1,14 +1,12 @@
 -- S22: how far the formula of an input is from being matched, `deficiency` in the code: on the clauses as they are read, with no assumption
 -- and before stripping.
-use Rattle.std.specs.Prelude.{ℕ, List, map}
+use Rattle.std.specs.Prelude.{ℕ, List, map, Result, Ok, Err}
 use Rattle.formula.specs.declared.Refusal.{Refusal}
 use Rattle.formula.specs.InnerDecode.{decode}
 use Rattle.formula.specs.Decoding.{Decoding, readable, refused}
 use Rattle.formula.specs.Masked.{variables}
 use Rattle.formula.specs.Refusals.{table_row}
 use Rattle.matching.specs.Deficiency.{deficiency}
-use Rattle.matched.specs.declared.Measured.{Measured}
-use Rattle.matched.specs.declared.Measured.TheVariants.{Deficiency, Refused}
 
 -- the values of an answer: the refusal's number and place, and the deficiency (request: shortfall); zeros where it has none
 pub record MeasuredValues : Type 0 where
@@ -23,9 +21,9 @@ abbrev pub unmeasured : Refusal → MeasuredValues
 unmeasured r = record { number = (table_row r).number; place = (table_row r).place; deficiency = 0 }
 
 -- the values of each case
-abbrev pub measured_values : Measured → MeasuredValues
-measured_values (Deficiency d) = measured d
-measured_values (Refused r) = unmeasured r
+abbrev pub measured_values : Result ℕ Refusal → MeasuredValues
+measured_values (Ok d) = measured d
+measured_values (Err r) = unmeasured r
 
 -- of what the reader gives
 abbrev pub deficiency_read : Decoding → MeasuredValues

@@ -3,12 +3,12 @@ use Rattle.std.specs.Prelude.{ℕ, zero, suc, ◌+◌, ◌≤◌, ◌<◌, not, 
 use Rattle.limits.specs.Limits.{max_variables}
 use Rattle.lists.specs.Tabulated.{tabulated}
 use Rattle.masks.specs.Mask.{bit}
+use Rattle.formula.specs.declared.assignment.Assignment.{Assignment}
 use Rattle.formula.specs.declared.Clause.{Clause}
+use Rattle.formula.specs.InnerAssignment.{satisfied_under}
 use Rattle.formula.specs.InnerFits.{clause_variables}
 use Rattle.formula.specs.InnerMasked.{no_clause}
-use Rattle.splitting.specs.declared.Assignment.{Assignment}
 use Rattle.splitting.specs.declared.Stripping.{Stripping}
-use Rattle.splitting.specs.InnerChoose.{satisfied_under}
 
 module _ (cs : List Clause) (a : Assignment) where
   -- how many of the first i clauses of an array the assignment does not satisfy

@@ -1,13 +1,12 @@
 -- S5.7, S17.2: the act judge, `find_matching` in the code. Refusal 1 first, then what comes of the input under the assumptions.
-use Rattle.std.specs.Prelude.{ℕ, cond, List, ltb, length}
+use Rattle.std.specs.Prelude.{ℕ, cond, List, ltb, length, Result, Ok, Err}
 use Rattle.limits.specs.Limits.{max_clauses}
 use Rattle.lists.specs.Over.{over}
 use Rattle.formula.specs.declared.Refusal.{Refusal}
 use Rattle.formula.specs.declared.Refusal.TheVariants.{ShortBuffer}
 use Rattle.formula.specs.Refusals.{table_row}
 use Rattle.assumptions.specs.declared.Assumption.{Assumption}
-use Rattle.matched.specs.declared.Judgement.{Judgement}
-use Rattle.matched.specs.declared.Judgement.TheVariants.{Accepted, Refused}
+use Rattle.matched.specs.declared.Sizes.{Sizes}
 use Rattle.matched.specs.Acceptance.{Acceptance, accepted, declined, acceptance}
 
 -- the values of an answer: the refusal's number and place, the numbers of variables and of clauses; zeros where it has none
@@ -24,9 +23,9 @@ abbrev pub refused_values : Refusal → JudgementValues
 refused_values r = record { number = (table_row r).number; place = (table_row r).place; variables = 0; clauses = 0 }
 
 -- the values of each case
-abbrev pub judgement_values : Judgement → JudgementValues
-judgement_values (Accepted n m) = accepted_values n m
-judgement_values (Refused r) = refused_values r
+abbrev pub judgement_values : Result Sizes Refusal → JudgementValues
+judgement_values (Ok z) = accepted_values z.variables z.clauses
+judgement_values (Err r) = refused_values r
 
 -- the answer, and the pairing buffer (request: slate) as it is left
 pub record Judged : Type 0 where

@@ -1,5 +1,5 @@
 -- S20.2: how much the marks of a buffer weigh, `weigh_marks` in the code: how many clauses they mark and how many variables these name.
-use Rattle.std.specs.Prelude.{ℕ, cond, List, ltb, length}
+use Rattle.std.specs.Prelude.{ℕ, cond, List, ltb, length, Result, Ok, Err}
 use Rattle.limits.specs.Limits.{max_clauses}
 use Rattle.masks.specs.Mask.{size}
 use Rattle.formula.specs.declared.Refusal.{Refusal}
@@ -10,8 +10,7 @@ use Rattle.formula.specs.Format.{Literal}
 use Rattle.formula.specs.Refusals.{table_row}
 use Rattle.assumptions.specs.declared.Assumption.{Assumption}
 use Rattle.assumptions.specs.Assumed.{Assumed, literals, bad, assumed}
-use Rattle.matched.specs.declared.Weighed.{Weighed}
-use Rattle.matched.specs.declared.Weighed.TheVariants.{Counted, Refused}
+use Rattle.matched.specs.declared.Weight.{Weight}
 use Rattle.matched.specs.Pairing.{marked, named_but}
 
 -- the values of an answer: the refusal's number and place, the numbers of clauses and of variables; zeros where it has none
@@ -28,9 +27,9 @@ abbrev pub unweighed_values : Refusal → WeighedValues
 unweighed_values r = record { number = (table_row r).number; place = (table_row r).place; clauses = 0; variables = 0 }
 
 -- the values of each case
-abbrev pub weighed_values : Weighed → WeighedValues
-weighed_values (Counted clauses variables) = counted_values clauses variables
-weighed_values (Refused r) = unweighed_values r
+abbrev pub weighed_values : Result Weight Refusal → WeighedValues
+weighed_values (Ok w) = counted_values w.clauses w.variables
+weighed_values (Err r) = unweighed_values r
 
 -- the marked clauses, and the variables that they name, those that are assumed not counted
 abbrev pub weighed_under : List Literal → List (List Literal) → List ℕ → WeighedValues

@@ -9,6 +9,7 @@ ghost use Rattle.limits.specs.Limits.{max_clauses};
 ghost use Rattle.lists.specs.Over.{over};
 ghost use Rattle.lists.specs.Padded.{padded};
 ghost use Rattle.formula.specs.Format.{Literal, Sized, ClauseOver};
+ghost use Rattle.formula.specs.InnerAssignment.{satisfied_under};
 ghost use Rattle.formula.specs.InnerMasked.{formula_of};
 ghost use Rattle.formula.specs.InnerFits.{clause_variables, FormulaFits};
 ghost use Rattle.assumptions.specs.declared.Assumption.{Assumption};
@@ -19,352 +20,314 @@ ghost use Rattle.splitting.specs.Nodes.{remaining};
 ghost use Rattle.splitting.specs.Stripping.{stripped};
 ghost use Rattle.matched.specs.Acceptance.{acceptance, by_stripped, formula_acceptance};
 ghost use Rattle.matched.specs.Deficiency.{measured_values, deficiency_of};
-ghost use Rattle.matched.specs.InnerAccept.{ReaderGives, assigned_by, refused_row, Represents};
+ghost use Rattle.matched.specs.InnerAccept.{held_acceptance, held_row, row_held, refused_row};
 ghost use Rattle.matched.specs.InnerSpread.{bytes_at, NotesFit, first_noted, told_byte, told_bytes};
 ghost use Rattle.matched.specs.Judge.{judgement_values, judge};
 ghost use Rattle.matched.specs.Weigh.{weighed_values, weighed};
 
-use assumptions::{Assumption, Assumptions};
-use formula::{Clause, Formula, Outcome, Refusal};
-use splitting::{Assignment, Stripping};
+use assumptions::Assumption;
+use formula::{Assignment, Clause, Formula, Refusal};
+use limits::MAX_CLAUSES;
+use splitting::Stripping;
 
-// What comes of an input (`acceptance`), beside its formula: whether it is accepted, and the first `length` bytes of the table: for each
-// clause 0 if an assumption satisfies it, else its variable, from 1, or, if stripping dropped it, 128 plus the variable that dropped it;
-// or, where what stripping leaves can't be matched, 1 for a marked clause and 0 for another. Another refused input has no bytes. Zeros
-// follow.
+// A byte for each clause of an input, the first `length` of the table; zeros follow. Of an accepted input: 0 if an assumption satisfies
+// the clause, else its variable, from 1, or, if stripping dropped it, 128 plus the variable that dropped it. Where what stripping leaves
+// can't be matched: 1 for a marked clause and 0 for another.
 #[derive(Clone, Copy)]
 pub struct Row {
-    pub outcome: Outcome,
     pub length: usize,
-    pub table: [u8; limits::MAX_CLAUSES],
+    pub table: [u8; MAX_CLAUSES],
 }
 
-// The answer: the numbers of variables and of clauses, or the refusal.
+// An accepted input: its formula, what is assumed, and its row.
 #[derive(Clone, Copy)]
-pub enum Judgement {
-    Accepted(usize, usize),
-    Refused(Refusal),
+pub struct Accepted {
+    pub formula: Formula,
+    pub assignment: Assignment,
+    pub row: Row,
 }
 
-// How much marks weigh: the numbers of marked clauses and of the variables that they name, or the refusal.
+// A refused input: the refusal and, where what stripping leaves can't be matched, the row of the marks; else the row has no bytes.
 #[derive(Clone, Copy)]
-pub enum Weighed {
-    Counted(usize, u32),
-    Refused(Refusal),
+pub struct Declined {
+    pub refusal: Refusal,
+    pub row: Row,
 }
 
-// How far a formula is from being matched: its deficiency, or the refusal.
+// How large a formula is: the numbers of its variables and of its clauses.
 #[derive(Clone, Copy)]
-pub enum Measured {
-    Deficiency(usize),
-    Refused(Refusal),
+pub struct Sizes {
+    pub variables: usize,
+    pub clauses: usize,
 }
 
-// The assignment of the assumptions.
-pub fn assigned_by(u: Assumptions) -> Assignment
-    ensures { result ≡ assigned_by u }
-{
-    Assignment {
-        trues: u.trues,
-        falses: u.falses,
+// How much marks weigh: the numbers of marked clauses and of the variables that they name.
+#[derive(Clone, Copy)]
+pub struct Weight {
+    pub clauses: usize,
+    pub variables: u32,
+}
+
+// A refusal without bytes.
+impl From<Refusal> for Declined {
+    ghost from_gives = { λ r d. d ≡ refused_row r };
+
+    fn from(refusal: Refusal) -> Declined {
+        Declined {
+            refusal,
+            row: Row {
+                length: 0,
+                table: [0u8; MAX_CLAUSES],
+            },
+        }
+    }
+}
+
+// Only the refusal.
+impl From<Declined> for Refusal {
+    ghost from_gives = { λ d r. r ≡ d.refusal };
+
+    fn from(declined: Declined) -> Refusal {
+        declined.refusal
     }
 }
 
 // A byte for each clause: 0 if the assignment satisfies it, and for the others, in order, what the answers have, raised by k.
-fn spread(
-    f: Formula,
-    a: Assignment,
-    answers: [u8; limits::MAX_CLAUSES],
-    k: u8,
-) -> [u8; limits::MAX_CLAUSES]
-    requires { (f.count ≤ max_clauses) × ((i : ℕ) → i < max_clauses → get_or answers i 0 + k < 256) }
-    ensures { result ≡ padded max_clauses 0 (bytes_at f.clauses a answers k f.count) }
+fn spread(f: &Formula, a: Assignment, answers: [u8; MAX_CLAUSES], k: u8) -> [u8; MAX_CLAUSES]
+    requires { (f.now.count ≤ max_clauses) × ((i : ℕ) → i < max_clauses → get_or answers i 0 + k < 256) }
+    ensures { result ≡ padded max_clauses 0 (bytes_at f.now.clauses a answers k f.now.count) }
 {
-    let mut table = [0u8; limits::MAX_CLAUSES];
+    let mut table = [0u8; MAX_CLAUSES];
     let mut next: usize = 0;
-    let mut i: usize = 0;
-    while i < f.count {
-        if !splitting::is_satisfied(a, f.clauses[i]) {
+    for (i, c) in f.clauses[..f.count].iter().enumerate() {
+        if !a.satisfies(*c) {
             table[i] = answers[next] + k;
             next += 1;
         }
-        i += 1;
     }
     table
 }
 
 // The first noted variable that the clause names, 0 if it names none.
-fn first_noted(s: Stripping, c: Clause) -> usize
-    requires { NotesFit s }
-    ensures { result ≡ first_noted s c }
+fn first_noted(s: &Stripping, c: Clause) -> u8
+    requires { NotesFit s.now }
+    ensures { result ≡ first_noted s.now c }
 {
-    let names = c.positive | c.negative;
-    let mut i: usize = 0;
-    while i < s.count {
-        let v = s.order[i] as usize;
-        if masks::member(names, v) {
-            return v;
+    for v in &s.order[..s.count] {
+        if masks::member(c.variables(), usize::from(*v)) {
+            return *v;
         }
-        i += 1;
     }
     0
 }
 
 // The byte of a clause: 128 plus the variable, from 1, that dropped it, or the given one if stripping did not drop it.
-fn tell(a: Assignment, s: Stripping, c: Clause, byte: u8) -> u8
-    requires { NotesFit s }
-    ensures { result ≡ told_byte a s c byte }
+fn tell(a: Assignment, s: &Stripping, c: Clause, byte: u8) -> u8
+    requires { NotesFit s.now }
+    ensures { result ≡ told_byte a s.now c byte }
 {
-    if splitting::is_satisfied(s.assignment, c) & !splitting::is_satisfied(a, c) {
-        return (first_noted(s, c) + 129) as u8;
+    if s.assignment.satisfies(c) && !a.satisfies(c) {
+        return first_noted(s, c) + 129;
     }
     byte
 }
 
 // The bytes of the clauses that stripping dropped, and those of the others as in the table.
 fn tell_dropped(
-    f: Formula,
+    f: &Formula,
     a: Assignment,
-    s: Stripping,
-    table: [u8; limits::MAX_CLAUSES],
-) -> [u8; limits::MAX_CLAUSES]
-    requires { (f.count ≤ max_clauses) × NotesFit s }
-    ensures { result ≡ padded max_clauses 0 (told_bytes f.clauses a s table f.count) }
+    s: &Stripping,
+    table: [u8; MAX_CLAUSES],
+) -> [u8; MAX_CLAUSES]
+    requires { (f.now.count ≤ max_clauses) × NotesFit s.now }
+    ensures { result ≡ padded max_clauses 0 (told_bytes f.now.clauses a s.now table f.now.count) }
 {
-    let mut told = [0u8; limits::MAX_CLAUSES];
-    let mut i: usize = 0;
-    while i < f.count {
-        told[i] = tell(a, s, f.clauses[i], table[i]);
-        i += 1;
+    let mut told = [0u8; MAX_CLAUSES];
+    for (i, c) in f.clauses[..f.count].iter().enumerate() {
+        told[i] = tell(a, s, *c, table[i]);
     }
     told
 }
 
 // S18.1: what comes of a formula of which what remains is not matched: what stripping leaves of it is matched.
-fn strip_row(f: Formula, a: Assignment) -> Row
-    requires { FormulaFits f }
-    ensures { (n : ℕ) (t : List Literal) (cs : List (List Literal)) → Sized n cs → ClauseOver n t → f ≡ formula_of n cs → a ≡ assignment_of t
-        → Represents (by_stripped n t cs (stripped n (remaining t cs))) f result }
+fn strip_row(f: &Formula, a: Assignment) -> Result<Row, Declined>
+    requires { FormulaFits f.now }
+    ensures { (n : ℕ) (t : List Literal) (cs : List (List Literal)) → Sized n cs → ClauseOver n t → f.now ≡ formula_of n cs → a ≡ assignment_of t
+        → result ≡ held_row (by_stripped n t cs (stripped n (remaining t cs))) }
 {
-    let count = f.count;
     let s = splitting::strip(f, a);
-    let m = splitting::match_open(f, s.assignment);
-    let answers = m.table;
-    if m.complete {
-        let table = spread(f, s.assignment, answers, 1);
-        return Row {
-            outcome: Outcome::Accepted,
-            length: count,
-            table: tell_dropped(f, a, s, table),
-        };
-    }
-    Row {
-        outcome: Outcome::Refused(Refusal::Unmatched(m.marked)),
-        length: count,
-        table: spread(f, s.assignment, answers, 0),
+    match splitting::match_open(f, s.assignment).found {
+        Ok(answers) => Ok(Row {
+            length: f.count,
+            table: tell_dropped(f, a, &s, spread(f, s.assignment, answers, 1)),
+        }),
+        Err(violator) => Err(Declined {
+            refusal: Refusal::Unmatched(violator.size),
+            row: Row {
+                length: f.count,
+                table: spread(f, s.assignment, violator.marks, 0),
+            },
+        }),
     }
 }
 
 // What comes of a formula that was read, under assumptions of which none is bad: what remains is matched whole, or stripped.
-fn match_row(f: Formula, a: Assignment) -> Row
-    requires { FormulaFits f }
-    ensures { (n : ℕ) (t : List Literal) (cs : List (List Literal)) → Sized n cs → ClauseOver n t → f ≡ formula_of n cs → a ≡ assignment_of t
-        → Represents (formula_acceptance n t cs) f result }
+fn match_row(f: &Formula, a: Assignment) -> Result<Row, Declined>
+    requires { FormulaFits f.now }
+    ensures { (n : ℕ) (t : List Literal) (cs : List (List Literal)) → Sized n cs → ClauseOver n t → f.now ≡ formula_of n cs → a ≡ assignment_of t
+        → result ≡ held_row (formula_acceptance n t cs) }
 {
-    let count = f.count;
-    let m = splitting::match_open(f, a);
-    let answers = m.table;
-    if m.complete {
-        return Row {
-            outcome: Outcome::Accepted,
-            length: count,
+    match splitting::match_open(f, a).found {
+        Ok(answers) => Ok(Row {
+            length: f.count,
             table: spread(f, a, answers, 1),
-        };
-    }
-    strip_row(f, a)
-}
-
-// A refusal without bytes.
-fn no_row(refusal: Refusal) -> Row
-    ensures { result ≡ refused_row refusal }
-{
-    Row {
-        outcome: Outcome::Refused(refusal),
-        length: 0,
-        table: [0u8; limits::MAX_CLAUSES],
+        }),
+        Err(_) => strip_row(f, a),
     }
 }
 
-// S5.6, S17.2, S18.1: what comes of an input, by the reader's answer and the assumptions. The formula stays with the caller: to hand it on
-// would be to copy it.
-pub fn accept(outcome: Outcome, f: Formula, u: Assumptions) -> Row
-    requires { (s : List ℕ) × (us : List Assumption) × ReaderGives s outcome f × MasksOf s us u }
-    ensures { (s : List ℕ) (us : List Assumption) → ReaderGives s outcome f → MasksOf s us u → Represents (acceptance s us) f result }
+// S5.6, S17.2, S18.1: what comes of an input, under what the assumptions assign or the refusal of a bad one.
+pub fn accept(input: &[u8], u: Result<Assignment, Refusal>) -> Result<Accepted, Declined>
+    requires { (us : List Assumption) × MasksOf input.now us u }
+    ensures { (us : List Assumption) → MasksOf input.now us u → result ≡ held_acceptance (acceptance input.now us) }
 {
-    match outcome {
-        Outcome::Refused(refusal) => no_row(refusal),
-        Outcome::Accepted => {
-            if u.bad {
-                return no_row(Refusal::BadAssumption(u.place));
-            }
-            match_row(f, assigned_by(u))
-        }
-    }
+    let formula = formula::decode(input)?;
+    let assignment = u?;
+    let row = match_row(&formula, assignment)?;
+    Ok(Accepted {
+        formula,
+        assignment,
+        row,
+    })
 }
 
-// Writes the first n bytes of the table over those of the buffer.
-fn write(table: [u8; limits::MAX_CLAUSES], n: usize, buffer: &mut [u8])
-    requires { (n ≤ max_clauses) × (max_clauses ≤ length buffer.old) }
-    ensures { buffer.new ≡ over (take n table) buffer.old }
+// Writes the row over the first bytes of the buffer.
+fn write(row: &Row, buffer: &mut [u8])
+    requires { (row.now.length ≤ max_clauses) × (max_clauses ≤ length buffer.old) }
+    ensures { buffer.new ≡ over (take row.now.length row.now.table) buffer.old }
 {
-    let mut i: usize = 0;
-    while i < n {
-        buffer[i] = table[i];
-        i += 1;
-    }
+    buffer[..row.length].copy_from_slice(&row.table[..row.length]);
 }
 
 // S5.7: the act judge, over the masks of the assumptions: the numbers of variables and clauses and, in the buffer, the matching; or the
 // refusal, with the violator in the buffer if what stripping leaves is not matched.
-pub fn find_matching_under(input: &[u8], u: Assumptions, buffer: &mut [u8]) -> Judgement
+pub fn find_matching_under(
+    input: &[u8],
+    u: Result<Assignment, Refusal>,
+    buffer: &mut [u8],
+) -> Result<Sizes, Refusal>
     requires { (us : List Assumption) × MasksOf input.now us u }
     ensures { (us : List Assumption) → MasksOf input.now us u
         → (judgement_values result ≡ (judge input.now us buffer.old).answer)
         × (buffer.new ≡ (judge input.now us buffer.old).buffer) }
 {
-    if buffer.len() < limits::MAX_CLAUSES {
-        return Judgement::Refused(Refusal::ShortBuffer(0));
+    if buffer.len() < MAX_CLAUSES {
+        return Err(Refusal::ShortBuffer(0));
     }
-    let d = formula::decode(input);
-    let read = d.outcome;
-    let f = d.formula;
-    let row = accept(read, f, u);
-    let table = row.table;
-    write(table, row.length, buffer);
-    let outcome = row.outcome;
-    match outcome {
-        Outcome::Refused(refusal) => Judgement::Refused(refusal),
-        Outcome::Accepted => Judgement::Accepted(f.variables, f.count),
+    match accept(input, u) {
+        Ok(accepted) => {
+            write(&accepted.row, buffer);
+            Ok(Sizes {
+                variables: accepted.formula.variables,
+                clauses: accepted.formula.count,
+            })
+        }
+        Err(declined) => {
+            write(&declined.row, buffer);
+            Err(declined.refusal)
+        }
     }
 }
 
 // S5.7, S17.2: the act judge.
-pub fn find_matching(input: &[u8], list: &[Assumption], buffer: &mut [u8]) -> Judgement
+pub fn find_matching(
+    input: &[u8],
+    list: &[Assumption],
+    buffer: &mut [u8],
+) -> Result<Sizes, Refusal>
     ensures { (judgement_values result ≡ (judge input.now list.now buffer.old).answer)
         × (buffer.new ≡ (judge input.now list.now buffer.old).buffer) }
 {
-    let n = assumptions::stated(input);
-    let u = assumptions::read_assumptions(list, n);
+    let u = assumptions::read_assumptions(list, assumptions::stated(input));
     find_matching_under(input, u, buffer)
 }
 
-// How many of the first marks are not 0.
-fn count_marked(count: usize, marks: &[u8]) -> usize
-    requires { count ≤ length marks.now }
-    ensures { result ≡ length (selected marks.now (take count marks.now)) }
+// How many of the marks are not 0.
+fn count_marked(marks: &[u8]) -> usize
+    ensures { result ≡ length (selected marks.now marks.now) }
 {
-    let mut marked: usize = 0;
-    let mut k: usize = 0;
-    while k < count {
-        if marks[k] != 0 {
-            marked += 1;
-        }
-        k += 1;
-    }
-    marked
+    marks.iter().filter(|mark| **mark != 0).count()
 }
 
 // The variables that the marked clauses name, gathered in one mask (S20.2; request: named switches of marked rules).
-fn named_by(f: Formula, marks: &[u8]) -> u64
-    requires { (f.count ≤ max_clauses) × (f.count ≤ length marks.now) }
-    ensures { result ≡ union (selected marks.now (map clause_variables (take f.count f.clauses))) }
+fn named_by(f: &Formula, marks: &[u8]) -> u64
+    requires { (f.now.count ≤ max_clauses) × (f.now.count ≤ length marks.now) }
+    ensures { result ≡ union (selected marks.now (map clause_variables (take f.now.count f.now.clauses))) }
 {
     let mut named: u64 = 0;
-    let mut i: usize = 0;
-    while i < f.count {
-        if marks[i] != 0 {
-            let c = f.clauses[i];
-            named = named | (c.positive | c.negative);
+    for (c, mark) in f.clauses[..f.count].iter().zip(marks) {
+        if *mark != 0 {
+            named |= c.variables();
         }
-        i += 1;
     }
     named
 }
 
 // The variables that the clauses of a formula name (S23.1): what they name if every one is marked.
-pub fn named(f: Formula) -> u64
-    requires { f.count ≤ max_clauses }
-    ensures { result ≡ union (map clause_variables (take f.count f.clauses)) }
+pub fn named(f: &Formula) -> u64
+    requires { f.now.count ≤ max_clauses }
+    ensures { result ≡ union (map clause_variables (take f.now.count f.now.clauses)) }
 {
-    let marks = [1u8; limits::MAX_CLAUSES];
-    named_by(f, &marks)
+    named_by(f, &[1u8; MAX_CLAUSES])
 }
 
 // S20.2: how much the marks of a buffer weigh, over the masks of the assumptions.
-pub fn weigh_marks_under(input: &[u8], u: Assumptions, buffer: &[u8]) -> Weighed
+pub fn weigh_marks_under(
+    input: &[u8],
+    u: Result<Assignment, Refusal>,
+    buffer: &[u8],
+) -> Result<Weight, Refusal>
     requires { (us : List Assumption) × MasksOf input.now us u }
     ensures { (us : List Assumption) → MasksOf input.now us u
         → weighed_values result ≡ weighed input.now us buffer.now }
 {
-    if buffer.len() < limits::MAX_CLAUSES {
-        return Weighed::Refused(Refusal::ShortBuffer(0));
+    if buffer.len() < MAX_CLAUSES {
+        return Err(Refusal::ShortBuffer(0));
     }
-    let d = formula::decode(input);
-    let read = d.outcome;
-    let f = d.formula;
-    match read {
-        Outcome::Refused(refusal) => Weighed::Refused(refusal),
-        Outcome::Accepted => {
-            if u.bad {
-                return Weighed::Refused(Refusal::BadAssumption(u.place));
-            }
-            let assumed = u.trues | u.falses;
-            let named = masks::minus(named_by(f, buffer), assumed);
-            Weighed::Counted(count_marked(f.count, buffer), masks::size(named))
-        }
-    }
+    let f = formula::decode(input)?;
+    let assumed = u?.variables();
+    Ok(Weight {
+        clauses: count_marked(&buffer[..f.count]),
+        variables: masks::size(masks::minus(named_by(&f, buffer), assumed)),
+    })
 }
 
 // S20.2: how many clauses the buffer marks, and how many variables, the assumed ones not counted, these name: of the marks that judge
 // leaves at refusal 10, one fewer.
-pub fn weigh_marks(input: &[u8], list: &[Assumption], buffer: &[u8]) -> Weighed
+pub fn weigh_marks(input: &[u8], list: &[Assumption], buffer: &[u8]) -> Result<Weight, Refusal>
     ensures { weighed_values result ≡ weighed input.now list.now buffer.now }
 {
-    let n = assumptions::stated(input);
-    let u = assumptions::read_assumptions(list, n);
+    let u = assumptions::read_assumptions(list, assumptions::stated(input));
     weigh_marks_under(input, u, buffer)
 }
 
 // The variables that each clause names, as masks, and zeros behind them.
-fn clause_masks(f: Formula) -> [u64; limits::MAX_CLAUSES]
-    requires { f.count ≤ max_clauses }
-    ensures { result ≡ padded max_clauses 0 (map clause_variables (take f.count f.clauses)) }
+fn clause_masks(f: &Formula) -> [u64; MAX_CLAUSES]
+    requires { f.now.count ≤ max_clauses }
+    ensures { result ≡ padded max_clauses 0 (map clause_variables (take f.now.count f.now.clauses)) }
 {
-    let mut sets = [0u64; limits::MAX_CLAUSES];
-    let mut i: usize = 0;
-    while i < f.count {
-        let c = f.clauses[i];
-        sets[i] = c.positive | c.negative;
-        i += 1;
+    let mut sets = [0u64; MAX_CLAUSES];
+    for (set, c) in sets.iter_mut().zip(&f.clauses[..f.count]) {
+        *set = c.variables();
     }
     sets
 }
 
 // S22.1: how many clauses are left over by the most that can be matched together, before stripping and with no assumption.
-pub fn deficiency(input: &[u8]) -> Measured
+pub fn deficiency(input: &[u8]) -> Result<usize, Refusal>
     ensures { measured_values result ≡ deficiency_of input.now }
 {
-    let d = formula::decode(input);
-    let read = d.outcome;
-    let f = d.formula;
-    match read {
-        Outcome::Refused(refusal) => Measured::Refused(refusal),
-        Outcome::Accepted => {
-            let count = f.count;
-            let sets = clause_masks(f);
-            let k = matching::match_most(&sets, count);
-            let left_over = count - k;
-            Measured::Deficiency(left_over)
-        }
-    }
+    let f = formula::decode(input)?;
+    let most = matching::match_most(&clause_masks(&f), f.count);
+    Ok(f.count - most)
 }

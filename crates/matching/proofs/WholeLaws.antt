@@ -7,6 +7,7 @@ use Prim.Native.Nat.{ℕ, suc, ◌+◌, ◌-◌, ◌*◌, ◌≤◌, ◌<◌}
 use native.Mathlib.Numerals.{add-one}
 use native.Mathlib.Omega.{arith}
 use lib.ListN.{length, set, take, replicate, length-replicate, replicate-append-replicate, get_or-replicate}
+use Rattle.std.proofs.Common.{Ok, Err}
 use lib.Seq.{get_or-take, take-suc, take-length, length-take-le, set-get_or, set_comm}
 use lib.Dec.{eqb}
 use borrow.Author.Tests.{eqb-true, eqb-false, eq-eqb, ne_eqb}
@@ -239,7 +240,7 @@ module _ (sets : List ℕ) (count i : ℕ) (table owners queue : List ℕ) (e : 
           let b : at (take front.head queue') k < max_clauses = omega (arith, K.few) in
           rw (get_or-take front.head queue' k 0 h) at b
 
-      pub failed : (record { complete = false; expansions = e + front.head; marked = front.head; table = marks max_clauses (take front.head queue') }) ≡ packed count (outcome (take count sets))
+      pub failed : (record { expansions = e + front.head; found = Err (record { size = front.head; marks = marks max_clauses (take front.head queue') }) }) ≡ packed count (outcome (take count sets))
       unfolding packed
       failed =
           let s = next_search sets (take i table) in
@@ -250,7 +251,7 @@ module _ (sets : List ℕ) (count i : ℕ) (table owners queue : List ℕ) (e : 
 
 -- all clauses are matched
 pub finished : (sets : List ℕ) (count i : ℕ) (table owners queue : List ℕ) (e : ℕ) → Running sets count i table owners queue e → Clauses sets count → count ≤ i
-    → (record { complete = true; expansions = e; marked = 0; table = table }) ≡ packed count (outcome (take count sets))
+    → (record { expansions = e; found = Ok table }) ≡ packed count (outcome (take count sets))
 unfolding packed
 finished sets count i table owners queue e R K l =
     let z : count - i ≡ 0 = omega arith in

@@ -14,14 +14,18 @@ ghost use Rattle.matching.specs.Sets.{Words};
 
 use limits::MAX_CLAUSES;
 
-// If complete, the first bytes of `table` are the variables of the clauses and `marked` is 0; otherwise a marked clause has 1 there and
-// another 0, and `marked` clauses are marked. The bytes after those of the clauses are 0.
+// The clauses that a failed search took off its queue: how many they are, and for each clause 1 if it is one of them, else 0.
+#[derive(Clone, Copy)]
+pub struct Violator {
+    pub size: usize,
+    pub marks: [u8; MAX_CLAUSES],
+}
+
+// How many expansions were made, and what was found: the variables of the clauses, zeros behind them, or the violator.
 #[derive(Clone, Copy)]
 pub struct Matching {
-    pub complete: bool,
     pub expansions: u64,
-    pub marked: usize,
-    pub table: [u8; MAX_CLAUSES],
+    pub found: Result<[u8; MAX_CLAUSES], Violator>,
 }
 
 // Where a search stands: the seen variables, how many clauses are taken off the queue and how many joined it, and the unmatched
@@ -232,19 +236,15 @@ pub fn match_sets(sets: &[u64; MAX_CLAUSES], count: usize) -> Matching
         if front.free == 64 {
             let marks = mark(&queue, head);
             return Matching {
-                complete: false,
                 expansions,
-                marked: head,
-                table: marks,
+                found: Err(Violator { size: head, marks }),
             };
         }
         i += 1;
     }
     Matching {
-        complete: true,
         expansions,
-        marked: 0,
-        table,
+        found: Ok(table),
     }
 }
 

@@ -6,7 +6,7 @@ use lib.Bits.{bit_or}
 use borrow.Author.Tests.{ne_eqb}
 use Rattle.masks.specs.Mask.{minus}
 use Rattle.formula.specs.declared.Formula.{Formula}
-use Rattle.splitting.specs.declared.Assignment.{Assignment}
+use Rattle.formula.specs.declared.assignment.Assignment.{Assignment}
 use Rattle.splitting.specs.declared.Reduced.{Reduced}
 use Rattle.splitting.specs.declared.Survey.{Survey}
 use Rattle.splitting.specs.InnerChoose.{node, survey_of, reduced, passing, busiest_first, greatest, listed_last, mask_choice}

@@ -26,13 +26,14 @@ use Rattle.formula.specs.declared.Clause.{Clause}
 use Rattle.formula.specs.declared.Formula.{Formula}
 use Rattle.formula.specs.InnerMasked.{no_clause}
 use Rattle.formula.specs.InnerFits.{side, clause_variables}
-use Rattle.splitting.specs.declared.Assignment.{Assignment}
+use Rattle.formula.specs.declared.assignment.Assignment.{Assignment}
 use Rattle.splitting.specs.declared.Choice.{Choice}
 use Rattle.splitting.specs.declared.Reduced.{Reduced}
 use Rattle.splitting.specs.declared.Survey.{Survey}
 use Rattle.splitting.specs.declared.Trial.{Trial}
 use Rattle.splitting.specs.Choosing.{both_open}
-use Rattle.splitting.specs.InnerChoose.{assigned, set_to, satisfied_under, left_under, open_clauses, node, unnamed, unassigned, formula_at, clauses_in, clause_in, formula_in, Small, surveys, survey_from, survey_of, matching_at, pure_of, reduce_from, reduced, tried, passing, occurrences_in, busiest_first, greatest, listed_last, mask_choice}
+use Rattle.formula.specs.InnerAssignment.{assigned, set_to, satisfied_under, left_under, unassigned}
+use Rattle.splitting.specs.InnerChoose.{open_clauses, node, unnamed, formula_at, clauses_in, clause_in, formula_in, Small, surveys, survey_from, survey_of, matching_at, pure_of, reduce_from, reduced, tried, passing, occurrences_in, busiest_first, greatest, listed_last, mask_choice}
 use Rattle.splitting.proofs.NodeMatchingLaws.{small_at}
 use Rattle.splitting.proofs.ReduceLaws.{pure_lowest, reduce_done, reduce_turn}
 use Rattle.splitting.proofs.LastMemberLaws.{greatest_member}

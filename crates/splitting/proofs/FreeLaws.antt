@@ -9,9 +9,10 @@ use Rattle.formula.specs.declared.Clause.{Clause}
 use Rattle.formula.specs.declared.Formula.{Formula}
 use Rattle.formula.specs.InnerCheck.{all_first}
 use Rattle.formula.specs.InnerMasked.{no_clause}
-use Rattle.splitting.specs.declared.Assignment.{Assignment}
+use Rattle.formula.specs.declared.assignment.Assignment.{Assignment}
 use Rattle.splitting.specs.declared.Survey.{Survey}
-use Rattle.splitting.specs.InnerChoose.{set_to, satisfied_under, left_under, open_clauses, node, survey_from, survey_of, all_satisfied, free_choice, mask_choice}
+use Rattle.formula.specs.InnerAssignment.{set_to, satisfied_under, left_under}
+use Rattle.splitting.specs.InnerChoose.{open_clauses, node, survey_from, survey_of, all_satisfied, free_choice, mask_choice}
 use Rattle.splitting.proofs.OpenClauseLaws.{survey_snoc}
 use Rattle.splitting.proofs.MaskNodeLaws.{satisfied_more}
 

@@ -22,7 +22,7 @@ use Rattle.formula.specs.Format.{Literal, names, names_as}
 use Rattle.formula.specs.InnerMasked.{clause_of, formula_of}
 use Rattle.formula.specs.InnerFits.{clause_variables}
 use Rattle.formula.proofs.FormatLaws.{names-append, names_either, clause_more}
-use Rattle.splitting.specs.declared.Assignment.{Assignment}
+use Rattle.formula.specs.declared.assignment.Assignment.{Assignment}
 use Rattle.splitting.specs.declared.Choice.{Choice}
 use Rattle.splitting.specs.declared.Reduced.{Reduced}
 use Rattle.splitting.specs.declared.Survey.{Survey}
@@ -32,7 +32,8 @@ use Rattle.splitting.specs.Nodes.{assign, remaining, satisfied_by, occurs, lowes
 use Rattle.splitting.specs.Stripping.{pure, not_naming, Stripped, note, strip, stripped}
 use Rattle.splitting.specs.Choosing as choosing
 use Rattle.splitting.specs.Choosing.{matching_of, trial, both_open, first_passing, occurrences, by_count, candidates, among, listed, last, last_listed, by_left, by_remaining, unassigned_of, choice}
-use Rattle.splitting.specs.InnerChoose.{assigned, set_to, node, survey_from, survey_of, matched_node, reduced_at, pure_of, reduce_from, reduced, noted_from, tried, passing, busiest_first, greatest, listed_last, others_of, mask_choice, assignment_of}
+use Rattle.formula.specs.InnerAssignment.{assigned, set_to}
+use Rattle.splitting.specs.InnerChoose.{node, survey_from, survey_of, matched_node, reduced_at, pure_of, reduce_from, reduced, noted_from, tried, passing, busiest_first, greatest, listed_last, others_of, mask_choice, assignment_of}
 use Rattle.splitting.specs.Terms.{Below, Trail}
 use Rattle.splitting.proofs.ClauseLaws.{occurs_in, pure-named}
 use Rattle.splitting.proofs.NodeLaws.{remaining_snoc, named-remaining, below_remaining}

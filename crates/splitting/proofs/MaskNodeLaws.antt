@@ -25,10 +25,11 @@ use Rattle.formula.specs.InnerFits.{side}
 use Rattle.formula.specs.Masked.{variables}
 use Rattle.formula.proofs.ClauseLaws.{clause_side, variables-bit}
 use Rattle.formula.proofs.FormatLaws.{distinct_rest}
-use Rattle.splitting.specs.declared.Assignment.{Assignment}
+use Rattle.formula.specs.declared.assignment.Assignment.{Assignment}
 use Rattle.splitting.specs.declared.Survey.{Survey}
 use Rattle.splitting.specs.Nodes.{less, assign, remaining}
-use Rattle.splitting.specs.InnerChoose.{assigned, set_to, satisfied_under, left_under, open_clauses, node, unassigned, surveys, assign_all, assignment_of}
+use Rattle.formula.specs.InnerAssignment.{assigned, set_to, satisfied_under, left_under, unassigned}
+use Rattle.splitting.specs.InnerChoose.{open_clauses, node, surveys, assign_all, assignment_of}
 use Rattle.splitting.proofs.ClauseLaws.{less_self, less_other}
 
 -- two clauses with the same members on both sides are equal

@@ -20,12 +20,13 @@ use Rattle.matching.specs.declared.Matching.{Matching}
 use Rattle.matching.specs.Search.{succeeds}
 use Rattle.matching.proofs.ResultLaws.{packed_complete, packed-expansions}
 use Rattle.formula.specs.declared.Formula.{Formula}
-use Rattle.splitting.specs.declared.Assignment.{Assignment}
+use Rattle.formula.specs.declared.assignment.Assignment.{Assignment}
 use Rattle.splitting.specs.declared.Trial.{Trial}
 use Rattle.splitting.specs.declared.Counts.{Counts}
 use Rattle.splitting.specs.Choosing.{both_open, by_count, among}
 use Rattle.splitting.specs.Terms.{Ordered}
-use Rattle.splitting.specs.InnerChoose.{set_to, node, clause_in, clauses_in, Small, matched_node, matching_at, tried, passing, occurrences_in, busiest_first, count_at, max_count, Busiest}
+use Rattle.formula.specs.InnerAssignment.{set_to}
+use Rattle.splitting.specs.InnerChoose.{node, clause_in, clauses_in, Small, matched_node, matching_at, tried, passing, occurrences_in, busiest_first, count_at, max_count, Busiest}
 use Rattle.splitting.proofs.CountLaws.{count_le, count_drop, size_count}
 use Rattle.splitting.proofs.SearchLaws.{among_here, among_cases, among_none}
 use Rattle.splitting.proofs.OrderLaws.{before_once, ordered_behind, by_count_of, by_count_in, by_count_ordered, by_count_length, by_count_high, counted_to}

@@ -24,8 +24,9 @@ use Rattle.formula.specs.declared.Clause.{Clause}
 use Rattle.formula.specs.declared.Formula.{Formula}
 use Rattle.formula.specs.InnerMasked.{no_clause}
 use Rattle.formula.specs.InnerFits.{clause_variables, side, FormulaFits}
-use Rattle.splitting.specs.declared.Assignment.{Assignment}
-use Rattle.splitting.specs.InnerChoose.{assigned, satisfied_under, left_under, open_clauses, node, formula_at, Small, matched_node, matching_at}
+use Rattle.formula.specs.declared.assignment.Assignment.{Assignment}
+use Rattle.formula.specs.InnerAssignment.{assigned, satisfied_under, left_under}
+use Rattle.splitting.specs.InnerChoose.{open_clauses, node, formula_at, Small, matched_node, matching_at}
 
 -- ---- the matching of a node
 

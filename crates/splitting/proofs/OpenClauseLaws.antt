@@ -22,9 +22,10 @@ use Rattle.masks.proofs.MembersLaws.{some_member, member_some}
 use Rattle.formula.specs.declared.Clause.{Clause}
 use Rattle.formula.specs.InnerMasked.{no_clause}
 use Rattle.formula.specs.InnerFits.{clause_variables}
-use Rattle.splitting.specs.declared.Assignment.{Assignment}
+use Rattle.formula.specs.declared.assignment.Assignment.{Assignment}
 use Rattle.splitting.specs.declared.Survey.{Survey}
-use Rattle.splitting.specs.InnerChoose.{satisfied_under, left_under, open_clauses, unnamed, clause_in, clauses_in, formula_in, surveys, survey_from, survey_of, some_empty}
+use Rattle.formula.specs.InnerAssignment.{satisfied_under, left_under}
+use Rattle.splitting.specs.InnerChoose.{open_clauses, unnamed, clause_in, clauses_in, formula_in, surveys, survey_from, survey_of, some_empty}
 
 -- ---- one clause
 

@@ -11,9 +11,10 @@ use Rattle.formula.specs.Format.{Literal, names, names_as, distinct, ClauseOver}
 use Rattle.formula.specs.InnerMasked.{clause_of}
 use Rattle.formula.proofs.ClauseLaws.{clause_side, named_as}
 use Rattle.formula.proofs.FormatLaws.{distinct_rest}
-use Rattle.splitting.specs.declared.Assignment.{Assignment}
+use Rattle.formula.specs.declared.assignment.Assignment.{Assignment}
 use Rattle.splitting.specs.Nodes.{less, assign, remaining, satisfied_by}
-use Rattle.splitting.specs.InnerChoose.{satisfied_under, unassigned, set_to, assign_all, assignment_of}
+use Rattle.formula.specs.InnerAssignment.{satisfied_under, unassigned, set_to}
+use Rattle.splitting.specs.InnerChoose.{assign_all, assignment_of}
 use Rattle.splitting.proofs.ClauseLaws.{less_other, less_of, names_some}
 use Rattle.splitting.proofs.NodeLaws.{assign_in}
 use Rattle.splitting.proofs.MaskNodeLaws.{meets-none, satisfied_more}

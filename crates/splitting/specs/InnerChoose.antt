@@ -9,13 +9,14 @@ use Rattle.masks.specs.InnerMask.{meets, lowest}
 use Rattle.matching.specs.declared.Matching.{Matching}
 use Rattle.matching.specs.Result.{packed}
 use Rattle.matching.specs.Search.{Outcome, outcome, succeeds, expansions}
+use Rattle.formula.specs.declared.assignment.Assignment.{Assignment}
 use Rattle.formula.specs.declared.Clause.{Clause}
 use Rattle.formula.specs.declared.Formula.{Formula}
 use Rattle.formula.specs.Format.{Literal}
+use Rattle.formula.specs.InnerAssignment.{assigned, unassigned, set_to, satisfied_under, left_under}
 use Rattle.formula.specs.InnerCheck.{all_first}
 use Rattle.formula.specs.InnerMasked.{no_clause}
 use Rattle.formula.specs.InnerFits.{side, clause_variables}
-use Rattle.splitting.specs.declared.Assignment.{Assignment}
 use Rattle.splitting.specs.declared.Choice.{Choice}
 use Rattle.splitting.specs.declared.Counts.{Counts}
 use Rattle.splitting.specs.declared.Reduced.{Reduced}
@@ -26,22 +27,6 @@ use Rattle.splitting.specs.Choosing.{both_open, by_count, last}
 use Rattle.splitting.specs.Terms.{Before}
 
 -- ---- the clauses at a node
-
-abbrev pub assigned : Assignment → ℕ
-assigned a = bit_or a.trues a.falses
-
--- v gets the value b as well
-abbrev pub set_to : Assignment → ℕ → Bool → Assignment
-set_to a v true = record { trues = with a.trues v; falses = a.falses }
-set_to a v false = record { trues = a.trues; falses = with a.falses v }
-
--- an assigned variable stands the way that the clause names it
-abbrev pub satisfied_under : Assignment → Clause → Bool
-satisfied_under a c = meets c.positive a.trues || meets c.negative a.falses
-
--- what is left of a clause
-abbrev pub left_under : Assignment → Clause → Clause
-left_under a c = record { positive = minus c.positive (assigned a); negative = minus c.negative (assigned a) }
 
 -- what is left of those of the first n clauses of an array that are not satisfied
 unfoldable pub open_clauses : List Clause → Assignment → ℕ → List Clause
@@ -60,10 +45,6 @@ all_satisfied f a = all_first (satisfied_under a) f.clauses f.count
 unfoldable pub unnamed : List Clause → ℕ → ℕ → List Clause
 unnamed cs v zero = []
 unnamed cs v (suc n) = unnamed cs v n ++ cond (bit (clause_variables (get_or cs n no_clause)) v) [] (get_or cs n no_clause ∷ [])
-
--- nothing is assigned
-abbrev pub unassigned : Assignment
-unassigned = record { trues = 0; falses = 0 }
 
 -- what is left at the node, as a formula over the 64 variables of a mask
 abbrev pub formula_at : Formula → Assignment → Formula

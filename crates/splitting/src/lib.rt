@@ -12,17 +12,11 @@ ghost use Rattle.lists.specs.Over.{over};
 ghost use Rattle.masks.specs.Mask.{bit};
 ghost use Rattle.formula.specs.InnerFits.{FormulaFits, clause_variables};
 ghost use Rattle.splitting.specs.Choosing.{both_open, by_count};
-ghost use Rattle.splitting.specs.InnerChoose.{set_to, satisfied_under, left_under, node, unnamed, survey_of, some_empty, matching_at, unassigned, clause_in, clauses_in, formula_in, formula_at, Small, reduce_from, stripping_at, tried, passing, occurrences_in, count_at, max_count, narrowed, Busiest, greatest, listed_last, all_satisfied, free_choice, mask_choice};
+ghost use Rattle.formula.specs.InnerAssignment.{unassigned, set_to, left_under};
+ghost use Rattle.splitting.specs.InnerChoose.{node, unnamed, survey_of, some_empty, matching_at, clause_in, clauses_in, formula_in, formula_at, Small, reduce_from, stripping_at, tried, passing, occurrences_in, count_at, max_count, narrowed, Busiest, greatest, listed_last, all_satisfied, free_choice, mask_choice};
 
-use formula::{Clause, Formula};
+use formula::{Assignment, Clause, Formula};
 use matching::Matching;
-
-// The assigned variables, by their values.
-#[derive(Clone, Copy)]
-pub struct Assignment {
-    pub trues: u64,
-    pub falses: u64,
-}
 
 // The chosen variable, which of its values are open, and the expansions of the trials made in choosing it.
 #[derive(Clone, Copy)]
@@ -77,57 +71,21 @@ struct Trial {
     cost: u64,
 }
 
-// The assignment in which v has the value as well.
-pub fn assign(a: Assignment, v: usize, value: bool) -> Assignment
-    requires { v < 64 }
-    ensures { result ≡ set_to a v value }
-{
-    if value {
-        Assignment {
-            trues: masks::with(a.trues, v),
-            falses: a.falses,
-        }
-    } else {
-        Assignment {
-            trues: a.trues,
-            falses: masks::with(a.falses, v),
-        }
-    }
-}
-
-// Nothing is assigned.
-pub fn no_assignment() -> Assignment
-    ensures { result ≡ unassigned }
-{
-    Assignment {
-        trues: 0,
-        falses: 0,
-    }
-}
-
 // v has the value, and nothing else is assigned.
 fn only(v: usize, value: bool) -> Assignment
     requires { v < 64 }
     ensures { result ≡ set_to unassigned v value }
 {
-    assign(no_assignment(), v, value)
-}
-
-// An assigned variable satisfies the clause.
-pub fn is_satisfied(a: Assignment, c: Clause) -> bool
-    ensures { result ≡ satisfied_under a c }
-{
-    ((c.positive & a.trues) | (c.negative & a.falses)) != 0
+    Assignment::none().with(v, value)
 }
 
 // What is left of a clause.
 fn left(a: Assignment, c: Clause) -> Clause
     ensures { result ≡ left_under a c }
 {
-    let assigned = a.trues | a.falses;
     Clause {
-        positive: masks::minus(c.positive, assigned),
-        negative: masks::minus(c.negative, assigned),
+        positive: masks::minus(c.positive, a.variables()),
+        negative: masks::minus(c.negative, a.variables()),
     }
 }
 
@@ -147,13 +105,13 @@ fn clause_at(
 }
 
 // Every clause is satisfied, so that none is left at the node.
-pub fn all_satisfied(f: Formula, a: Assignment) -> bool
-    requires { f.count ≤ max_clauses }
-    ensures { result ≡ all_satisfied f a }
+pub fn all_satisfied(f: &Formula, a: Assignment) -> bool
+    requires { f.now.count ≤ max_clauses }
+    ensures { result ≡ all_satisfied f.now a }
 {
     let mut i: usize = 0;
     while i < f.count {
-        if !is_satisfied(a, f.clauses[i]) {
+        if !a.satisfies(f.clauses[i]) {
             return false;
         }
         i += 1;
@@ -163,20 +121,20 @@ pub fn all_satisfied(f: Formula, a: Assignment) -> bool
 
 // Writes what is left of the formula's open clauses, and gives their number.
 fn open_node(
-    f: Formula,
+    f: &Formula,
     a: Assignment,
     positives: &mut [u64; limits::MAX_CLAUSES],
     negatives: &mut [u64; limits::MAX_CLAUSES],
 ) -> usize
-    requires { Small f × (length positives.old ≡ max_clauses) × (length negatives.old ≡ max_clauses) }
-    ensures kept { formula_in positives.new negatives.new result ≡ formula_at f a }
+    requires { Small f.now × (length positives.old ≡ max_clauses) × (length negatives.old ≡ max_clauses) }
+    ensures kept { formula_in positives.new negatives.new result ≡ formula_at f.now a }
     ensures lengths { (length positives.new ≡ max_clauses) × (length negatives.new ≡ max_clauses) }
 {
     let mut count: usize = 0;
     let mut i: usize = 0;
     while i < f.count {
         let c = f.clauses[i];
-        if !is_satisfied(a, c) {
+        if !a.satisfies(c) {
             let l = left(a, c);
             positives[count] = l.positive;
             negatives[count] = l.negative;
@@ -202,7 +160,7 @@ fn compact(
     let mut i: usize = 0;
     while i < count {
         let c = clause_at(positives, negatives, i);
-        if !is_satisfied(a, c) {
+        if !a.satisfies(c) {
             let l = left(a, c);
             positives[kept] = l.positive;
             negatives[kept] = l.negative;
@@ -227,7 +185,7 @@ fn first_named(
     let mut i: usize = 0;
     while i < count {
         let c = clause_at(positives, negatives, i);
-        if masks::member(c.positive | c.negative, v) {
+        if masks::member(c.variables(), v) {
             return i;
         }
         i += 1;
@@ -250,7 +208,7 @@ fn drop_named(
     let mut i = kept;
     while i < count {
         let c = clause_at(positives, negatives, i);
-        if !masks::member(c.positive | c.negative, v) {
+        if !masks::member(c.variables(), v) {
             positives[kept] = c.positive;
             negatives[kept] = c.negative;
             kept += 1;
@@ -297,9 +255,9 @@ fn has_empty(
     let mut i: usize = 0;
     while i < count {
         let c = clause_at(positives, negatives, i);
-        if !is_satisfied(a, c) {
+        if !a.satisfies(c) {
             let l = left(a, c);
-            if (l.positive | l.negative) == 0 {
+            if l.variables() == 0 {
                 return true;
             }
         }
@@ -324,9 +282,9 @@ fn gather(
     let mut i: usize = 0;
     while i < count {
         let c = clause_at(positives, negatives, i);
-        if !is_satisfied(a, c) {
+        if !a.satisfies(c) {
             let l = left(a, c);
-            sets[written] = l.positive | l.negative;
+            sets[written] = l.variables();
             written += 1;
         }
         i += 1;
@@ -350,14 +308,14 @@ fn match_node(
 }
 
 // Matches what is left of the formula's open clauses, from nothing.
-pub fn match_open(f: Formula, a: Assignment) -> Matching
-    requires { FormulaFits f }
-    ensures { result ≡ matching_at f a }
+pub fn match_open(f: &Formula, a: Assignment) -> Matching
+    requires { FormulaFits f.now }
+    ensures { result ≡ matching_at f.now a }
 {
     let mut positives = [0u64; limits::MAX_CLAUSES];
     let mut negatives = [0u64; limits::MAX_CLAUSES];
     let count = open_node(f, a, &mut positives, &mut negatives);
-    match_node(&positives, &negatives, count, no_assignment())
+    match_node(&positives, &negatives, count, Assignment::none())
 }
 
 // Strips pure literals, the lowest first, until there is none, from a copy of the arrays. No variable is noted twice, so that as
@@ -374,7 +332,7 @@ fn reduce(
     let mut left_positives = *positives;
     let mut left_negatives = *negatives;
     let mut left_count = count;
-    let mut assignment = no_assignment();
+    let mut assignment = Assignment::none();
     let mut noted: u64 = 0;
     let mut last: usize = 0;
     let mut k: usize = 0;
@@ -390,7 +348,7 @@ fn reduce(
             };
         }
         let v = masks::lowest(pure);
-        assignment = assign(assignment, v, masks::member(s.positive, v));
+        assignment = assignment.with(v, masks::member(s.positive, v));
         left_count = drop_named(&mut left_positives, &mut left_negatives, left_count, v);
         noted = masks::with(noted, v);
         last = v;
@@ -405,9 +363,9 @@ fn reduce(
 }
 
 // What the formula's open clauses name.
-fn survey_open(f: Formula, a: Assignment) -> Survey
-    requires { f.count ≤ max_clauses }
-    ensures { result ≡ survey_of (node f a) }
+fn survey_open(f: &Formula, a: Assignment) -> Survey
+    requires { f.now.count ≤ max_clauses }
+    ensures { result ≡ survey_of (node f.now a) }
 {
     let mut positive: u64 = 0;
     let mut negative: u64 = 0;
@@ -415,7 +373,7 @@ fn survey_open(f: Formula, a: Assignment) -> Survey
     let mut i: usize = 0;
     while i < f.count {
         let c = f.clauses[i];
-        if !is_satisfied(a, c) {
+        if !a.satisfies(c) {
             let l = left(a, c);
             positive = positive | l.positive;
             negative = negative | l.negative;
@@ -431,9 +389,9 @@ fn survey_open(f: Formula, a: Assignment) -> Survey
 }
 
 // S6.2: strips at a node, and tells the order of noting. (The choice has `reduce`, which drops clauses in place and needs no order.)
-pub fn strip(f: Formula, a: Assignment) -> Stripping
-    requires { FormulaFits f }
-    ensures { result ≡ stripping_at f a }
+pub fn strip(f: &Formula, a: Assignment) -> Stripping
+    requires { FormulaFits f.now }
+    ensures { result ≡ stripping_at f.now a }
 {
     let mut assignment = a;
     let mut order = [0u8; limits::MAX_VARIABLES];
@@ -450,7 +408,7 @@ pub fn strip(f: Formula, a: Assignment) -> Stripping
         }
         let v = masks::lowest(pure);
         let value = masks::member(s.positive, v);
-        assignment = assign(assignment, v, value);
+        assignment = assignment.with(v, value);
         order[count] = v as u8;
         count += 1;
     }
@@ -472,7 +430,7 @@ fn try_variable(
     ensures { result ≡ tried (formula_in positives.now negatives.now count) unassigned v }
 {
     let when_false = match_node(positives, negatives, count, only(v, false));
-    if !when_false.complete {
+    if !when_false.found.is_ok() {
         return Trial {
             passes: false,
             cost: when_false.expansions,
@@ -480,7 +438,7 @@ fn try_variable(
     }
     let when_true = match_node(positives, negatives, count, only(v, true));
     Trial {
-        passes: when_true.complete,
+        passes: when_true.found.is_ok(),
         cost: when_false.expansions + when_true.expansions,
     }
 }
@@ -633,9 +591,9 @@ fn last_listed(
 }
 
 // The choice where some clause is open, whichever variables are to be assigned.
-fn choose_open(f: Formula, a: Assignment) -> Choice
-    requires { Small f × ((survey_of (node f a)).any ≡ true) }
-    ensures { (scope : ℕ) → result ≡ mask_choice f scope a }
+fn choose_open(f: &Formula, a: Assignment) -> Choice
+    requires { Small f.now × ((survey_of (node f.now a)).any ≡ true) }
+    ensures { (scope : ℕ) → result ≡ mask_choice f.now scope a }
 {
     let mut positives = [0u64; limits::MAX_CLAUSES];
     let mut negatives = [0u64; limits::MAX_CLAUSES];
@@ -659,13 +617,13 @@ fn choose_open(f: Formula, a: Assignment) -> Choice
 pub fn choose_free(scope: u64, a: Assignment) -> Choice
     ensures { result ≡ free_choice scope a }
 {
-    both_open(masks::lowest(masks::minus(scope, a.trues | a.falses)), 0)
+    both_open(masks::lowest(masks::minus(scope, a.variables())), 0)
 }
 
 // The choice at the node of the assignment; `scope` has the variables to assign.
-pub fn choose(f: Formula, scope: u64, a: Assignment) -> Choice
-    requires { FormulaFits f }
-    ensures { result ≡ mask_choice f scope a }
+pub fn choose(f: &Formula, scope: u64, a: Assignment) -> Choice
+    requires { FormulaFits f.now }
+    ensures { result ≡ mask_choice f.now scope a }
 {
     if all_satisfied(f, a) {
         return choose_free(scope, a);

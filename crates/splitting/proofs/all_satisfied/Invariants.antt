@@ -2,7 +2,7 @@
 use Prim.Native.Nat.{◌≤◌, ◌-◌}
 use mathlib.Core.Bool.{true}
 use mathlib.Core.Path.{◌≡◌}
-use Rattle.splitting.specs.InnerChoose.{satisfied_under}
+use Rattle.formula.specs.InnerAssignment.{satisfied_under}
 use Rattle.formula.specs.InnerCheck.{all_first}
 use Rattle.splitting.proofs.all_satisfied.Given as goal
 

@@ -6,7 +6,8 @@ use mathlib.Core.Path.{◌≡◌, ap, ap₂, ◌∙◌}
 use borrow.Author.Rules.{rules}
 use Rattle.formula.specs.declared.Formula.{Formula}
 use Rattle.splitting.specs.Choosing.{by_count}
-use Rattle.splitting.specs.InnerChoose.{node, unassigned, formula_at, formula_in, Small, survey_of, reduce_from, passing, busiest_first, count_at, max_count, listed_last}
+use Rattle.formula.specs.InnerAssignment.{unassigned}
+use Rattle.splitting.specs.InnerChoose.{node, formula_at, formula_in, Small, survey_of, reduce_from, passing, busiest_first, count_at, max_count, listed_last}
 use Rattle.splitting.proofs.MaskTrialLaws.{counted-first}
 use Rattle.splitting.proofs.NodeMatchingLaws.{small_at}
 use Rattle.splitting.proofs.ReduceLaws.{reduce_last}

@@ -9,7 +9,8 @@ use Rattle.masks.specs.InnerMask.{without}
 use Rattle.masks.proofs.BitLaws.{minus_lt, bit_below}
 use Rattle.formula.specs.declared.Formula.{Formula}
 use Rattle.splitting.specs.Choosing.{by_count}
-use Rattle.splitting.specs.InnerChoose.{passing, unassigned, formula_in, count_at, max_count}
+use Rattle.formula.specs.InnerAssignment.{unassigned}
+use Rattle.splitting.specs.InnerChoose.{passing, formula_in, count_at, max_count}
 use Rattle.splitting.proofs.MaskTrialLaws.{Lists, lists_first, lists_none, lists_counted, counted_few, without_fewer, passing_found, passing_more, passing-none, trial_cost}
 use Rattle.splitting.proofs.first_passing.Goals.{After-busiest-v, After-try_variable-t, At-loop-rest, Start}
 use Rattle.splitting.proofs.first_passing.Goals as goal

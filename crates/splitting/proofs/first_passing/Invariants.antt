@@ -6,7 +6,8 @@ use mathlib.Core.Path.{◌≡◌}
 use lib.ListN.{length}
 use Rattle.masks.specs.Mask.{size}
 use Rattle.splitting.specs.Choosing.{by_count}
-use Rattle.splitting.specs.InnerChoose.{passing, unassigned, formula_in, count_at, max_count}
+use Rattle.formula.specs.InnerAssignment.{unassigned}
+use Rattle.splitting.specs.InnerChoose.{passing, formula_in, count_at, max_count}
 use Rattle.splitting.proofs.MaskTrialLaws.{Lists}
 use Rattle.splitting.proofs.first_passing.Given as goal
 

@@ -4,7 +4,8 @@ use Prim.Native.Nat.{◌-◌, ◌≤◌}
 use mathlib.Core.Path.{◌≡◌}
 use lib.ListN.{length}
 use Rattle.limits.specs.Limits.{max_clauses}
-use Rattle.splitting.specs.InnerChoose.{node, unassigned, clauses_in, formula_in, reduce_from}
+use Rattle.formula.specs.InnerAssignment.{unassigned}
+use Rattle.splitting.specs.InnerChoose.{node, clauses_in, formula_in, reduce_from}
 use Rattle.splitting.proofs.reduce.Given as goal
 
 abbrev pub invariant-loop-k : goal.invariant-loop-k

@@ -2,7 +2,8 @@
 use native.Mathlib.Omega.{arith}
 use mathlib.Core.Path.{ap, ◌∙◌}
 use borrow.Author.Tests.{not-true, not-false}
-use Rattle.splitting.specs.InnerChoose.{unassigned, formula_in, matching_at}
+use Rattle.formula.specs.InnerAssignment.{unassigned}
+use Rattle.splitting.specs.InnerChoose.{formula_in, matching_at}
 use Rattle.splitting.proofs.NodeMatchingLaws.{match_cost}
 use Rattle.splitting.proofs.MaskTrialLaws.{tried_false, tried_true}
 use Rattle.splitting.proofs.try_variable.Goals as goal
