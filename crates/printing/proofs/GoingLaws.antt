@@ -14,25 +14,26 @@ use Rattle.enumeration.specs.declared.steps.Run.{Run}
 use Rattle.enumeration.specs.declared.state.State.{State}
 use Rattle.enumeration.specs.InnerState.{position_at, position_in, Holds, Ran, ending_as}
 use Rattle.enumeration.specs.InnerRead.{Node}
-use Rattle.writing.specs.Placed.{Room, Wrote}
+use Rattle.writing.specs.declared.Writer.{Writer}
+use Rattle.writing.specs.Placed.{RoomIn, Puts}
 use Rattle.printing.specs.Printed.{model_line, end_line, more_line, call_lines, max_models}
 use Rattle.printing.specs.InnerLines.{lines_from}
-use Rattle.writing.proofs.PlacedLaws.{placed_none, wrote_more}
+use Rattle.writing.proofs.PlacedLaws.{puts_none, puts_more}
 
 -- the lines so far are written, and the others go on from s, with room for `left` models more
-pub record Going (K : Tree) (n mask at : ℕ) (before now : List ℕ) (s : State) (next left : ℕ) : Type 0 where
+pub record Going (K : Tree) (n mask : ℕ) (before now : Writer) (s : State) (left : ℕ) : Type 0 where
   pub holds : Holds K s
   pub written : List ℕ
-  pub wrote : Wrote written at before now next
+  pub puts : Puts written before now
   pub same : lines_from K n mask max_models (down empty) ≡ written ++ lines_from K n mask left (position_in s)
 
 -- nothing is written yet
-pub going_first : (K : Tree) (n mask at : ℕ) (before : List ℕ) (s : State) → Node K empty s → Going K n mask at before before s at max_models
-going_first K n mask at before s h =
+pub going_first : (K : Tree) (n mask : ℕ) (w : Writer) (s : State) → Node K empty s → RoomIn [] w → Going K n mask w w s max_models
+going_first K n mask w s h r =
     record {
       holds = h.holds;
       written = [];
-      wrote = record { buffer = placed_none at before; next = omega arith };
+      puts = puts_none w r;
       same = ap (lines_from K n mask max_models) (sym (ap₂ position_at h.place h.stack));
     }
 
@@ -81,33 +82,34 @@ lines_more K n mask left p e = rw e
 
 -- ---- turns
 
-module _ (K : Tree) (n mask at : ℕ) (before now : List ℕ) (s : State) (next left : ℕ) (g : Going K n mask at before now s next left) where
+module _ {K : Tree} {n mask : ℕ} {before now : Writer} {s : State} {left : ℕ} (g : Going K n mask before now s left) where
   -- there is room for the line that comes
-  pub going_room : (x rest : List ℕ) → lines_from K n mask left (position_in s) ≡ x ++ rest → length now ≡ length before
-      → Room at (lines_from K n mask max_models (down empty)) before → Room next x now
-  going_room x rest e l h =
+  pub going_room : (x rest : List ℕ) → lines_from K n mask left (position_in s) ≡ x ++ rest → RoomIn (lines_from K n mask max_models (down empty)) before → RoomIn x now
+  going_room x rest e h =
       let a = ap length g.same ∙ length-append g.written _ in
       let b = ap length e ∙ length-append x rest in
-      let c = g.wrote.next in
+      let p = g.puts in
       omega arith
 
+  -- and for the last one
+  pub going_room_last : (x : List ℕ) → lines_from K n mask left (position_in s) ≡ x → RoomIn (lines_from K n mask max_models (down empty)) before → RoomIn x now
+  going_room_last x e h = going_room x [] (e ∙ sym (append-nil x)) h
+
   -- a line more
-  pub going_more : (x now' : List ℕ) (t : State) (next' left' : ℕ) → at ≤ length before → Holds K t
-      → lines_from K n mask left (position_in s) ≡ x ++ lines_from K n mask left' (position_in t) → Wrote x next now now' next'
-      → Going K n mask at before now' t next' left'
-  going_more x now' t next' left' h k e w =
+  pub going_more : (x : List ℕ) (now' : Writer) (t : State) (left' : ℕ) → Holds K t
+      → lines_from K n mask left (position_in s) ≡ x ++ lines_from K n mask left' (position_in t) → Puts x now now' → Going K n mask before now' t left'
+  going_more x now' t left' k e p =
       record {
         holds = k;
         written = g.written ++ x;
-        wrote = wrote_more h g.wrote w;
+        puts = puts_more g.puts p;
         same = g.same ∙ ap (λ (l : List ℕ). g.written ++ l) e ∙ sym (append_assoc g.written x _);
       }
 
   -- the last line
-  pub going_last : (x now' : List ℕ) (next' : ℕ) → at ≤ length before → lines_from K n mask left (position_in s) ≡ x → Wrote x next now now' next'
-      → Wrote (lines_from K n mask max_models (down empty)) at before now' next'
-  going_last x now' next' h e w = rw (g.same, e) (wrote_more h g.wrote w)
+  pub going_last : (x : List ℕ) (now' : Writer) → lines_from K n mask left (position_in s) ≡ x → Puts x now now' → Puts (lines_from K n mask max_models (down empty)) before now'
+  going_last x now' e p = rw (g.same, e) (puts_more g.puts p)
 
   -- no line more
-  pub going_stop : lines_from K n mask left (position_in s) ≡ [] → Wrote (lines_from K n mask max_models (down empty)) at before now next
-  going_stop e = rw (g.same, e, append-nil g.written) g.wrote
+  pub going_stop : lines_from K n mask left (position_in s) ≡ [] → Puts (lines_from K n mask max_models (down empty)) before now
+  going_stop e = rw (g.same, e, append-nil g.written) g.puts

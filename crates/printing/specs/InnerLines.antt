@@ -9,7 +9,8 @@ use Rattle.formula.specs.InnerFits.{FormulaFits}
 use Rattle.matched.specs.InnerAccept.{Takes}
 use Rattle.enumeration.specs.declared.scope.Scope.{Scope}
 use Rattle.enumeration.specs.InnerState.{Follows}
-use Rattle.writing.specs.Placed.{Room}
+use Rattle.writing.specs.declared.Writer.{Writer}
+use Rattle.writing.specs.Placed.{RoomIn}
 use Rattle.printing.specs.Printed.{model_line, end_line, more_line, call_lines, max_models, printed}
 
 module _ (K : Tree) (n mask : ℕ) where
@@ -20,19 +21,19 @@ module _ (K : Tree) (n mask : ℕ) where
       let r = resume K ample_budget p in
       call_lines n mask r.answer r.steps r.expansions (lines_from j r.position)
 
--- a formula within the limits, whose choices over a scope make a tree; and b has room for its lines from `at` on, of which the mask has the
+-- a formula within the limits, whose choices over a scope make a tree; and the writer has room for its lines, of which the mask has the
 -- variables that are shown
-pub record Fitting (f : Formula) (z : Scope) (mask at : ℕ) (b : List ℕ) : Type 0 where
+pub record Fitting (f : Formula) (z : Scope) (mask : ℕ) (w : Writer) : Type 0 where
   pub fits : FormulaFits f
   pub tree : Tree
   pub follows : Follows f z tree
-  pub room : Room at (lines_from tree f.variables mask max_models (down empty)) b
+  pub room : RoomIn (lines_from tree f.variables mask max_models (down empty)) w
 
--- an accepted input has this formula, and b has room for its print
-pub record Printable (f : Formula) (b : List ℕ) : Type 0 where
+-- an accepted input has this formula, and the writer has room for its print
+pub record Printable (f : Formula) (w : Writer) : Type 0 where
   pub input : List ℕ
   pub takes : Takes input [] f
-  pub room : Room 0 (printed input) b
+  pub room : RoomIn (printed input) w
 
 -- the line of a result, and then the rest
 abbrev pub kind_lines : ℕ → ℕ → AnswerKind → Result → List ℕ → List ℕ

@@ -9,7 +9,8 @@ use lib.Seq.{length-take-le, take-suc, set_split, take_at, drop-append-add, drop
 use Rattle.lists.specs.Over.{over}
 use Rattle.lists.specs.Tabulated.{tabulated}
 use Rattle.lists.proofs.TabulatedLaws.{length_tabulated, tabulated_more}
-use Rattle.writing.specs.Placed.{placed, Room, Wrote}
+use Rattle.writing.specs.declared.Writer.{Writer}
+use Rattle.writing.specs.Placed.{placed, Room, Wrote, RoomIn, Puts}
 
 module _ {A : Type 0} where
   -- the length stays
@@ -123,3 +124,25 @@ room_behind at xs ys ws b c p e h w =
     let n = w.next in
     let k = wrote_length (room_front at xs ys ws b e h) w in
     omega arith
+
+-- ---- what a writer's methods did
+
+-- nothing yet
+pub puts_none : (w : Writer) → RoomIn [] w → Puts [] w w
+puts_none w h = record { same = refl; wrote = record { buffer = placed_none w.at w.buffer.now; next = omega arith }; shape = refl; room = h }
+
+-- one method behind the other
+pub puts_more : {xs ys : List ℕ} {u v w : Writer} → Puts xs u v → Puts ys v w → Puts (xs ++ ys) u w
+puts_more {xs} {ys} p q =
+    let l = length-append xs ys in
+    let s = p.shape in
+    let t = q.shape in
+    let n = p.wrote.next in
+    let a = p.room in
+    let b = q.room in
+    record {
+      same = q.same ∙ p.same;
+      wrote = wrote_more (omega arith) p.wrote q.wrote;
+      shape = q.shape ∙ p.shape;
+      room = omega arith;
+    }

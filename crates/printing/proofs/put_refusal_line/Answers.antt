@@ -1,10 +1,6 @@
--- `printing::put_refusal_line` meets its contract: the line of the refusal's number and place.
+-- `put_refusal_line` meets its contract: the word, and the refusal's number and place.
+use Rattle.writing.proofs.PlacedLaws.{puts_more}
 use Rattle.printing.proofs.put_refusal_line.Goals as goal
 
-pub put_refused_line-requires : goal.put_refused_line-requires
-put_refused_line-requires c =
-    rw (c.number_of-number.ensures, c.place_of-place.ensures) c.requires
-
 pub returns : goal.returns
-returns c =
-    rw (← c.number_of-number.ensures, ← c.place_of-place.ensures) c.put_refused_line.ensures
+returns c = rw (← c.number_of.ensures, ← c.place_of.ensures) (puts_more c.put_word.ensures c.put_numbers.ensures)

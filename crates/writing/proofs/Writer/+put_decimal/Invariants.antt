@@ -1,0 +1,5 @@
+-- `Writer::put_decimal` meets its contract. Its measure is the number.
+use Rattle.writing.proofs.Writer.+put_decimal.Given as goal
+
+abbrev pub decreases-put_decimal : goal.decreases-put_decimal
+decreases-put_decimal l = l.x
