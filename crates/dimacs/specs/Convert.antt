@@ -1,5 +1,5 @@
 -- S15, S16: the two acts: the answer of each, and the lent buffer as it is left. What they read is only lent to be read.
-use Rattle.std.specs.Prelude.{ℕ, cond, List, ltb, length}
+use Rattle.std.specs.Prelude.{ℕ, cond, List, Result, Ok, Err, ltb, length}
 use Rattle.lists.specs.Over.{over}
 use Rattle.formula.specs.declared.Refusal.{Refusal}
 use Rattle.formula.specs.declared.Refusal.TheVariants.{ShortBuffer}
@@ -7,8 +7,6 @@ use Rattle.formula.specs.Refusals.{table_row}
 use Rattle.formula.specs.Format.{formula_bytes, max_bytes}
 use Rattle.formula.specs.Decoding.{Decoding, readable, refused}
 use Rattle.formula.specs.InnerDecode.{decode}
-use Rattle.dimacs.specs.declared.answers.Converted.{Converted}
-use Rattle.dimacs.specs.declared.answers.Converted.TheVariants.{Written, Refused}
 use Rattle.dimacs.specs.Text.{read_text}
 use Rattle.dimacs.specs.Written.{text_of, text_room}
 
@@ -18,9 +16,9 @@ pub record ConvertedValues : Type 0 where
   pub place : ℕ
   pub count : ℕ
 
-abbrev pub converted_values : Converted → ConvertedValues
-converted_values (Written k) = record { number = 0; place = 0; count = k }
-converted_values (Refused r) = record { number = (table_row r).number; place = (table_row r).place; count = 0 }
+abbrev pub converted_values : Result ℕ Refusal → ConvertedValues
+converted_values (Ok k) = record { number = 0; place = 0; count = k }
+converted_values (Err r) = record { number = (table_row r).number; place = (table_row r).place; count = 0 }
 
 -- an act's answer, and the buffer as it is left
 pub record Conversion : Type 0 where
@@ -29,11 +27,11 @@ pub record Conversion : Type 0 where
 
 -- xs over the first bytes of the buffer, and how many these are
 abbrev pub converted : List ℕ → List ℕ → Conversion
-converted xs b = record { answer = converted_values (Written (length xs)); buffer = over xs b }
+converted xs b = record { answer = converted_values (Ok (length xs)); buffer = over xs b }
 
 -- a refusal leaves the buffer as it was
 abbrev pub declined : Refusal → List ℕ → Conversion
-declined r b = record { answer = converted_values (Refused r); buffer = b }
+declined r b = record { answer = converted_values (Err r); buffer = b }
 
 -- S15: the formula of a text, without repeats
 abbrev pub encoding_of : List ℕ → Decoding → Conversion

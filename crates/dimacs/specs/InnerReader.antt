@@ -1,12 +1,11 @@
 -- What reading keeps, word by word; proofs/KeepLaws.antt ties it to Text.
-use Rattle.std.specs.Prelude.{ℕ, ◌+◌, ◌*◌, cond, List, [], ◌≡◌, ltb, length, take, drop}
+use Rattle.std.specs.Prelude.{ℕ, ◌+◌, ◌*◌, cond, List, Result, Ok, Err, [], ◌≡◌, ltb, length, take, drop}
 use Rattle.limits.specs.Limits.{max_clauses}
+use Rattle.formula.specs.declared.Refusal.{Refusal}
 use Rattle.formula.specs.Format.{formula_bytes, ClauseOver, Sized, max_clause_bytes}
 use Rattle.formula.specs.Table.{inside, written}
 use Rattle.formula.specs.Decoding.{Decoding, readable, refused}
 use Rattle.formula.specs.InnerMasked.{clause_of}
-use Rattle.dimacs.specs.declared.answers.Converted.{Converted}
-use Rattle.dimacs.specs.declared.answers.Converted.TheVariants.{Written, Refused}
 use Rattle.dimacs.specs.declared.reader.Reader.{Reader}
 use Rattle.dimacs.specs.declared.reader.Event.{Event}
 use Rattle.dimacs.specs.declared.reader.Event.TheVariants.{Next, Stopped}
@@ -50,9 +49,9 @@ Stepped n b (stop x) (Next r) = ⊥
 Stepped n b (stop x) (Stopped y) = y ≡ x
 
 -- what reading gives: all bytes of the formula are kept, or it is refused
-abbrev pub Reads : Decoding → Converted → List ℕ → Type 0
-Reads (readable n cs) r b = (r ≡ Written (length (formula_bytes n cs))) × Starts (formula_bytes n cs) b × Sized n cs
-Reads (refused x) r b = r ≡ Refused x
+abbrev pub Reads : Decoding → Result ℕ Refusal → List ℕ → Type 0
+Reads (readable n cs) r b = (r ≡ Ok (length (formula_bytes n cs))) × Starts (formula_bytes n cs) b × Sized n cs
+Reads (refused x) r b = r ≡ Err x
 
 -- the words of the line that starts at an offset, of which a comment has none
 abbrev pub line_at : List ℕ → ℕ → List ℕ

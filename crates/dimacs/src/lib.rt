@@ -1,12 +1,10 @@
 // DIMACS CNF text: read into an encoded formula, and written from one (S15, S16).
 #![tactic(auto)]
 
-mod answers;
 mod opening;
 mod reader;
 mod scan;
 mod writer;
 
-pub use answers::Converted;
 pub use reader::read;
 pub use writer::write;

@@ -11,7 +11,6 @@ ghost use Rattle.dimacs.specs.Convert.{converted_values, to_encoded};
 ghost use Rattle.dimacs.specs.InnerScan.{until, words_at, numbers_of};
 ghost use Rattle.dimacs.specs.InnerReader.{kept_room, Keeps, Ready, Stepped, Reads, other_words, words_behind, lines_behind};
 
-use crate::answers::Converted;
 use crate::opening::{Numbers, Opening};
 use crate::scan::Token;
 use crate::{opening, scan};
@@ -169,18 +168,18 @@ fn take_lines(text: &[u8], end: usize, r: Reader, kept: &mut [u8]) -> Event
 }
 
 // Behind the last word of a text of `len` bytes: no clause is open, and there are as many as the p line says.
-fn close(r: Reader, len: usize, p: Numbers, kept: &mut [u8]) -> Converted
+fn close(r: Reader, len: usize, p: Numbers, kept: &mut [u8]) -> Result<usize, Refusal>
     requires { Ready r kept.old }
     ensures { (s : Progress) (c d : Piece) → Keeps r.variables s r kept.old → p ≡ numbers_of c d → Reads (closing len r.variables d (next s)) result kept.new }
 {
     let current = r.current;
     if (current.positive | current.negative) != 0 {
-        return Converted::Refused(Refusal::Truncated(len));
+        return Err(Refusal::Truncated(len));
     }
     if r.count != p.clauses {
-        return Converted::Refused(Refusal::ClauseCountDiffers(p.fourth));
+        return Err(Refusal::ClauseCountDiffers(p.fourth));
     }
-    Converted::Written(writing::put_byte(5, kept, r.length))
+    Ok(writing::put_byte(5, kept, r.length))
 }
 
 // The reader behind the p line.
@@ -199,25 +198,25 @@ fn begin(n: usize, kept: &mut [u8]) -> Reader
 }
 
 // What follows the p line, which ends at `end`.
-fn read_clauses(text: &[u8], end: usize, p: Numbers, kept: &mut [u8]) -> Converted
+fn read_clauses(text: &[u8], end: usize, p: Numbers, kept: &mut [u8]) -> Result<usize, Refusal>
     requires { (end ≤ length text.now) × (length kept.old ≡ kept_room) }
     ensures { (l c d : Piece) → p ≡ numbers_of c d → Reads (by_opening (length text.now) l (others (lines_behind text.now end)) (p_line c d)) result kept.new }
 {
     if p.variables == 0 {
-        return Converted::Refused(Refusal::BadVariableCount(p.third));
+        return Err(Refusal::BadVariableCount(p.third));
     }
     if MAX_VARIABLES < p.variables {
-        return Converted::Refused(Refusal::BadVariableCount(p.third));
+        return Err(Refusal::BadVariableCount(p.third));
     }
     let r = begin(p.variables, kept);
     match take_lines(text, end, r, kept) {
         Event::Next(last) => close(last, text.len(), p, kept),
-        Event::Stopped(refusal) => Converted::Refused(refusal),
+        Event::Stopped(refusal) => Err(refusal),
     }
 }
 
 // The whole text, into the kept bytes.
-fn read_text(text: &[u8], kept: &mut [u8]) -> Converted
+fn read_text(text: &[u8], kept: &mut [u8]) -> Result<usize, Refusal>
     requires { length kept.old ≡ kept_room }
     ensures { Reads (read_text text.now) result kept.new }
 {
@@ -225,20 +224,20 @@ fn read_text(text: &[u8], kept: &mut [u8]) -> Converted
     let end = scan::line_end(text, first);
     match opening::read_opening(&text[first..end], first) {
         Opening::PLine(p) => read_clauses(text, end, p, kept),
-        Opening::Other => Converted::Refused(Refusal::BadOpening(first)),
+        Opening::Other => Err(Refusal::BadOpening(first)),
     }
 }
 
 // S15: the act read: the formula of a text, encoded without repeats into the first bytes of the buffer.
-pub fn read(text: &[u8], buffer: &mut [u8]) -> Converted
+pub fn read(text: &[u8], buffer: &mut [u8]) -> Result<usize, Refusal>
     ensures { to_encoded text.now buffer.old ≡ record { answer = converted_values result; buffer = buffer.new } }
 {
     if buffer.len() < MAX_BYTES {
-        return Converted::Refused(Refusal::ShortBuffer(0));
+        return Err(Refusal::ShortBuffer(0));
     }
     let mut kept = [0u8; KEPT_ROOM];
     match read_text(text, &mut kept) {
-        Converted::Written(n) => Converted::Written(writing::put_word(&kept[..n], buffer, 0)),
-        Converted::Refused(refusal) => Converted::Refused(refusal),
+        Ok(n) => Ok(writing::put_word(&kept[..n], buffer, 0)),
+        Err(refusal) => Err(refusal),
     }
 }

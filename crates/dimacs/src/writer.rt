@@ -10,7 +10,6 @@ ghost use Rattle.dimacs.specs.Written.{opening_line, text_of};
 ghost use Rattle.dimacs.specs.Convert.{converted_values, to_text};
 ghost use Rattle.dimacs.specs.InnerWriter.{sign_bytes, literal_text, literal_once, ClauseAt, ClausesAt, AfterClause, Lined, Readable};
 
-use crate::answers::Converted;
 use formula::{Outcome, Refusal};
 use limits::{MAX_CLAUSES, MAX_VARIABLES};
 
@@ -125,17 +124,17 @@ fn put_text(input: &[u8], n: usize, m: usize, buffer: &mut [u8]) -> usize
 }
 
 // S16: the act write: the text of an input's formula into the first bytes of the buffer.
-pub fn write(input: &[u8], buffer: &mut [u8]) -> Converted
+pub fn write(input: &[u8], buffer: &mut [u8]) -> Result<usize, Refusal>
     ensures { to_text input.now buffer.old ≡ record { answer = converted_values result; buffer = buffer.new } }
 {
     if buffer.len() < TEXT_ROOM {
-        return Converted::Refused(Refusal::ShortBuffer(0));
+        return Err(Refusal::ShortBuffer(0));
     }
     let d = formula::decode(input);
     let outcome = d.outcome;
     let f = d.formula;
     match outcome {
-        Outcome::Refused(refusal) => Converted::Refused(refusal),
-        Outcome::Accepted => Converted::Written(put_text(input, f.variables, f.count, buffer)),
+        Outcome::Refused(refusal) => Err(refusal),
+        Outcome::Accepted => Ok(put_text(input, f.variables, f.count, buffer)),
     }
 }
