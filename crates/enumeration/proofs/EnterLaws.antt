@@ -5,17 +5,19 @@ use mathlib.Core.List.{List}
 use mathlib.Core.Path.{◌≡◌, sym, ap, ap₂, ◌∙◌, subst}
 use native.Mathlib.Omega.{arith}
 use lib.ListN.{length}
+use Rattle.std.specs.Prelude.{Ok, Err}
 use Rattle.limits.specs.Limits.{max_variables, max_clauses}
+use Rattle.formula.specs.declared.assignment.Assignment.{Assignment}
 use Rattle.formula.specs.declared.Formula.{Formula}
-use Rattle.formula.specs.declared.Outcome.{Outcome}
 use Rattle.formula.specs.declared.Refusal.TheVariants.{ForeignCheckpoint}
 use Rattle.formula.specs.InnerMasked.{formula_of}
 use Rattle.assumptions.specs.declared.Assumption.{Assumption}
-use Rattle.assumptions.specs.declared.Assumptions.{Assumptions}
-use Rattle.assumptions.specs.InnerAssumed.{MasksOf}
-use Rattle.matched.specs.Acceptance.{accepted}
-use Rattle.matched.specs.InnerAccept.{assigned_by, Takes, Decides}
-use Rattle.matched.proofs.AcceptLaws.{given_assignment}
+use Rattle.splitting.specs.InnerChoose.{assignment_of}
+use Rattle.matched.specs.declared.Accepted.{Accepted}
+use Rattle.matched.specs.declared.Declined.{Declined}
+use Rattle.matched.specs.Acceptance.{accepted, acceptance}
+use Rattle.matched.specs.InnerAccept.{held_acceptance, Takes}
+use Rattle.matched.proofs.AcceptLaws.{accepted_takes, accepted_assigned, declined_by}
 use Rattle.walk.specs.Task.{Task, under, visible}
 use Rattle.walk.specs.Checkpoints.{Checkpoint}
 use Rattle.walk.specs.InnerStack.{Tree, tree}
@@ -24,11 +26,11 @@ use Rattle.walk.specs.WalkCall.{walk_call}
 use Rattle.walk.specs.Results.{refusing}
 use Rattle.walk.proofs.TaskLaws.{call_tested}
 use Rattle.walk.proofs.RefusalLaws.{call_declined, call_accepted, accepted_posed}
-use Rattle.enumeration.specs.declared.entering.Entered.{Entered}
 use Rattle.enumeration.specs.declared.scope.Scope.{Scope}
+use Rattle.enumeration.specs.declared.state.State.{State}
 use Rattle.enumeration.specs.InnerScope.{scope_under, visible_in, task_scope}
 use Rattle.enumeration.specs.InnerState.{position_in, Follows, Holds}
-use Rattle.enumeration.specs.InnerEnter.{WalkedAs, Walkable, Begun}
+use Rattle.enumeration.specs.InnerEnter.{WalkedAs, Begun}
 use Rattle.enumeration.proofs.FollowsLaws.{follows}
 use Rattle.enumeration.proofs.ScopeLaws.{under_task, visible_task}
 use Rattle.enumeration.proofs.ListLaws.{brought_resumed, brought_from}
@@ -48,9 +50,9 @@ module _ (s : List ℕ) (us : List Assumption) (f : Formula) (z : Scope) (w : Wa
 
   module _ (c : Checkpoint) (whole_bytes : length c.bytes ≡ max_variables) where
     -- the checkpoint passes the test
-    pub entered_begun : (r : Entered) → accepts (tree w.task) c ≡ true → Holds (tree w.task) r.state
-        → position_in r.state ≡ position_of (tree w.task).size c.mode (read c) → Begun s us f z c r
-    entered_begun r a h p = record {
+    pub entered_begun : (q : State) → accepts (tree w.task) c ≡ true → Holds (tree w.task) q
+        → position_in q ≡ position_of (tree w.task).size c.mode (read c) → Begun s us f z c q
+    entered_begun q a h p = record {
       tree = tree T;
       fits = w.fits;
       accepted = w.accepted;
@@ -73,42 +75,42 @@ module _ (s : List ℕ) (us : List Assumption) (f : Formula) (z : Scope) (w : Wa
 abbrev pub tree_of : (s : List ℕ) (us : List Assumption) (f : Formula) → Takes s us f → Tree
 tree_of s us f w = tree (under w.variables w.trail w.clauses)
 
-module _ (s : List ℕ) (us : List Assumption) (u : Assumptions) (given : MasksOf s us u) (f : Formula) (z : Scope) (e : z ≡ scope_under f (assigned_by u)) where
+module _ (s : List ℕ) (us : List Assumption) (f : Formula) (w : Takes s us f) (a : Assignment) (e : a ≡ assignment_of w.trail) where
   -- its scope is its task's
-  takes_scope : (w : Takes s us f) → z ≡ task_scope (under w.variables w.trail w.clauses)
-  takes_scope w =
-      e
-      ∙ ap₂ scope_under w.formula (given_assignment s us u given w.variables w.clauses w.reads w.trail w.assumes)
-      ∙ under_task w.variables w.clauses w.trail
+  takes_scope : scope_under f a ≡ task_scope (under w.variables w.trail w.clauses)
+  takes_scope = ap₂ scope_under w.formula e ∙ under_task w.variables w.clauses w.trail
 
   -- and shows what its task does
-  pub takes_visible : (w : Takes s us f) → visible_in z ≡ visible (under w.variables w.trail w.clauses)
-  takes_visible w = ap visible_in (takes_scope w) ∙ visible_task (under w.variables w.trail w.clauses)
+  pub takes_visible : visible_in (scope_under f a) ≡ visible (under w.variables w.trail w.clauses)
+  takes_visible = ap visible_in takes_scope ∙ visible_task (under w.variables w.trail w.clauses)
 
-  abbrev takes_walked : Takes s us f → WalkedAs s us f z
-  takes_walked w = record {
+  pub takes_walked : WalkedAs s us f (scope_under f a)
+  takes_walked = record {
     task = under w.variables w.trail w.clauses;
     posed = accepted_posed s us w.variables w.trail w.clauses w.row w.accepts;
     formula = w.formula;
-    scope = takes_scope w;
+    scope = takes_scope;
     fits = w.fits;
     accepted = record {
       trail = w.trail;
       clauses = w.clauses;
       row = w.row;
       accepts = w.accepts ∙ ap (λ (g : Formula). accepted g.variables w.trail w.clauses w.row) (sym w.formula);
-      shows = takes_visible w;
+      shows = takes_visible;
     };
     calls = call_accepted s us w.variables w.trail w.clauses w.row w.accepts;
   }
 
   -- and the code's choices make its tree
-  pub tree_follows : (w : Takes s us f) → Follows f z (tree_of s us f w)
-  tree_follows w = walked_follows s us f z (takes_walked w)
+  pub tree_follows : Follows f (scope_under f a) (tree_of s us f w)
+  tree_follows = walked_follows s us f (scope_under f a) takes_walked
 
-  -- so what comes of an input is what its walk asks
-  pub decides_walkable : (o : Outcome) → Decides s us o f → Walkable s us o f z
-  decides_walkable o d = record {
-    walked = λ q. takes_walked (d.takes q);
-    declined = λ r q c b. let x = d.declines r q in call_declined s us r x.0 c b x.1;
-  }
+-- so what comes of an input is what its walk asks: it is walked as a task, or every call is refused
+module _ (s : List ℕ) (us : List Assumption) where
+  pub accepted_walked : (a : Accepted) → held_acceptance (acceptance s us) ≡ Ok a → WalkedAs s us a.formula (scope_under a.formula a.assignment)
+  accepted_walked a e =
+      let w = accepted_takes s us a e in
+      takes_walked s us a.formula w a.assignment (accepted_assigned s us a e w)
+
+  pub declined_calls : (d : Declined) → held_acceptance (acceptance s us) ≡ Err d → (c : Checkpoint) (b : ℕ) → walk_call s us c b ≡ refusing d.refusal c
+  declined_calls d e c b = let x = declined_by s us d e in call_declined s us d.refusal x.0 c b x.1

@@ -12,10 +12,11 @@ use Rattle.masks.specs.Mask.{bit, with}
 use Rattle.masks.proofs.BitLaws.{bit-none, bit-with, bit_below}
 use Rattle.masks.proofs.MembersLaws.{mask_same}
 use Rattle.masks.proofs.SizeLaws.{size_le}
+use Rattle.formula.specs.declared.assignment.Assignment.{Assignment}
 use Rattle.formula.specs.Format.{Literal}
+use Rattle.formula.specs.InnerAssignment.{assigned, set_to}
 use Rattle.formula.specs.InnerMasked.{formula_of}
-use Rattle.splitting.specs.declared.Assignment.{Assignment}
-use Rattle.splitting.specs.InnerChoose.{assigned, set_to, assign_all, assignment_of, mask_choice}
+use Rattle.splitting.specs.InnerChoose.{assign_all, assignment_of, mask_choice}
 use Rattle.splitting.proofs.Theorems.{formula_below}
 use Rattle.splitting.proofs.MaskNodeLaws.{assigned_trail, assign_all-append}
 use Rattle.splitting.proofs.MaskChoiceLaws.{chosen_choice}

@@ -3,7 +3,6 @@ use Prim.Native.Nat.{ℕ, zero, suc, ◌+◌, ◌-◌, ◌≤◌, ◌<◌}
 use mathlib.Core.Bool.{Bool, true, false, not, ◌&&◌, and-false}
 use mathlib.Core.List.{List, [], ◌∷◌}
 use mathlib.Core.Path.{◌≡◌, refl, sym, ap, ◌∙◌}
-use native.Mathlib.Decide.{dec_lt}
 use native.Mathlib.Omega.{arith}
 use lib.Dec.{eqb, leb}
 use lib.ListN.{length, take, drop, get_or, length-drop}
@@ -77,14 +76,6 @@ module _ (l : List ℕ) (end : ℕ) (h : length l ≡ max_variables) (k : end �
       let b = length-drop end l in
       let q : end + (i - end) ≡ i = omega arith in
       zeros_none (drop end l) (i - end) (omega arith) (λ z. e (ap (λ (j : ℕ). get_or l j 0) (sym q) ∙ sym (get_or-drop end l (i - end) 0) ∙ z))
-
--- one zero more
-pub zeros_next : (l : List ℕ) (end i : ℕ) → ((k : ℕ) → end ≤ k → k < i → get_or l k 0 ≡ 0) → get_or l i 0 ≡ 0 → (k : ℕ) → end ≤ k → k < i + 1 → get_or l k 0 ≡ 0
-zeros_next l end i w e k m n = at (dec_lt k i)
-  where
-    at : Dec (k < i) → get_or l k 0 ≡ 0
-    at (yes h) = w k m h
-    at (no h) = let q : k ≡ i = omega arith in ap (λ (j : ℕ). get_or l j 0) q ∙ e
 
 -- ---- the trail of some bytes
 

@@ -1,20 +1,23 @@
 -- The place of a checkpoint's mode at the node of its trail.
-use Prim.Native.Nat.{ℕ, zero, suc}
-use mathlib.Core.Bool.{Bool, true, false, not, ◌&&◌, ◌||◌, true≢false, false≢true, and-true, and-false}
+use Prim.Native.Nat.{ℕ, zero, suc, ◌-◌, ◌≤◌}
+use mathlib.Core.Bool.{Bool, true, false, not, ◌&&◌, ◌||◌, false≢true, and-true, and-false}
+use mathlib.Core.Logic.{◌⊎◌, inl, inr}
 use mathlib.Core.Path.{◌≡◌, refl, sym, ap, ◌∙◌, subst}
 use native.Mathlib.Omega.{arith}
 use lib.Dec.{eqb, ltb}
 use borrow.Author.Tests.{eq-eqb, ne_eqb, eqb-true, lt-ltb, le-ltb}
+use Rattle.std.specs.Prelude.{Option, Some, None}
 use Rattle.formula.specs.declared.Formula.{Formula}
 use Rattle.splitting.specs.declared.Choice.{Choice}
 use Rattle.walk.specs.Checkpoints.{undone_mode}
 use Rattle.walk.specs.Checkpoints as walk
 use Rattle.walk.specs.InnerStack.{Stack, empty, push, depth, Tree}
-use Rattle.walk.specs.InnerTest.{is_empty, replays, fits, formed, read, accepts}
+use Rattle.walk.specs.InnerTest.{is_empty, replays, fits, position_of, formed, read, accepts}
 use Rattle.enumeration.specs.declared.scope.Scope.{Scope}
+use Rattle.enumeration.specs.declared.state.Place.{Place}
+use Rattle.enumeration.specs.declared.state.Place.TheVariants.{Full, UndoneFalse, UndoneTrue, Over}
 use Rattle.enumeration.specs.declared.state.State.{State}
-use Rattle.enumeration.specs.declared.reading.Tested.{Tested}
-use Rattle.enumeration.specs.InnerState.{stack_in, position_at, Follows, Holds, marked_as, at_place}
+use Rattle.enumeration.specs.InnerState.{stack_in, position_at, position_in, Follows, Holds, marked_as, at_place}
 use Rattle.enumeration.specs.InnerRead.{Node, Replayed, PlaceTaken}
 use Rattle.enumeration.proofs.ClearLaws.{bit-marked}
 use Rattle.enumeration.proofs.StateLaws.{holds_place, opens_next}
@@ -29,16 +32,24 @@ empty_length : (t : Stack) → is_empty t ≡ true → depth t ≡ 0
 empty_length empty e = refl
 empty_length (push v b t) e = absurd (false≢true e)
 
-module _ (K : Tree) (m : ℕ) (t : Stack) where
+module _ (K : Tree) (m : ℕ) (t : Stack) (x : Bool) where
   -- no walk comes there
-  pub taken_none : (x : Bool) (r : Tested) → r.known ≡ false → x ≡ false → PlaceTaken K m t x r
-  taken_none x r e q =
-      record { known = e ∙ sym q; holds = λ y. absurd (true≢false (sym y ∙ e)); position = λ y. absurd (true≢false (sym y ∙ e)) }
+  taken_none : x ≡ false → PlaceTaken K m t x None
+  taken_none q = record { known = sym q; holds = λ u e. cc; position = λ u e. cc }
+
+  -- one comes there, to the state u
+  taken_some : (u : State) → x ≡ true → Holds K u → position_in u ≡ position_of K.size m t → PlaceTaken K m t x (Some u)
+  taken_some u q h p =
+      record {
+        known = sym q;
+        holds = λ w e. let k : u ≡ w = cc in rw (← k) h;
+        position = λ w e. let k : u ≡ w = cc in rw (← k) p;
+      }
 
 -- the state where false of the choice's variable was undone
 abbrev pub undoing : State → Choice → State
 undoing s c = record {
-  place = 2;
+  place = UndoneFalse;
   variable = c.variable;
   length = s.length;
   bytes = s.bytes;
@@ -67,45 +78,47 @@ module _ (f : Formula) (z : Scope) (K : Tree) (F : Follows f z K) (s : State) (n
       at true l = rw (h.replayed, l)
 
   -- at full length nothing was undone
-  pub taken_full : (b : Bool) → s.length ≡ z.size → PlaceTaken K (undone_mode b) (stack_in s) (fits K (undone_mode b) (stack_in s)) (record { known = false; state = s })
-  taken_full b e = taken_none K (undone_mode b) (stack_in s) _ _ refl (fits_full b e)
+  pub taken_full : (b : Bool) → s.length ≡ z.size → PlaceTaken K (undone_mode b) (stack_in s) (fits K (undone_mode b) (stack_in s)) None
+  taken_full b e = taken_none K (undone_mode b) (stack_in s) _ (fits_full b e)
 
   module _ (ne : s.length ≡ z.size → ⊥) (c : Choice) (e : c ≡ K.choose (stack_in s)) where
     below : ltb (depth (stack_in s)) K.size ≡ true
     below = lt-ltb _ _ (within f z K F s h ne)
 
+    -- mode 3: if true is open and a variable is assigned
     fits_true : fits K 3 (stack_in s) ≡ c.true_open && not (eqb s.length 0)
     unfolding fits
     fits_true = rw (h.replayed, below, is_empty_length, e)
 
+    pub taken_true_none : (s.length ≡ 0) ⊎ (c.true_open ≡ false) → PlaceTaken K 3 (stack_in s) (fits K 3 (stack_in s)) None
+    taken_true_none o = taken_none K 3 (stack_in s) _ (fits_true ∙ at o)
+      where
+        at : (s.length ≡ 0) ⊎ (c.true_open ≡ false) → c.true_open && not (eqb s.length 0) ≡ false
+        at (inl l) = rw (eq-eqb s.length 0 l) (and-false c.true_open)
+        at (inr o) = rw o
+
+    pub taken_true : (s.length ≡ 0 → ⊥) → c.true_open ≡ true → PlaceTaken K 3 (stack_in s) (fits K 3 (stack_in s)) (Some (at_place s UndoneTrue))
+    taken_true l o =
+        taken_some K 3 (stack_in s) _ (at_place s UndoneTrue) (fits_true ∙ rw (o, ne_eqb s.length 0 l))
+        (holds_place K s (stack_in s) UndoneTrue h (λ y. cc) (λ y. cc) (λ y. cc)) refl
+
+    -- mode 2: if false is open, and with nothing assigned, where that is the end, true too
     fits_false : fits K 2 (stack_in s) ≡ c.false_open && (not (eqb s.length 0) || c.true_open)
     unfolding fits
     fits_false = rw (h.replayed, below, is_empty_length, e)
 
-    -- mode 3 with nothing assigned: that is the end
-    pub taken_true_root : s.length ≡ 0 → PlaceTaken K 3 (stack_in s) (fits K 3 (stack_in s)) (record { known = false; state = s })
-    taken_true_root l = taken_none K 3 (stack_in s) _ _ refl (fits_true ∙ rw (eq-eqb s.length 0 l) (and-false c.true_open))
-
-    -- mode 3 elsewhere: if true is open
-    pub taken_true : (s.length ≡ 0 → ⊥) → (u : State) → u ≡ at_place s 3 → PlaceTaken K 3 (stack_in s) (fits K 3 (stack_in s)) (record { known = c.true_open; state = u })
-    taken_true l u q =
-        rw q
-        (record {
-          known = sym (fits_true ∙ rw (ne_eqb s.length 0 l) (and-true c.true_open));
-          holds = λ x. holds_place K s (stack_in s) 3 h (omega arith) (λ y. absurd (omega arith)) (λ y. absurd (omega arith)) (λ y. absurd (omega arith));
-          position = λ x. refl;
-        })
-
-    -- mode 2 with nothing assigned and true not open: that is the end
-    pub taken_false_root : s.length ≡ 0 → c.true_open ≡ false → PlaceTaken K 2 (stack_in s) (fits K 2 (stack_in s)) (record { known = false; state = s })
-    taken_false_root l o = taken_none K 2 (stack_in s) _ _ refl (fits_false ∙ rw (eq-eqb s.length 0 l, o) (and-false c.false_open))
+    pub taken_false_none : (c.false_open ≡ false) ⊎ ((s.length ≡ 0) × (c.true_open ≡ false)) → PlaceTaken K 2 (stack_in s) (fits K 2 (stack_in s)) None
+    taken_false_none o = taken_none K 2 (stack_in s) _ (fits_false ∙ at o)
+      where
+        at : (c.false_open ≡ false) ⊎ ((s.length ≡ 0) × (c.true_open ≡ false)) → c.false_open && (not (eqb s.length 0) || c.true_open) ≡ false
+        at (inl o) = rw o
+        at (inr p) = rw (eq-eqb s.length 0 p.0, p.1) (and-false c.false_open)
 
     undone_holds : Holds K (undoing s c)
     undone_holds =
         let y : c.true_open ≡ (K.choose (stack_in s)).true_open = ap (λ (d : Choice). d.true_open) e in
         let o = opens_next K s.open_true s.length c.true_open (stack_in s) c.variable false h.deep y h.opens in
         record {
-          place = omega arith;
           room = h.room;
           short = h.short;
           deep = h.deep;
@@ -114,32 +127,20 @@ module _ (f : Formula) (z : Scope) (K : Tree) (F : Follows f z K) (s : State) (n
           replayed = h.replayed;
           opens = o.1;
           clears = h.clears;
-          at_full = λ x. absurd (omega arith);
+          at_full = λ x. cc;
           at_back = λ x. (let d = h.deep in let w = within f z K F s h ne in omega arith, ap (λ (d : Choice). d.variable) e, bit-marked s.open_true s.length c.true_open ∙ y);
-          at_over = λ x. absurd (omega arith);
+          at_over = λ x. cc;
         }
 
-    -- mode 2 elsewhere: if false is open
-    pub taken_false : (s.length ≡ 0 → c.true_open ≡ true) → (u : State) → u ≡ undoing s c → PlaceTaken K 2 (stack_in s) (fits K 2 (stack_in s)) (record { known = c.false_open; state = u })
-    taken_false o u q =
-        rw q
-        (record {
-          known = sym (fits_false ∙ ap (λ (x : Bool). c.false_open && x) (at (eqb s.length 0) refl) ∙ and-true c.false_open);
-          holds = λ x. undone_holds;
-          position = λ x. refl;
-        })
+    pub taken_false : c.false_open ≡ true → (s.length ≡ 0 → c.true_open ≡ true) → PlaceTaken K 2 (stack_in s) (fits K 2 (stack_in s)) (Some (undoing s c))
+    taken_false p o =
+        taken_some K 2 (stack_in s) _ (undoing s c) (fits_false ∙ rw p (at (eqb s.length 0) refl)) undone_holds refl
       where
         at : (x : Bool) → eqb s.length 0 ≡ x → not x || c.true_open ≡ true
         at true y = o (eqb-true s.length 0 y)
         at false y = refl
 
   -- ---- the other modes
-
-  -- mode 0: nothing is assigned
-  pub taken_start : (m : ℕ) → m ≡ 0 → PlaceTaken K m (stack_in s) (fits K m (stack_in s)) (record { known = eqb s.length 0; state = s })
-  unfolding fits
-  taken_start m e =
-      rw e (record { known = is_empty_length; holds = λ x. h; position = λ x. ap (λ (p : ℕ). position_at p (stack_in s)) n.place })
 
   -- at full length mode 1 fits, also where no variable is to be assigned
   fits_model : s.length ≡ z.size → fits K 1 (stack_in s) ≡ true
@@ -161,45 +162,47 @@ module _ (f : Formula) (z : Scope) (K : Tree) (F : Follows f z K) (s : State) (n
       at empty e = ne_eqb K.size 0 (λ q. l (sym e ∙ sym q ∙ F.size))
       at (push v b t) e = refl
 
-  -- mode 1 at full length: the model is handed out
-  pub taken_model : (m : ℕ) → m ≡ 1 → s.length ≡ z.size → (u : State) → u ≡ at_place s 1
-      → PlaceTaken K m (stack_in s) (fits K m (stack_in s)) (record { known = true; state = u })
-  taken_model m e l u q =
-      let d : depth (stack_in s) ≡ K.size = h.deep ∙ l ∙ sym F.size in
-      rw (e, q)
-      (record {
-        known = sym (fits_model l);
-        holds = λ x. holds_place K s (stack_in s) 1 h (omega arith) (λ y. l ∙ sym F.size) (λ y. absurd (omega arith)) (λ y. absurd (omega arith));
-        position = λ x. rw (eq-eqb _ _ d);
-      })
+  module _ (m : ℕ) where
+    -- mode 0: nothing is assigned
+    pub taken_start : m ≡ 0 → s.length ≡ 0 → PlaceTaken K m (stack_in s) (fits K m (stack_in s)) (Some s)
+    unfolding fits
+    taken_start e l =
+        rw e
+        (taken_some K 0 (stack_in s) _ s (sym is_empty_length ∙ eq-eqb s.length 0 l) h (ap (λ (p : Place). position_at p (stack_in s)) n.place))
 
-  -- mode 1 elsewhere
-  pub taken_assigned : (m : ℕ) → m ≡ 1 → (s.length ≡ z.size → ⊥)
-      → PlaceTaken K m (stack_in s) (fits K m (stack_in s)) (record { known = not (eqb s.length 0); state = s })
-  taken_assigned m e l =
-      let d : eqb (depth (stack_in s)) K.size ≡ false = ne_eqb _ _ (λ y. l (sym h.deep ∙ y ∙ F.size)) in
-      rw e
-      (record {
-        known = sym (fits_assigned l);
-        holds = λ x. h;
-        position = λ x. rw (d, n.place);
-      })
+    -- mode 4: the same
+    pub taken_end : 4 ≤ m → s.length ≡ 0 → PlaceTaken K m (stack_in s) (fits K m (stack_in s)) (Some (at_place s Over))
+    unfolding fits
+    taken_end g l =
+        let e : m ≡ suc (suc (suc (suc (m - 4)))) = omega arith in
+        rw e
+        (taken_some K _ (stack_in s) _ (at_place s Over) (sym is_empty_length ∙ eq-eqb s.length 0 l)
+        (holds_place K s (stack_in s) Over h (λ y. cc) (λ y. cc) (λ y. l)) refl)
 
-  -- mode 4: nothing is assigned
-  pub taken_end : (m : ℕ) → (m ≡ 0 → ⊥) → (m ≡ 1 → ⊥) → (m ≡ 2 → ⊥) → (m ≡ 3 → ⊥) → (u : State) → u ≡ at_place s 4
-      → PlaceTaken K m (stack_in s) (fits K m (stack_in s)) (record { known = eqb s.length 0; state = u })
-  unfolding fits
-  taken_end zero x y z w u q = absurd (x refl)
-  taken_end (suc zero) x y z w u q = absurd (y refl)
-  taken_end (suc (suc zero)) x y z w u q = absurd (z refl)
-  taken_end (suc (suc (suc zero))) x y z w u q = absurd (w refl)
-  taken_end (suc (suc (suc (suc m)))) x y z w u q =
-      rw q
-      (record {
-        known = is_empty_length;
-        holds = λ k. holds_place K s (stack_in s) 4 h (omega arith) (λ y. absurd (omega arith)) (λ y. absurd (omega arith)) (λ y. eqb-true s.length 0 k);
-        position = λ k. refl;
-      })
+    pub taken_assigned_none : (m ≡ 0) ⊎ (4 ≤ m) → (s.length ≡ 0 → ⊥) → PlaceTaken K m (stack_in s) (fits K m (stack_in s)) None
+    unfolding fits
+    taken_assigned_none (inl e) l = rw e (taken_none K 0 (stack_in s) _ (sym is_empty_length ∙ ne_eqb s.length 0 l))
+    taken_assigned_none (inr g) l =
+        let e : m ≡ suc (suc (suc (suc (m - 4)))) = omega arith in
+        rw e (taken_none K _ (stack_in s) _ (sym is_empty_length ∙ ne_eqb s.length 0 l))
+
+    -- mode 1 at full length: the model is handed out
+    pub taken_model : m ≡ 1 → s.length ≡ z.size → PlaceTaken K m (stack_in s) (fits K m (stack_in s)) (Some (at_place s Full))
+    taken_model e l =
+        let d : depth (stack_in s) ≡ K.size = h.deep ∙ l ∙ sym F.size in
+        rw e
+        (taken_some K 1 (stack_in s) _ (at_place s Full) (fits_model l) (holds_place K s (stack_in s) Full h (λ y. l ∙ sym F.size) (λ y. cc) (λ y. cc))
+        (rw (eq-eqb _ _ d)))
+
+    -- mode 1 elsewhere
+    module _ (e : m ≡ 1) (l : s.length ≡ z.size → ⊥) where
+      pub taken_assigned : (s.length ≡ 0 → ⊥) → PlaceTaken K m (stack_in s) (fits K m (stack_in s)) (Some s)
+      taken_assigned g =
+          let d : eqb (depth (stack_in s)) K.size ≡ false = ne_eqb _ _ (λ y. l (sym h.deep ∙ y ∙ F.size)) in
+          rw e (taken_some K 1 (stack_in s) _ s (fits_assigned l ∙ rw (ne_eqb s.length 0 g)) h (rw (d, n.place)))
+
+      pub taken_root_none : s.length ≡ 0 → PlaceTaken K m (stack_in s) (fits K m (stack_in s)) None
+      taken_root_none g = rw e (taken_none K 1 (stack_in s) _ (fits_assigned l ∙ rw (eq-eqb s.length 0 g)))
 
 -- ---- the test
 
@@ -207,29 +210,29 @@ module _ (K : Tree) where
   -- a trail that does not replay
   fits_none : (m : ℕ) (t : Stack) → replays K t ≡ false → fits K m t ≡ false
   unfolding fits replays
-  fits_none zero empty e = absurd (true≢false e)
+  fits_none zero empty e = cc
   fits_none zero (push v b t) e = refl
   fits_none (suc zero) t e = rw e (and-false (not (is_empty t) || eqb K.size 0))
   fits_none (suc (suc zero)) t e = rw e
   fits_none (suc (suc (suc zero))) t e = rw e
-  fits_none (suc (suc (suc (suc m)))) empty e = absurd (true≢false e)
+  fits_none (suc (suc (suc (suc m)))) empty e = cc
   fits_none (suc (suc (suc (suc m)))) (push v b t) e = refl
 
-  module _ (c : walk.Checkpoint) (r : Tested) where
+  module _ (c : walk.Checkpoint) where
     -- a checkpoint that is not well formed
-    pub taken_unformed : formed c ≡ false → r.known ≡ false → PlaceTaken K c.mode (read c) (accepts K c) r
+    pub taken_unformed : formed c ≡ false → PlaceTaken K c.mode (read c) (accepts K c) None
     unfolding accepts
-    taken_unformed e q = taken_none K c.mode (read c) _ r q (rw e)
+    taken_unformed e = taken_none K c.mode (read c) _ (rw e)
 
     -- one whose trail does not replay
-    pub taken_unreplayed : formed c ≡ true → Replayed K (read c) r → r.known ≡ false → PlaceTaken K c.mode (read c) (accepts K c) r
+    pub taken_unreplayed : formed c ≡ true → Replayed K (read c) None → PlaceTaken K c.mode (read c) (accepts K c) None
     unfolding accepts
-    taken_unreplayed e w q = taken_none K c.mode (read c) _ r q (rw e (fits_none c.mode (read c) (sym w.known ∙ q)))
+    taken_unreplayed e w = taken_none K c.mode (read c) _ (rw e (fits_none c.mode (read c) (sym w.known)))
 
     -- one whose trail replays: its mode decides
-    pub taken_read : formed c ≡ true → (s : State) → Node K (read c) s → (Node K (stack_in s) s → PlaceTaken K c.mode (stack_in s) (fits K c.mode (stack_in s)) r)
-        → PlaceTaken K c.mode (read c) (accepts K c) r
+    pub taken_read : (r : Option State) → formed c ≡ true → (s : State) → Node K (read c) s
+        → (Node K (stack_in s) s → PlaceTaken K c.mode (stack_in s) (fits K c.mode (stack_in s)) r) → PlaceTaken K c.mode (read c) (accepts K c) r
     unfolding accepts
-    taken_read e s n w =
+    taken_read r e s n w =
         rw e
         (subst (λ (t : Stack). PlaceTaken K c.mode t (fits K c.mode t) r) n.stack (w (record { holds = n.holds; stack = refl; place = n.place })))

@@ -1,6 +1,6 @@
 -- A checkpoint's variables are assigned again, one by one.
 use Prim.Native.Nat.{ℕ, ◌+◌, ◌-◌, ◌≤◌, ◌<◌}
-use mathlib.Core.Bool.{Bool, true, false, true≢false, false≢true}
+use mathlib.Core.Bool.{Bool, true, false}
 use mathlib.Core.List.{List}
 use mathlib.Core.Path.{◌≡◌, refl, sym, ap, ◌∙◌, subst}
 use native.Mathlib.Numerals.{add-one}
@@ -8,6 +8,7 @@ use native.Mathlib.Omega.{arith}
 use lib.Dec.{eqb, ltb}
 use lib.ListN.{length, take, get_or}
 use borrow.Author.Tests.{eq-eqb, ne_eqb, lt-ltb, le-ltb}
+use Rattle.std.specs.Prelude.{Option, Some, None}
 use Rattle.limits.specs.Limits.{max_variables}
 use Rattle.formula.specs.declared.Formula.{Formula}
 use Rattle.splitting.specs.declared.Choice.{Choice}
@@ -19,7 +20,6 @@ use Rattle.walk.specs.InnerTest.{pushed, replays}
 use Rattle.walk.proofs.ReplayLaws.{read_next}
 use Rattle.enumeration.specs.declared.scope.Scope.{Scope}
 use Rattle.enumeration.specs.declared.state.State.{State}
-use Rattle.enumeration.specs.declared.reading.Tested.{Tested}
 use Rattle.enumeration.specs.InnerState.{stack_in, Follows, Free, Holds, Valid, pushing}
 use Rattle.enumeration.specs.InnerRead.{Node, Replayed, noted}
 use Rattle.enumeration.proofs.ClearLaws.{clears_note}
@@ -28,6 +28,10 @@ use Rattle.enumeration.proofs.StepLaws.{choice_at}
 use Rattle.enumeration.proofs.FormLaws.{replays_stops}
 
 module _ (f : Formula) (z : Scope) (K : Tree) (F : Follows f z K) (s : State) (h : Holds K s) where
+  -- a trail that does not replay gives no state
+  replayed_none : (t : Stack) → replays K t ≡ false → Replayed K t None
+  replayed_none t e = record { known = sym e; node = λ u x. cc }
+
   -- a trail of full length goes no further
   replays_full : (v : ℕ) (b : Bool) → s.length ≡ z.size → replays K (push v b (stack_in s)) ≡ false
   unfolding replays
@@ -36,8 +40,8 @@ module _ (f : Formula) (z : Scope) (K : Tree) (F : Follows f z K) (s : State) (h
       rw (h.replayed, l)
 
   -- so no variable is known there
-  pub replayed_full : (v : ℕ) (b : Bool) → s.length ≡ z.size → Replayed K (push v b (stack_in s)) (record { known = false; state = s })
-  replayed_full v b e = record { known = sym (replays_full v b e); node = λ x. absurd (false≢true x) }
+  pub replayed_full : (v : ℕ) (b : Bool) → s.length ≡ z.size → Replayed K (push v b (stack_in s)) None
+  replayed_full v b e = replayed_none _ (replays_full v b e)
 
   module _ (ne : s.length ≡ z.size → ⊥) where
     not_full : s.length < z.size
@@ -64,8 +68,8 @@ module _ (f : Formula) (z : Scope) (K : Tree) (F : Follows f z K) (s : State) (h
           rw (h.replayed, l, q)
 
       -- so another variable is not known
-      pub replayed_other : (v : ℕ) (b : Bool) → (v ≡ c.variable → ⊥) → Replayed K (push v b (stack_in s)) (record { known = false; state = s })
-      replayed_other v b x = record { known = sym (replays_other v b x); node = λ y. absurd (false≢true y) }
+      pub replayed_other : (v : ℕ) (b : Bool) → (v ≡ c.variable → ⊥) → Replayed K (push v b (stack_in s)) None
+      replayed_other v b x = replayed_none _ (replays_other v b x)
 
       -- the chosen one
       replays_open : (b : Bool) → replays K (push c.variable b (stack_in s)) ≡ opened c b
@@ -91,19 +95,23 @@ module _ (f : Formula) (z : Scope) (K : Tree) (F : Follows f z K) (s : State) (h
           }
 
       -- so the chosen one is known if its value is open
-      pub replayed_chosen : (v : ℕ) (x b free : Bool) (u : State) → (free ≡ true → Free K (stack_in s)) → v ≡ c.variable → x ≡ b
-          → u ≡ pushing (noted s c.true_open free) c.variable b → Replayed K (push v x (stack_in s)) (record { known = opened c b; state = u })
-      replayed_chosen v x b free u g p q r = rw (p, q, r) (record { known = sym (replays_open b); node = node_more b free g })
+      pub replayed_shut : (v : ℕ) (b : Bool) → v ≡ c.variable → opened c b ≡ false → Replayed K (push v b (stack_in s)) None
+      replayed_shut v b p o = replayed_none _ (rw p (replays_open b ∙ o))
+
+      pub replayed_chosen : (v : ℕ) (b free : Bool) (u : State) → (free ≡ true → Free K (stack_in s)) → v ≡ c.variable → opened c b ≡ true
+          → u ≡ pushing (noted s c.true_open free) c.variable b → Replayed K (push v b (stack_in s)) (Some u)
+      replayed_chosen v b free u g p o q =
+          rw p
+          record {
+            known = sym (replays_open b ∙ o);
+            node = λ w x. let e : pushing (noted s c.true_open free) c.variable b ≡ w = cc in rw (← e) (node_more b free g o);
+          }
 
 -- what the next call needs
 module _ (f : Formula) (z : Scope) (s : State) (w : Valid f z s) (ne : s.length ≡ z.size → ⊥) where
   -- a variable is left to assign
   pub valid_short : s.length < z.size
   valid_short = not_full f z w.tree w.follows s w.holds ne
-
-  -- and there is room
-  pub valid_room : s.length < max_variables
-  valid_room = let l = valid_short in let m = w.follows.most in omega arith
 
   -- the chosen variable is below 48
   pub valid_low : (c : Choice) → c ≡ mask_choice f z.mask s.assignment → c.variable < max_variables
@@ -113,16 +121,16 @@ module _ (f : Formula) (z : Scope) (s : State) (w : Valid f z s) (ne : s.length 
 
 module _ (K : Tree) where
   -- a node's trail replays
-  pub node_replayed : (t : Stack) (s : State) → Node K t s → Replayed K t (record { known = true; state = s })
-  node_replayed t s n = record { known = sym (ap (replays K) (sym n.stack) ∙ n.holds.replayed); node = λ e. n }
+  pub node_replayed : (t : Stack) (s : State) → Node K t s → Replayed K t (Some s)
+  node_replayed t s n = record { known = sym (ap (replays K) (sym n.stack) ∙ n.holds.replayed); node = λ u e. let q : s ≡ u = cc in rw (← q) n }
 
-  module _ (l : List ℕ) (r : Tested) where
+  module _ (l : List ℕ) (r : Option State) where
     -- one byte more
     pub replayed_next : (i : ℕ) (s : State) → i < length l → Node K (pushed empty (take i l)) s
         → Replayed K (push (byte_number (get_or l i 0) - 1) (byte_value (get_or l i 0)) (stack_in s)) r → Replayed K (pushed empty (take (i + 1) l)) r
     replayed_next i s h n w =
         subst (λ (t : Stack). Replayed K t r) (ap (push (byte_number (get_or l i 0) - 1) (byte_value (get_or l i 0))) n.stack ∙ sym (rw (add-one i) (read_next l i h))) w
 
-    -- a byte that does not replay
-    pub replayed_stops : (i k : ℕ) → i ≤ k → Replayed K (pushed empty (take i l)) r → r.known ≡ false → Replayed K (pushed empty (take k l)) r
-    replayed_stops i k h w e = record { known = e ∙ sym (replays_stops K l i k h (sym w.known ∙ e)); node = λ x. absurd (true≢false (sym x ∙ e)) }
+  -- a byte that does not replay
+  pub replayed_stops : (l : List ℕ) (i k : ℕ) → i ≤ k → Replayed K (pushed empty (take i l)) None → Replayed K (pushed empty (take k l)) None
+  replayed_stops l i k h w = record { known = sym (replays_stops K l i k h (sym w.known)); node = λ u x. cc }

@@ -1,18 +1,12 @@
 -- What the code takes to be assigned is what a task has.
-use Prim.Native.Nat.{ℕ, ◌≤◌}
+use Prim.Native.Nat.{ℕ}
 use mathlib.Core.List.{List, map}
 use mathlib.Core.Path.{◌≡◌, refl, ap, ap₂}
-use native.Mathlib.Omega.{arith}
 use lib.Bits.{bit_or}
-use Rattle.limits.specs.Limits.{max_clauses}
 use Rattle.masks.specs.Mask.{minus, size}
-use Rattle.formula.specs.declared.Decoded.{Decoded}
-use Rattle.formula.specs.Decoding.{Decoding, readable, refused}
 use Rattle.formula.specs.Format.{Literal}
 use Rattle.formula.specs.Masked.{variables}
-use Rattle.formula.specs.InnerDecode.{decode}
-use Rattle.formula.specs.InnerMasked.{held, decoded, formula_of}
-use Rattle.formula.proofs.Demands.{accepted_fits}
+use Rattle.formula.specs.InnerMasked.{formula_of}
 use Rattle.matching.specs.Sets.{union}
 use Rattle.splitting.specs.InnerChoose.{assignment_of}
 use Rattle.splitting.proofs.MaskNodeLaws.{assigned-variables}
@@ -30,12 +24,3 @@ under_task n cs t =
 -- a scope shows what its task does
 pub visible_task : (T : Task) → visible_in (task_scope T) ≡ visible T
 visible_task T = ap (bit_or T.scope) (assigned-variables T.before)
-
--- what is read has at most 96 clauses
-pub decoded_few : (s : List ℕ) (d : Decoded) → d ≡ decoded s → d.formula.count ≤ max_clauses
-unfolding decoded
-decoded_few s d e = rw e (at (decode s) refl)
-  where
-    at : (x : Decoding) → decode s ≡ x → (held x).formula.count ≤ max_clauses
-    at (readable n cs) q = omega (arith, (accepted_fits s n cs q).few)
-    at (refused r) q = omega arith

@@ -1,6 +1,7 @@
 // S7.4: the test of a checkpoint, for refusal 11: its trail is assigned again, then its mode's place is taken.
 ghost use Rattle.std.specs.Prelude.{◌≡◌, ◌-◌, ◌≤◌, true};
 ghost use Rattle.formula.specs.InnerFits.{FormulaFits};
+ghost use Rattle.splitting.specs.Terms.{opened};
 ghost use Rattle.walk.specs.Checkpoints.{byte_number, byte_value, undone_mode};
 ghost use Rattle.walk.specs.InnerStack.{push, Tree};
 ghost use Rattle.walk.specs.InnerTest.{formed, read, fits, accepts};
@@ -11,6 +12,14 @@ ghost use Rattle.enumeration.specs.Values.{checkpoint_values};
 use crate::checkpoint::{Checkpoint, number_of};
 use crate::scope::Task;
 use crate::state::{Place, State, mark};
+use splitting::Choice;
+
+// Whether the value is open to the chosen variable.
+fn is_open(c: Choice, value: bool) -> bool
+    ensures { result ≡ opened c value }
+{
+    if value { c.true_open } else { c.false_open }
+}
 
 impl Task {
     // Assigns a byte's variable again, if it is the chosen one and its value open.
@@ -24,8 +33,7 @@ impl Task {
         let p = self.pick(&s);
         let c = p.choice;
         let value = 128 <= b;
-        let open = if value { c.true_open } else { c.false_open };
-        if number_of(b) != c.variable + 1 || !open {
+        if number_of(b) != c.variable + 1 || !is_open(c, value) {
             return None;
         }
         let mut after = s;

@@ -2,7 +2,7 @@
 ghost use Rattle.std.specs.Prelude.{◌≡◌, ◌-◌, ◌<◌, ◌≤◌, get_or};
 ghost use Rattle.limits.specs.Limits.{max_variables};
 ghost use Rattle.walk.specs.InnerStack.{empty, Tree};
-ghost use Rattle.walk.specs.InnerTest.{shown};
+ghost use Rattle.walk.specs.InnerTest.{mode_of, shown};
 ghost use Rattle.enumeration.specs.InnerState.{position_in, Holds, Numbered, pushing, popping, marked_as};
 ghost use Rattle.enumeration.specs.InnerRead.{Node, noted};
 ghost use Rattle.enumeration.specs.Values.{checkpoint_values};
@@ -113,22 +113,29 @@ impl State {
         self.bytes[at] = 0;
     }
 
-    // The checkpoint of the state.
-    pub fn checkpoint(self) -> Checkpoint
-        requires { self.length ≤ max_variables }
-        ensures { (K : Tree) → Holds K self → checkpoint_values result ≡ shown (position_in self) }
+    // S7.2: the mode of the state's checkpoint.
+    fn mode(self) -> u8
+        ensures { (K : Tree) → Holds K self → result ≡ mode_of (position_in self) }
     {
-        let mode = match self.place {
+        match self.place {
             Place::Down if self.length == 0 => 0,
             Place::Down | Place::Full => 1,
             Place::UndoneFalse => 2,
             Place::UndoneTrue => 3,
             Place::Over => 4,
-        };
+        }
+    }
+
+    // The checkpoint of the state.
+    pub fn checkpoint(self) -> Checkpoint
+        requires { self.length ≤ max_variables }
+        ensures { (K : Tree) → Holds K self → checkpoint_values result ≡ shown (position_in self) }
+    {
+        let bytes = self.bytes;
         Checkpoint {
-            mode,
+            mode: self.mode(),
             length: self.length as u8,
-            bytes: self.bytes,
+            bytes,
         }
     }
 }

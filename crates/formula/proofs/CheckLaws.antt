@@ -9,7 +9,10 @@ use native.Mathlib.Numerals.{add-one}
 use native.Mathlib.Omega.{arith}
 use lib.Bits.{bit_and}
 use lib.Dec.{eqb}
-use lib.ListN.{length, length-map, get_or}
+use lib.ListN.{length, length-map, get_or, take}
+use Rattle.std.specs.Prelude.{Ok}
+use Rattle.std.specs.List.{list_all}
+use Rattle.std.proofs.lemmas.List.Folds.{list_all_more}
 use borrow.Author.Tests.{eqb-true}
 use Rattle.limits.specs.Limits.{max_clauses}
 use Rattle.lists.specs.Padded.{padded}
@@ -22,7 +25,7 @@ use Rattle.formula.specs.declared.Clause.{Clause}
 use Rattle.formula.specs.declared.Formula.{Formula}
 use Rattle.formula.specs.declared.Refusal.{Refusal}
 use Rattle.formula.specs.declared.Refusal.TheVariants.{StrayVariable}
-use Rattle.formula.specs.Check.{said_yes, said_no, verdict_said, verdict_refused, checked}
+use Rattle.formula.specs.Check.{said_yes, said_no, verdict_said, verdict_refused, verdict_values, checked}
 use Rattle.formula.specs.InnerDecode.{decode}
 use Rattle.formula.specs.Decoding.{refused}
 use Rattle.formula.specs.Format.{Literal}
@@ -105,6 +108,12 @@ all_fails test cs i (suc n) l e = go (dec_lt i n) (all_fails test cs i n)
     go (yes k) ih = rw (ih k e)
     go (no k) ih = let q : n ≡ i = omega arith in rw (q, e) (and-false (all_first test cs i))
 
+-- the first n clauses are a part of the array
+pub all_taken : (test : Clause → Bool) (cs : List Clause) (n : ℕ) → n ≤ length cs → all_first test cs n ≡ list_all test (take n cs)
+unfolding all_first
+all_taken test cs zero l = refl
+all_taken test cs (suc n) l = rw (all_taken test cs n (omega arith), ← add-one) (sym (list_all_more test cs n no_clause l))
+
 clauses_hold_cons : (a : ℕ) (c : Clause) (cs : List Clause) (n : ℕ) → clauses_hold a (c ∷ cs) (suc n) ≡ clause_holds a c && clauses_hold a cs n
 unfolding all_first
 clauses_hold_cons a c cs zero = sym (and-true (clause_holds a c))
@@ -133,6 +142,11 @@ pub checked_accepted : (s : List ℕ) (f : Formula) (a : ℕ) → Accepts s f
     → checked s a ≡ cond (stray f.variables a) (verdict_refused (StrayVariable 0)) (cond (clauses_hold a f.clauses f.count) (verdict_said said_yes) (verdict_said said_no))
 unfolding checked
 checked_accepted s f a w = rw (w.reads, w.formula, clauses_hold_of a w.clauses)
+
+-- which says yes or no
+pub said_by : (b : Bool) → cond b (verdict_said said_yes) (verdict_said said_no) ≡ verdict_values (Ok b)
+said_by true = refl
+said_by false = refl
 
 -- and of a refused one
 pub checked_refused : (s : List ℕ) (r : Refusal) (a : ℕ) → decode s ≡ refused r → checked s a ≡ verdict_refused r

@@ -3,6 +3,7 @@ pub mod ClauseLaws
 pub mod CutLaws
 pub mod DecodeLaws
 pub mod BoundLaws
+pub mod AssignmentLaws
 pub mod Demands
 pub mod ExtendsLaws
 pub mod FormatLaws
@@ -12,7 +13,6 @@ pub mod LiteralLaws
 pub mod MaskedLaws
 pub mod ModelLaws
 pub mod NumberLaws
-pub mod OneTo
 pub mod OutcomeLaws
 pub mod ReaderLaws
 pub mod RefusalLaws

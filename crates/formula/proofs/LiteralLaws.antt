@@ -1,5 +1,6 @@
--- Literals that are read without an event: what stands there, and what it makes of the reader.
-use Prim.Native.Nat.{ℕ, ◌+◌, ◌-◌, ◌≤◌, ◌<◌}
+-- Literals that are read in a row: what stands there, and what it makes of the reader.
+use Prim.Native.Nat.{ℕ, ◌+◌, ◌-◌, ◌<◌}
+use Rattle.std.specs.Prelude.{Some, Ok}
 use mathlib.Core.Bool.{true, false, not, ◌||◌}
 use mathlib.Core.List.{List}
 use mathlib.Core.Logic.{⊎_elim}
@@ -8,15 +9,12 @@ use native.Mathlib.Omega.{arith}
 use lib.Dec.{eqb, ltb}
 use lib.ListN.{length, get_or}
 use borrow.Author.Tests.{eqb-true, ne_eqb, ltb-true, lt-ltb, not-true}
-use Rattle.limits.specs.Limits.{max_variables}
 use Rattle.lists.proofs.TestLaws.{and_left, and_right, or_cases}
 use Rattle.masks.specs.Mask.{bit}
-use Rattle.formula.specs.declared.Event.TheVariants.{Next}
 use Rattle.formula.specs.declared.Reader.{Reader}
 use Rattle.formula.specs.InnerDecode.{one_to}
-use Rattle.formula.specs.InnerReader.{variable_event, literal_event, record_event, literal_stands, literal_read, Passes}
+use Rattle.formula.specs.InnerReader.{record_event, literal_stands, literal_read, Passes}
 use Rattle.formula.specs.InnerFits.{side}
-use Rattle.formula.proofs.OneTo.{one_to_least, one_to-most}
 use Rattle.formula.proofs.ReaderLaws.{whole, turn_next}
 
 -- what a literal that stands says
@@ -41,16 +39,8 @@ module _ (s : List ℕ) (r : Reader) (e : literal_stands s r ≡ true) where
         unopposed = not-true _ (and_right (one_to r.variables (get_or s (r.at + 1) 0)) _ c);
       }
 
-  -- its variable's number
-  pub stands_least : 1 ≤ get_or s (r.at + 1) 0
-  stands_least = one_to_least r.variables (get_or s (r.at + 1) 0) stands.within
-
-  pub stands_most : get_or s (r.at + 1) 0 ≤ r.variables
-  stands_most = one_to-most r.variables (get_or s (r.at + 1) 0) stands.within
-
-  -- its event
-  literal_next : record_event s r ≡ Next (literal_read s r)
-  unfolding record_event literal_event variable_event
+  -- its record
+  literal_next : record_event s r ≡ Ok (Some (literal_read s r))
   literal_next =
       let w = stands in
       let i = w.inside in
@@ -73,6 +63,3 @@ passes_more s r x p e =
       inside = omega arith;
       small = p.small;
     }
-
-pub passes_none : (s : List ℕ) (r : Reader) → r.at ≤ length s → r.variables ≤ max_variables → Passes s r r
-passes_none s r i m = record { reads = λ clauses w. w; forward = omega arith; inside = i; small = m }

@@ -1,15 +1,13 @@
 -- The masks of a formula, and what the reader's contract says of an accepted input.
 use Prim.Native.Nat.{ℕ, ◌<◌}
+use Rattle.std.specs.Prelude.{Ok, Err}
 use mathlib.Core.List.{List, [], map}
-use mathlib.Core.Path.{◌≡◌, refl, ap}
-use native.Mathlib.Omega.{arith}
+use mathlib.Core.Path.{◌≡◌, refl}
 use lib.ListN.{length, length-map, get_or-map}
 use Rattle.limits.specs.Limits.{max_clauses}
 use Rattle.lists.proofs.EveryLaws.{every_get_or}
 use Rattle.lists.proofs.PaddedLaws.{get_or_padded}
-use Rattle.formula.specs.declared.Decoded.{Decoded}
 use Rattle.formula.specs.declared.Formula.{Formula}
-use Rattle.formula.specs.declared.Outcome.TheVariants.{Accepted, Refused}
 use Rattle.formula.specs.declared.Refusal.{Refusal}
 use Rattle.formula.specs.InnerDecode.{decode}
 use Rattle.formula.specs.Decoding.{Decoding, readable, refused}
@@ -44,22 +42,23 @@ pub record Accepts (s : List ℕ) (f : Formula) : Type 0 where
   pub sized : Sized variables clauses
   pub fits : FormulaFits f
 
-accepts : (s : List ℕ) (x : Decoding) → decode s ≡ x → (held x).outcome ≡ Accepted → Accepts s (held x).formula
-accepts s (readable n cs) e o =
+accepts : (s : List ℕ) (f : Formula) (x : Decoding) → decode s ≡ x → held x ≡ Ok f → Accepts s f
+accepts s f (readable n cs) e o =
     let encoded : Encodes s n cs = rw e at (decode_means s) in
     let z = encoded_sized encoded in
-    record { variables = n; clauses = cs; reads = e; formula = refl; sized = z; fits = formula_fits z }
-accepts s (refused r) e o = let z : ◌≡◌ {A = ℕ} 0 1 = cc in absurd (omega arith)
+    let q : f ≡ formula_of n cs = cc in
+    record { variables = n; clauses = cs; reads = e; formula = q; sized = z; fits = rw q (formula_fits z) }
+accepts s f (refused r) e o = absurd cc
 
-pub decoded_accepted : (s : List ℕ) (d : Decoded) → d ≡ decoded s → d.outcome ≡ Accepted → Accepts s d.formula
+pub decoded_accepted : (s : List ℕ) (f : Formula) → decoded s ≡ Ok f → Accepts s f
 unfolding decoded
-decoded_accepted s d e o = rw e (accepts s (decode s) refl (rw e at o))
+decoded_accepted s f o = accepts s f (decode s) refl o
 
-refuses : (x : Decoding) (r : Refusal) → (held x).outcome ≡ Refused r → x ≡ refused r
-refuses (readable n cs) r o = let z : ◌≡◌ {A = ℕ} 0 1 = cc in absurd (omega arith)
-refuses (refused y) r o = let p : y ≡ r = cc in ap refused p
+refuses : (x : Decoding) (r : Refusal) → held x ≡ Err r → x ≡ refused r
+refuses (readable n cs) r o = absurd cc
+refuses (refused y) r o = cc
 
 -- of a refused one: the refusal
-pub decoded_refused : (s : List ℕ) (d : Decoded) (r : Refusal) → d ≡ decoded s → d.outcome ≡ Refused r → decode s ≡ refused r
+pub decoded_refused : (s : List ℕ) (r : Refusal) → decoded s ≡ Err r → decode s ≡ refused r
 unfolding decoded
-decoded_refused s d r e o = refuses (decode s) r (rw e at o)
+decoded_refused s r o = refuses (decode s) r o

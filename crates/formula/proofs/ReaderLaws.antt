@@ -1,18 +1,17 @@
 -- The reader over masks follows `decode` over lists of literals.
 use Prim.Native.Nat.{ℕ, zero, suc, ◌+◌, ◌-◌, ◌≤◌, ◌<◌, zero-le}
+use Rattle.std.specs.Prelude.{Option, Some, None, Result, Ok, Err}
 use mathlib.Core.Bool.{Bool, true, false, not, cond, ◌&&◌}
 use mathlib.Core.List.{List, [], ◌∷◌, ◌++◌, map, map-append}
 use mathlib.Core.Path.{◌≡◌, refl, sym, ap, ◌∙◌, subst}
 use native.Mathlib.Decide.{dec_lt}
 use native.Mathlib.Omega.{arith}
-use lib.Dec.{eqb, ltb}
+use lib.Dec.{eqb, ltb, leb}
 use lib.ListN.{length, length-map, get_or, drop, set, length-append, drop_of_length-le}
 use lib.Seq.{drop-cons}
-use borrow.Author.Tests.{eqb-true, eqb-false, ltb-true, lt-ltb, le-ltb}
+use borrow.Author.Tests.{eqb-true, eqb-false, ltb-true, leb-true, lt-ltb, le-ltb}
 use Rattle.limits.specs.Limits.{max_variables, max_clauses}
 use Rattle.formula.specs.declared.Clause.{Clause}
-use Rattle.formula.specs.declared.Event.{Event}
-use Rattle.formula.specs.declared.Event.TheVariants.{Next, Finished, Stopped}
 use Rattle.formula.specs.declared.Reader.{Reader}
 use Rattle.formula.specs.declared.Refusal.{Refusal}
 use Rattle.formula.specs.declared.Refusal.TheVariants.{Truncated, UnknownKind, Misplaced, BadVariableCount, NoSuchVariable, ComplementaryLiteral, TooManyClauses, TrailingByte}
@@ -21,18 +20,21 @@ use Rattle.formula.specs.Decoding.{readable, refused}
 use Rattle.formula.specs.Format.{Literal, names_as}
 use Rattle.formula.specs.InnerReader.{count_event, variable_event, literal_event, end_event, finish_event, kind_event, record_event, reader_of, Reads}
 use Rattle.formula.proofs.ClauseLaws.{clause_side, clause_empty}
-use Rattle.formula.proofs.OneTo.{one_to-most}
 use Rattle.formula.proofs.RepeatLaws.{add_masks}
 use Rattle.formula.specs.InnerMasked.{no_clause, with_literals, clause_of, held}
-use Rattle.formula.specs.declared.Outcome.TheVariants.{Accepted}
 use Rattle.lists.specs.Padded.{padded}
 use Rattle.lists.proofs.PaddedLaws.{padded_set}
+use Rattle.lists.proofs.TestLaws.{and_right}
 
 -- ---- one record
 
 cond_both : (p q : Bool) (x y : Step) → cond (p && q) x y ≡ cond p (cond q x y) y
 cond_both true q x y = refl
 cond_both false q x y = refl
+
+-- what is 1 to m is at most m
+one_to-most : (m b : ℕ) → one_to m b ≡ true → b ≤ m
+one_to-most m b e = leb-true b m (and_right (ltb 0 b) (leb b m) e)
 
 -- what is left from offset i on: nothing, or a byte and what is left from offset j on, which is the next
 data Front (s : List ℕ) (i j : ℕ) : List ℕ → Bool → Type 0 where
@@ -53,31 +55,31 @@ data Kept (g : Reading) : Reading → Type 0 where
   same : {h : Reading} → h.ended ≡ g.ended → Kept g h
   more : {h : Reading} → length g.ended < max_clauses → h.ended ≡ g.ended ++ (g.current ∷ []) → Kept g h
 
--- the code's event and the definition's step agree, and reading goes forward
-data Follows (s : List ℕ) (g : Reading) : Event → Step → Type 0 where
+-- what the code gives and the definition's step agree, and reading goes forward
+data Follows (s : List ℕ) (g : Reading) : Result (Option Reader) Refusal → Step → Type 0 where
   goes : {r : Reader} {h : Reading} → r ≡ reader_of h → g.at < h.at → h.at ≤ length s → h.variables ≤ max_variables → Kept g h
-      → Follows s g (Next r) (next h (drop h.at s))
-  finishes : Follows s g Finished (stop (readable g.variables g.ended))
-  stops : (r : Refusal) → Follows s g (Stopped r) (refuse r)
+      → Follows s g (Ok (Some r)) (next h (drop h.at s))
+  finishes : Follows s g (Ok None) (stop (readable g.variables g.ended))
+  stops : (r : Refusal) → Follows s g (Err r) (refuse r)
 
 module _ (s : List ℕ) (g : Reading) (small : g.variables ≤ max_variables) (here : g.at < length s) where
   -- by the same test on both sides
-  by_test : (t : Bool) {e e' : Event} {x x' : Step} → (t ≡ true → Follows s g e x) → (t ≡ false → Follows s g e' x')
+  by_test : (t : Bool) {e e' : Result (Option Reader) Refusal} {x x' : Step} → (t ≡ true → Follows s g e x) → (t ≡ false → Follows s g e' x')
       → Follows s g (cond t e e') (cond t x x')
   by_test true p q = p refl
   by_test false p q = q refl
 
   -- the code asks whether it is at the front, the definition whether it is past it
-  past_front : {e : Event} {x : Step} → (0 < g.at → Follows s g e x)
-      → Follows s g (cond (eqb g.at 0) (Stopped (Misplaced g.at)) e) (cond (ltb 0 g.at) x (refuse (Misplaced g.at)))
+  past_front : {e : Result (Option Reader) Refusal} {x : Step} → (0 < g.at → Follows s g e x)
+      → Follows s g (cond (eqb g.at 0) (Err (Misplaced g.at)) e) (cond (ltb 0 g.at) x (refuse (Misplaced g.at)))
   past_front {e} {x} p = go (eqb g.at 0) refl
     where
-      go : (t : Bool) → eqb g.at 0 ≡ t → Follows s g (cond t (Stopped (Misplaced g.at)) e) (cond (ltb 0 g.at) x (refuse (Misplaced g.at)))
+      go : (t : Bool) → eqb g.at 0 ≡ t → Follows s g (cond t (Err (Misplaced g.at)) e) (cond (ltb 0 g.at) x (refuse (Misplaced g.at)))
       go true q = let z : g.at ≤ 0 = omega (arith, eqb-true g.at 0 q) in rw (le-ltb 0 g.at z) (stops (Misplaced g.at))
       go false q = let z : 0 < g.at = omega (arith, eqb-false g.at 0 q) in rw (lt-ltb 0 g.at z) (p z)
 
   -- by the byte after the kind, if there is one
-  by_body : (f : List ℕ → Step) {e e' : Event} → (g.at + 1 < length s → Follows s g e (f (get_or s (g.at + 1) 0 ∷ drop (g.at + 2) s)))
+  by_body : (f : List ℕ → Step) {e e' : Result (Option Reader) Refusal} → (g.at + 1 < length s → Follows s g e (f (get_or s (g.at + 1) 0 ∷ drop (g.at + 2) s)))
       → Follows s g e' (f []) → Follows s g (cond (ltb (g.at + 1) (length s)) e e') (f (drop (g.at + 1) s))
   by_body f {e} {e'} p q = go (front s (g.at + 1) (g.at + 2) (omega arith))
     where
@@ -90,7 +92,6 @@ module _ (s : List ℕ) (g : Reading) (small : g.variables ≤ max_variables) (h
 
   counts : Follows s g (count_event s (reader_of g))
       (cond (eqb g.at 0) (variable_count_body (length s) g (drop (g.at + 1) s)) (refuse (Misplaced g.at)))
-  unfolding count_event
   counts =
       by_test (eqb g.at 0)
       (λ _. by_body (λ l. variable_count_body (length s) g l)
@@ -103,7 +104,6 @@ module _ (s : List ℕ) (g : Reading) (small : g.variables ≤ max_variables) (h
   -- the literal of variable v
   variable_follows : (v : ℕ) (sign : Bool) → g.at + 1 < length s
       → Follows s g (variable_event (reader_of g) v sign) (literal_added g (record { variable = v; positive = sign }) (drop (g.at + 2) s))
-  unfolding variable_event
   variable_follows v sign l =
       rw (clause_side g.current (not sign) v)
       (by_test (names_as g.current v (not sign))
@@ -117,7 +117,6 @@ module _ (s : List ℕ) (g : Reading) (small : g.variables ≤ max_variables) (h
 
   literals : (sign : Bool) → Follows s g (literal_event s (reader_of g) sign)
       (cond (ltb 0 g.at) (literal_body (length s) g sign (drop (g.at + 1) s)) (refuse (Misplaced g.at)))
-  unfolding literal_event
   literals sign =
       past_front
       (λ _. by_body (λ l. literal_body (length s) g sign l)
@@ -127,7 +126,7 @@ module _ (s : List ℕ) (g : Reading) (small : g.variables ≤ max_variables) (h
       (stops (Truncated (length s))))
 
   ends : Follows s g (end_event (reader_of g)) (cond (ltb 0 g.at) (clause_ends g (drop (g.at + 1) s)) (refuse (Misplaced g.at)))
-  unfolding end_event with_literals
+  unfolding with_literals
   ends =
       past_front
       (λ _. by_test (ltb (length g.ended) max_clauses)
@@ -141,7 +140,6 @@ module _ (s : List ℕ) (g : Reading) (small : g.variables ≤ max_variables) (h
 
   finish : Follows s g (finish_event s (reader_of g))
       (cond (ltb 0 g.at && none_yet g.current) (formula_ends g (drop (g.at + 1) s)) (refuse (Misplaced g.at)))
-  unfolding finish_event
   finish =
       rw (clause_empty g.current, cond_both)
       (past_front
@@ -162,11 +160,11 @@ module _ (s : List ℕ) (g : Reading) (small : g.variables ≤ max_variables) (h
 
 -- the next record, wherever reading stands
 follows : (s : List ℕ) (g : Reading) → g.variables ≤ max_variables → Follows s g (record_event s (reader_of g)) (read_record (length s) g (drop g.at s))
-unfolding record_event read_record
+unfolding read_record
 follows s g small = go (front s g.at (g.at + 1) (omega arith))
   where
     go : {l : List ℕ} {t : Bool} → Front s g.at (g.at + 1) l t
-        → Follows s g (cond t (kind_event s (reader_of g) (kind_of (get_or s g.at 0))) (Stopped (Truncated (length s)))) (read_record (length s) g l)
+        → Follows s g (cond t (kind_event s (reader_of g) (kind_of (get_or s g.at 0))) (Err (Truncated (length s)))) (read_record (length s) g l)
     go (byte l) = kinds s g small l (kind_of (get_or s g.at 0))
     go end = stops (Truncated (length s))
 
@@ -191,15 +189,15 @@ reads_start s = record {
 pub record Turn (s : List ℕ) (r : Reader) (clauses : List Clause) (r' : Reader) : Type 0 where
   pub forward : r.at < r'.at
   pub inside : r'.at ≤ length s
+  pub small : r'.variables ≤ max_variables
   pub stored : r.count < r'.count → (r.count < max_clauses) × Reads s r' (set clauses r.count r.current)
   pub kept : r'.count ≤ r.count → Reads s r' clauses
 
--- what each event means for the whole input
-pub data Whole (s : List ℕ) (r : Reader) (clauses : List Clause) : Event → Type 0 where
-  goes_on : {r' : Reader} → Turn s r clauses r' → Whole s r clauses (Next r')
-  accepts : held (decode s) ≡ record { outcome = Accepted; formula = record { variables = r.variables; count = r.count; clauses = clauses } }
-      → Whole s r clauses Finished
-  refuses : (x : Refusal) → decode s ≡ refused x → Whole s r clauses (Stopped x)
+-- what each record means for the whole input
+pub data Whole (s : List ℕ) (r : Reader) (clauses : List Clause) : Result (Option Reader) Refusal → Type 0 where
+  goes_on : {r' : Reader} → Turn s r clauses r' → Whole s r clauses (Ok (Some r'))
+  accepts : held (decode s) ≡ Ok (record { variables = r.variables; count = r.count; clauses = clauses }) → Whole s r clauses (Ok None)
+  refuses : (x : Refusal) → decode s ≡ refused x → Whole s r clauses (Err x)
 
 array : Reading → List Clause
 array g = padded max_clauses no_clause (map clause_of g.ended)
@@ -213,6 +211,7 @@ module _ (s : List ℕ) (g : Reading) (few : length g.ended ≤ max_clauses) whe
   turn {r} {h} is f l small kept k enough rest = record {
     forward = rw is f;
     inside = rw is l;
+    small = rw is small;
     stored = rw is (stored kept);
     kept = rw is (unchanged kept);
   }
@@ -248,36 +247,36 @@ module _ (s : List ℕ) (g : Reading) (few : length g.ended ≤ max_clauses) whe
 
   whole_at : g.variables ≤ max_variables → g.at ≤ length s → (k : ℕ) → length s ≤ g.at + k → records k (length s) g (drop g.at s) ≡ decode s
       → Whole s (reader_of g) (array g) (record_event s (reader_of g))
-  unfolding records record_event array
+  unfolding records array
   whole_at small inside zero enough rest =
       let p : length s ≤ g.at = omega arith in rw (le-ltb g.at (length s) p) (refuses (Truncated (length s)) (sym rest))
   whole_at small inside (suc k) enough rest = go (follows s g small) rest
     where
-      go : {e : Event} {x : Step} → Follows s g e x → (elim x [ next g' s' ↦ records k (length s) g' s' | stop d ↦ d ]) ≡ decode s → Whole s (reader_of g) (array g) e
+      go : {e : Result (Option Reader) Refusal} {x : Step} → Follows s g e x → (elim x [ next g' s' ↦ records k (length s) g' s' | stop d ↦ d ]) ≡ decode s → Whole s (reader_of g) (array g) e
       go (goes {h = h} is f l sm kept) q = goes_on (turn is f l sm kept k (omega arith) q)
       go finishes q = accepts (ap held (sym q))
       go (stops x) q = refuses x (sym q)
 
--- the event of the code says how the whole goes on
+-- what the code gives of a record says how the whole goes on
 pub whole : (s : List ℕ) (r : Reader) (clauses : List Clause) → Reads s r clauses → Whole s r clauses (record_event s r)
 unfolding array
 whole s r clauses w =
     let g = w.reading in
     rw (w.is, w.kept) (whole_at s g w.few w.small w.inside w.fuel w.enough w.rest)
 
--- by the event that the code matched
-pub turn_next : {s : List ℕ} {r : Reader} {clauses : List Clause} {e : Event} {r' : Reader} → Whole s r clauses e → e ≡ Next r' → Turn s r clauses r'
+-- by what the code matched
+pub turn_next : {s : List ℕ} {r : Reader} {clauses : List Clause} {e : Result (Option Reader) Refusal} {r' : Reader} → Whole s r clauses e → e ≡ Ok (Some r') → Turn s r clauses r'
 turn_next {s} {r} {clauses} {r' = r'} (goes_on {r' = r''} t) q = let p : r'' ≡ r' = cc in subst (Turn s r clauses) p t
-turn_next (accepts h) q = let z : ◌≡◌ {A = ℕ} 0 1 = cc in absurd (omega arith)
-turn_next (refuses x h) q = let z : ◌≡◌ {A = ℕ} 0 1 = cc in absurd (omega arith)
+turn_next (accepts h) q = absurd cc
+turn_next (refuses x h) q = absurd cc
 
-pub turn_finished : {s : List ℕ} {r : Reader} {clauses : List Clause} {e : Event} → Whole s r clauses e → e ≡ Finished
-    → held (decode s) ≡ record { outcome = Accepted; formula = record { variables = r.variables; count = r.count; clauses = clauses } }
-turn_finished (goes_on t) q = let z : ◌≡◌ {A = ℕ} 0 1 = cc in absurd (omega arith)
+pub turn_finished : {s : List ℕ} {r : Reader} {clauses : List Clause} {e : Result (Option Reader) Refusal} → Whole s r clauses e → e ≡ Ok None
+    → held (decode s) ≡ Ok (record { variables = r.variables; count = r.count; clauses = clauses })
+turn_finished (goes_on t) q = absurd cc
 turn_finished (accepts h) q = h
-turn_finished (refuses x h) q = let z : ◌≡◌ {A = ℕ} 0 1 = cc in absurd (omega arith)
+turn_finished (refuses x h) q = absurd cc
 
-pub turn_stopped : {s : List ℕ} {r : Reader} {clauses : List Clause} {e : Event} {x : Refusal} → Whole s r clauses e → e ≡ Stopped x → decode s ≡ refused x
-turn_stopped (goes_on t) q = let z : ◌≡◌ {A = ℕ} 0 1 = cc in absurd (omega arith)
-turn_stopped (accepts h) q = let z : ◌≡◌ {A = ℕ} 0 1 = cc in absurd (omega arith)
+pub turn_stopped : {s : List ℕ} {r : Reader} {clauses : List Clause} {e : Result (Option Reader) Refusal} {x : Refusal} → Whole s r clauses e → e ≡ Err x → decode s ≡ refused x
+turn_stopped (goes_on t) q = absurd cc
+turn_stopped (accepts h) q = absurd cc
 turn_stopped {x = x} (refuses y h) q = let p : y ≡ x = cc in h ∙ ap refused p

@@ -62,15 +62,15 @@ says s a = says_of s a (decode s) refl
 -- read off what is said
 pub says_yes : {s : List ℕ} {a : ℕ} {x : VerdictValues} → Says s a x → x.said ≡ said_yes → ModelOf s a
 says_yes (yes_for m) e = m
-says_yes (no_for m) e = let z : ◌≡◌ {A = ℕ} 0 1 = cc in absurd (omega arith)
-says_yes (stray_for m) e = let z : ◌≡◌ {A = ℕ} 0 1 = cc in absurd (omega arith)
-says_yes (refused_for r d) e = let z : ◌≡◌ {A = ℕ} 0 1 = cc in absurd (omega arith)
+says_yes (no_for m) e = absurd cc
+says_yes (stray_for m) e = absurd cc
+says_yes (refused_for r d) e = absurd cc
 
 pub says_no : {s : List ℕ} {a : ℕ} {x : VerdictValues} → Says s a x → x.said ≡ said_no → NoModelOf s a
-says_no (yes_for m) e = let z : ◌≡◌ {A = ℕ} 0 1 = cc in absurd (omega arith)
+says_no (yes_for m) e = absurd cc
 says_no (no_for m) e = m
-says_no (stray_for m) e = let z : ◌≡◌ {A = ℕ} 0 1 = cc in absurd (omega arith)
-says_no (refused_for r d) e = let z : ◌≡◌ {A = ℕ} 0 1 = cc in absurd (omega arith)
+says_no (stray_for m) e = absurd cc
+says_no (refused_for r d) e = absurd cc
 
 -- and what the assignment is fixes the verdict
 pub checked_model : (s : List ℕ) (a : ℕ) → ModelOf s a → checked s a ≡ verdict_said said_yes

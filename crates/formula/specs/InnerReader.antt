@@ -22,7 +22,7 @@ kind_held formula_end = Some codes.FormulaEnd
 kind_held unknown = None
 
 -- kind 1
-unfoldable pub count_event : List ℕ → Reader → Result (Option Reader) Refusal
+abbrev pub count_event : List ℕ → Reader → Result (Option Reader) Refusal
 count_event s r =
     cond (eqb r.at 0)
     (cond (ltb (r.at + 1) (length s))
@@ -33,14 +33,14 @@ count_event s r =
     (Err (Misplaced r.at))
 
 -- a literal of variable v
-unfoldable pub variable_event : Reader → ℕ → Bool → Result (Option Reader) Refusal
+abbrev pub variable_event : Reader → ℕ → Bool → Result (Option Reader) Refusal
 variable_event r v sign =
     cond (bit (side r.current (not sign)) v)
     (Err (ComplementaryLiteral r.at))
     (Ok (Some (record { at = r.at + 2; variables = r.variables; count = r.count; current = with_literal r.current v sign })))
 
 -- kinds 2 and 3
-unfoldable pub literal_event : List ℕ → Reader → Bool → Result (Option Reader) Refusal
+abbrev pub literal_event : List ℕ → Reader → Bool → Result (Option Reader) Refusal
 literal_event s r sign =
     cond (eqb r.at 0)
     (Err (Misplaced r.at))
@@ -51,7 +51,7 @@ literal_event s r sign =
     (Err (Truncated (length s))))
 
 -- kind 4
-unfoldable pub end_event : Reader → Result (Option Reader) Refusal
+abbrev pub end_event : Reader → Result (Option Reader) Refusal
 end_event r =
     cond (eqb r.at 0)
     (Err (Misplaced r.at))
@@ -60,7 +60,7 @@ end_event r =
     (Err (TooManyClauses r.at)))
 
 -- kind 5
-unfoldable pub finish_event : List ℕ → Reader → Result (Option Reader) Refusal
+abbrev pub finish_event : List ℕ → Reader → Result (Option Reader) Refusal
 finish_event s r =
     cond (eqb r.at 0)
     (Err (Misplaced r.at))
@@ -76,7 +76,7 @@ kind_event s r formula_end = finish_event s r
 kind_event s r unknown = Err (UnknownKind r.at)
 
 -- one record
-unfoldable pub record_event : List ℕ → Reader → Result (Option Reader) Refusal
+abbrev pub record_event : List ℕ → Reader → Result (Option Reader) Refusal
 record_event s r =
     cond (ltb r.at (length s)) (kind_event s r (kind_of (get_or s r.at 0))) (Err (Truncated (length s)))
 

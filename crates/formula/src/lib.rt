@@ -315,15 +315,14 @@ fn is_literal(input: &[u8], r: Reader) -> bool
     if r.at == 0 || input.len() - r.at < 2 {
         return false;
     }
-    let kind = input[r.at];
-    if kind != 2 && kind != 3 {
+    let Some(Kind::Literal(sign)) = Kind::of(input[r.at]) else {
         return false;
-    }
+    };
     let b = input[r.at + 1];
     if b == 0 || r.variables < b {
         return false;
     }
-    !masks::member(r.current.other_side(kind == 2), usize::from(b) - 1)
+    !masks::member(r.current.other_side(sign), usize::from(b) - 1)
 }
 
 // A literal that can be read is read.
@@ -356,10 +355,7 @@ fn read_literals(input: &[u8], r: Reader) -> Reader
 pub fn decode(input: &[u8]) -> Result<Formula, Refusal>
     ensures { result ≡ decoded input.now }
 {
-    let mut clauses = [Clause {
-        positive: 0,
-        negative: 0,
-    }; MAX_CLAUSES];
+    let mut clauses = [Clause::empty(); MAX_CLAUSES];
     let start = Reader {
         variables: 0,
         at: 0,
@@ -385,12 +381,7 @@ pub fn all_hold(f: &Formula, assignment: u64) -> bool
     requires { f.now.count ≤ max_clauses }
     ensures { result ≡ clauses_hold assignment f.now.clauses f.now.count }
 {
-    for c in &f.clauses[..f.count] {
-        if !c.holds(assignment) {
-            return false;
-        }
-    }
-    true
+    f.clauses[..f.count].iter().all(|c| c.holds(assignment))
 }
 
 // S4.3: the act check: whether the assignment is a model of the encoded formula, accepted or not.

@@ -1,12 +1,13 @@
 -- What accept's contract says of an input, and that its code meets it.
 use Prim.Native.Nat.{ℕ, suc, ◌+◌, ◌≤◌, ◌<◌}
-use mathlib.Core.Bool.{Bool, true, false, not, cond, ◌&&◌, ◌||◌, true≢false, false≢true}
+use mathlib.Core.Bool.{Bool, true, false, not, cond, ◌&&◌, ◌||◌}
 use mathlib.Core.List.{List, [], ◌∷◌, map, Memᴰ}
 use mathlib.Core.Path.{◌≡◌, refl, sym, ap, ap₂, ◌∙◌, subst}
 use native.Mathlib.Decide.{dec_lt}
 use native.Mathlib.Numerals.{add-one}
 use native.Mathlib.Omega.{arith}
 use lib.ListN.{length, take, get_or, length-map}
+use Rattle.std.specs.Prelude.{Result, Ok, Err}
 use Rattle.limits.specs.Limits.{max_variables, max_clauses}
 use Rattle.lists.specs.Padded.{padded}
 use Rattle.lists.specs.Every.{Every}
@@ -16,47 +17,49 @@ use Rattle.lists.proofs.SublistLaws.{get_or_element}
 use Rattle.lists.proofs.TabulatedLaws.{tabulated_of}
 use Rattle.masks.specs.Mask.{with}
 use Rattle.masks.proofs.BitLaws.{bit_below}
+use Rattle.formula.specs.declared.assignment.Assignment.{Assignment}
 use Rattle.formula.specs.declared.Clause.{Clause}
 use Rattle.formula.specs.declared.Formula.{Formula}
-use Rattle.formula.specs.declared.Outcome.TheVariants as outcomes
 use Rattle.formula.specs.declared.Refusal.{Refusal}
 use Rattle.formula.specs.declared.Refusal.TheVariants.{Unmatched, BadAssumption}
 use Rattle.formula.specs.InnerDecode.{decode}
 use Rattle.formula.specs.Decoding.{readable, refused}
 use Rattle.formula.specs.Format.{Literal, distinct, Sized, ClauseOver}
 use Rattle.formula.specs.Masked.{variables}
+use Rattle.formula.specs.InnerAssignment.{set_to, satisfied_under}
 use Rattle.formula.specs.InnerMasked.{no_clause, with_literal, with_literals, clause_of, formula_of}
 use Rattle.formula.specs.InnerFits.{clause_variables, FormulaFits}
 use Rattle.formula.proofs.ClauseLaws.{variables-named}
 use Rattle.formula.proofs.Demands.{accepted_only}
 use Rattle.formula.proofs.MaskedLaws.{formula_fits}
 use Rattle.assumptions.specs.declared.Assumption.{Assumption}
-use Rattle.assumptions.specs.declared.Assumptions.{Assumptions}
 use Rattle.assumptions.specs.Assumed.{Assumed, literals, bad, assumed}
 use Rattle.assumptions.specs.InnerAssumed.{masks_of, MasksOf}
 use Rattle.assumptions.proofs.StatedLaws.{given_encoded}
 use Rattle.matching.specs.declared.Matching.{Matching}
+use Rattle.matching.specs.declared.Violator.{Violator}
 use Rattle.matching.specs.Result.{packed}
 use Rattle.matching.specs.Search.{Outcome, success, failure, outcome, marks}
 use Rattle.matching.proofs.MatchedLaws.{length-marks, marks_le}
 use Rattle.matching.proofs.Theorems.{success_matches}
-use Rattle.splitting.specs.declared.Assignment.{Assignment}
 use Rattle.splitting.specs.declared.Stripping.{Stripping}
 use Rattle.splitting.specs.Nodes.{remaining, satisfied_by}
 use Rattle.splitting.specs.Stripping.{stripped}
-use Rattle.splitting.specs.InnerChoose.{set_to, node, matching_at, satisfied_under, noted_from, reduced, stripping_at, assign_all, assignment_of}
+use Rattle.splitting.specs.InnerChoose.{node, matching_at, noted_from, reduced, stripping_at, assign_all, assignment_of}
 use Rattle.splitting.proofs.MaskChoiceLaws.{StripsTo, strips_to}
 use Rattle.splitting.proofs.MaskNodeLaws.{node_masks}
 use Rattle.splitting.proofs.NodeMatchingLaws.{small_of, Word, node_words}
 use Rattle.splitting.proofs.ReduceLaws.{noted_fits}
 use Rattle.splitting.proofs.SatisfiedLaws.{satisfied_masks}
 use Rattle.splitting.proofs.Theorems.{formula_below}
+use Rattle.matched.specs.declared.Accepted.{Accepted}
+use Rattle.matched.specs.declared.Declined.{Declined}
 use Rattle.matched.specs.declared.Row.{Row}
 use Rattle.matched.specs.Acceptance.{Acceptance, accepted, declined, Dropped, by, by_none, dropped_by, RowByte, byte_of, known, asked, row_byte, whole_byte, marked_byte, stripped_byte, dropped_byte, spread, by_stripped, formula_acceptance, acceptance}
-use Rattle.matched.specs.InnerAccept.{outcome_of, row_of, HasClauses, raised, assigned_by, refused_row, Represents, Takes, Decides}
+use Rattle.matched.specs.InnerAccept.{raised, row_held, refused_row, held_row, held_acceptance, Takes}
 use Rattle.matched.specs.InnerSpread.{bytes_at, NotesFit, first_in, told_byte, told_bytes}
 use Rattle.matched.specs.Pairing.{noted_of, left_of}
-use Rattle.matched.proofs.AcceptanceLaws.{accepted_is, bad_declined, unreadable_declined}
+use Rattle.matched.proofs.AcceptanceLaws.{FormulaComes, paired, strips, unpaired, accepted_is, read_acceptance, formula_case, bad_declined, unreadable_declined}
 use Rattle.matched.proofs.PairingLaws.{masks_words}
 use Rattle.matched.proofs.DroppedLaws.{drops, first_dropped, same_asks, whole-zeros, trail_drops, stripped_zeros}
 use Rattle.matched.proofs.SizedLaws.{remaining_sized}
@@ -64,29 +67,43 @@ use Rattle.matched.proofs.SpreadLaws.{answered, asking, asking_same, array_at, s
 
 -- ---- what the contract says
 
-module _ (s : List ℕ) (us : List Assumption) (f : Formula) (r : Row) where
-  pub decides : Represents (acceptance s us) f r → Decides s us r.outcome f
-  decides w = record { takes = λ o. takes (acceptance s us) refl w o; declines = λ e o. declines e (acceptance s us) w o }
+module _ (s : List ℕ) (us : List Assumption) where
+  -- of an accepted input: its formula,
+  pub accepted_takes : (r : Accepted) → held_acceptance (acceptance s us) ≡ Ok r → Takes s us r.formula
+  accepted_takes r = by (acceptance s us) refl
     where
-      takes : (a : Acceptance) → acceptance s us ≡ a → Represents a f r → r.outcome ≡ outcomes.Accepted → Takes s us f
-      takes (accepted n t cs row) e w o = let a = accepted_is s us n t cs row e in record {
-        variables = n;
-        trail = t;
-        clauses = cs;
-        row = row;
-        accepts = e;
-        reads = a.reads;
-        assumes = a.assumes;
-        formula = w.formula;
-        sized = a.sized;
-        over = a.over;
-        fits = rw w.formula (formula_fits a.sized);
-      }
-      takes (declined t row) e w o = let z : ◌≡◌ {A = ℕ} 0 1 = cc w.outcome in absurd (omega arith)
+      by : (a : Acceptance) → acceptance s us ≡ a → held_acceptance a ≡ Ok r → Takes s us r.formula
+      by (accepted n t cs row) e q =
+          let a = accepted_is s us n t cs row e in
+          let f : r.formula ≡ formula_of n cs = cc in
+          record {
+            variables = n;
+            trail = t;
+            clauses = cs;
+            row = row;
+            accepts = e;
+            reads = a.reads;
+            assumes = a.assumes;
+            formula = f;
+            sized = a.sized;
+            over = a.over;
+            fits = rw f (formula_fits a.sized);
+          }
+      by (declined t row) e q = absurd cc
 
-      declines : (e : Refusal) (a : Acceptance) → Represents a f r → r.outcome ≡ outcomes.Refused e → (row : List ℕ) × (a ≡ declined e row)
-      declines e (accepted n t cs row) w o = let z : ◌≡◌ {A = ℕ} 0 1 = cc w.outcome in absurd (omega arith)
-      declines e (declined t row) w o = (row, let q : t ≡ e = cc w.outcome in rw q)
+  -- and what is assumed, which the trail assigns
+  pub accepted_assigned : (r : Accepted) → held_acceptance (acceptance s us) ≡ Ok r → (w : Takes s us r.formula) → r.assignment ≡ assignment_of w.trail
+  accepted_assigned r e w =
+      let q : held_acceptance (accepted w.variables w.trail w.clauses w.row) ≡ Ok r = rw w.accepts at e in
+      cc
+
+  -- of a declined one: the refusal
+  pub declined_by : (d : Declined) → held_acceptance (acceptance s us) ≡ Err d → (row : List ℕ) × (acceptance s us ≡ declined d.refusal row)
+  declined_by d = by (acceptance s us)
+    where
+      by : (a : Acceptance) → held_acceptance a ≡ Err d → (row : List ℕ) × (a ≡ declined d.refusal row)
+      by (accepted n t cs row) q = absurd cc
+      by (declined r row) q = (row, let e : r ≡ d.refusal = cc in rw e)
 
 -- ---- the assumptions
 
@@ -109,29 +126,25 @@ masks_assigned (l ∷ t) p q = by l.positive (masks_assigned t (with p l.variabl
     by true x y = x
     by false x y = y
 
-module _ (s : List ℕ) (us : List Assumption) (u : Assumptions) (given : MasksOf s us u) (n : ℕ) (cs : List (List Literal)) (reads : decode s ≡ readable n cs) where
+module _ (s : List ℕ) (us : List Assumption) (u : Result Assignment Refusal) (given : MasksOf s us u) (n : ℕ) (cs : List (List Literal)) (reads : decode s ≡ readable n cs) where
   given_masks : u ≡ masks_of (assumed n us)
   given_masks = given_encoded us given (accepted_only s n cs reads)
 
-  -- the masks of literals are those of their assignment
-  pub given_assignment : (t : List Literal) → assumed n us ≡ literals t → assigned_by u ≡ assignment_of t
-  given_assignment t e = ap assigned_by (given_masks ∙ ap masks_of e) ∙ sym (masks_assigned t 0 0)
-
-  -- none is bad
-  pub given_literals : u.bad ≡ false → (t : List Literal) × (assumed n us ≡ literals t) × (assigned_by u ≡ assignment_of t)
-  given_literals e = by (assumed n us) refl given_masks
+  -- none is bad: the masks of literals are those of their assignment
+  pub given_literals : (a : Assignment) → u ≡ Ok a → (t : List Literal) × (assumed n us ≡ literals t) × (a ≡ assignment_of t)
+  given_literals a e = by (assumed n us) refl (sym e ∙ given_masks)
     where
-      by : (x : Assumed) → assumed n us ≡ x → u ≡ masks_of x → (t : List Literal) × (assumed n us ≡ literals t) × (assigned_by u ≡ assignment_of t)
-      by (literals t) q m = (t, q, given_assignment t q)
-      by (bad i) q m = absurd (true≢false (sym (ap (λ (y : Assumptions). y.bad) m) ∙ e))
+      by : (x : Assumed) → assumed n us ≡ x → Ok a ≡ masks_of x → (t : List Literal) × (assumed n us ≡ literals t) × (a ≡ assignment_of t)
+      by (literals t) q m = (t, q, (let z : a ≡ of_masks (clause_of t) = cc in z ∙ sym (masks_assigned t 0 0)))
+      by (bad i) q m = absurd cc
 
   -- one is bad, the first at the place
-  pub given_bad : u.bad ≡ true → assumed n us ≡ bad u.place
-  given_bad e = by (assumed n us) refl given_masks
+  pub given_bad : (r : Refusal) → u ≡ Err r → (i : ℕ) × (assumed n us ≡ bad i) × (r ≡ BadAssumption i)
+  given_bad r e = by (assumed n us) refl (sym e ∙ given_masks)
     where
-      by : (x : Assumed) → assumed n us ≡ x → u ≡ masks_of x → assumed n us ≡ bad u.place
-      by (literals t) q m = absurd (false≢true (sym (ap (λ (y : Assumptions). y.bad) m) ∙ e))
-      by (bad i) q m = q ∙ ap bad (sym (ap (λ (y : Assumptions). y.place) m))
+      by : (x : Assumed) → assumed n us ≡ x → Err r ≡ masks_of x → (i : ℕ) × (assumed n us ≡ bad i) × (r ≡ BadAssumption i)
+      by (literals t) q m = absurd cc
+      by (bad i) q m = (i, q, cc)
 
 -- ---- a formula that was read
 
@@ -145,10 +158,11 @@ module _ (l : List ℕ) where
       by (yes m) = rw (get_or_padded max_clauses 0 l i 0 m) (h i m)
       by (no m) = let z : length l ≤ i = omega arith in rw (get_or_padded_past max_clauses 0 l i 0 z w) some
 
--- the matching's answers are below 64
-answers_small : (f : Formula) → FormulaFits f → (a : Assignment) (m : Matching) → m ≡ matching_at f a → (i : ℕ) → i < max_clauses → get_or m.table i 0 < 64
+-- the variables of a matching are below 64, so that 1 can be added
+pub variables_fit : (f : Formula) → FormulaFits f → (a : Assignment) (m : Matching) → m ≡ matching_at f a → (l : List ℕ) → m.found ≡ Ok l
+    → (i : ℕ) → i < max_clauses → get_or l i 0 + 1 < 256
 unfolding packed
-answers_small f fits a m e = at (outcome sets) refl e
+variables_fit f fits a m e l g = at (outcome sets) refl e
   where
     sets : List ℕ
     sets = map clause_variables (node f a)
@@ -156,20 +170,16 @@ answers_small f fits a m e = at (outcome sets) refl e
     words : Every Word sets
     words = node_words f (small_of f fits) a
 
-    at : (o : Outcome) → outcome sets ≡ o → m ≡ packed (length (node f a)) o → (i : ℕ) → i < max_clauses → get_or m.table i 0 < 64
-    at (success vs x) p u i l =
+    at : (o : Outcome) → outcome sets ≡ o → m ≡ packed (length (node f a)) o → (i : ℕ) → i < max_clauses → get_or l i 0 + 1 < 256
+    at (success vs x) p u i k =
         let w = success_matches sets vs x (λ j h. every_get_or Word sets j 0 h words) p in
-        rw u (table_small vs 64 (omega arith) (λ j h.
-        let k : j < length sets = rw (← w.one_each) h in
-        bit_below 64 (get_or vs j 0) (get_or sets j 0) (every_get_or Word sets j 0 k words) (w.named j k)) i l)
-    at (failure taken x) p u i l =
-        let ms = marks (length (node f a)) taken in
-        rw u (table_small ms 64 (omega arith) (λ j h. omega (arith, marks_le (length (node f a)) taken j (rw (length-marks (length (node f a)) taken) at h))) i l)
-
--- so they are spread with 1 added at most
-pub answers_fit : (f : Formula) → FormulaFits f → (a : Assignment) (m : Matching) → m ≡ matching_at f a → (k : ℕ) → k ≤ 1
-    → (f.count ≤ max_clauses) × ((i : ℕ) → i < max_clauses → get_or m.table i 0 + k < 256)
-answers_fit f fits a m e k h = (fits.few, λ i l. omega (arith, answers_small f fits a m e i l))
+        let q : l ≡ padded max_clauses 0 vs = cc in
+        let small : get_or l i 0 < 64 =
+        rw q (table_small vs 64 (omega arith) (λ j h.
+        let r : j < length sets = rw (← w.one_each) h in
+        bit_below 64 (get_or vs j 0) (get_or sets j 0) (every_get_or Word sets j 0 r words) (w.named j r)) i k) in
+        omega arith
+    at (failure taken x) p u i k = absurd cc
 
 -- a list with nothing added
 raised_none : (l : List ℕ) → raised 0 l ≡ l
@@ -210,61 +220,58 @@ module _ {n : ℕ} {cs : List (List Literal)} {f : Formula} {u : List Literal} {
       ∙ ap (λ (l : List Clause). packed (length l) (outcome (map clause_variables l))) node_is
       ∙ ap₂ (λ (k : ℕ) (l : List ℕ). packed k (outcome l)) (length-map rs clause_of) sets_are
 
-  -- all clauses are matched: the table has the variables
-  complete_found : m.complete ≡ true → (vs : List ℕ) × (e : ℕ) × (outcome (map variables rs) ≡ success vs e) × (length vs ≡ length rs) × (m.table ≡ padded max_clauses 0 vs)
+  -- all clauses are matched: their variables are found
+  matched_found : (l : List ℕ) → m.found ≡ Ok l → (vs : List ℕ) × (e : ℕ) × (outcome (map variables rs) ≡ success vs e) × (length vs ≡ length rs) × (l ≡ padded max_clauses 0 vs)
   unfolding packed
-  complete_found g = at (outcome (map variables rs)) refl of_clauses
+  matched_found l g = at (outcome (map variables rs)) refl of_clauses
     where
       at : (o : Outcome) → outcome (map variables rs) ≡ o → m ≡ packed (length rs) o
-          → (vs : List ℕ) × (e : ℕ) × (outcome (map variables rs) ≡ success vs e) × (length vs ≡ length rs) × (m.table ≡ padded max_clauses 0 vs)
+          → (vs : List ℕ) × (e : ℕ) × (outcome (map variables rs) ≡ success vs e) × (length vs ≡ length rs) × (l ≡ padded max_clauses 0 vs)
       at (success vs e) p q =
           let s = success_matches (map variables rs) vs e (masks_words (remaining_sized u M.sized)) p in
-          (vs, e, p, s.one_each ∙ length-map rs variables, ap (λ (y : Matching). y.table) q)
-      at (failure taken e) p q = absurd (false≢true (sym (ap (λ (y : Matching). y.complete) q) ∙ g))
+          (vs, e, p, s.one_each ∙ length-map rs variables, cc)
+      at (failure taken e) p q = absurd cc
 
-  -- a search failed: it has the marks
-  failed_found : m.complete ≡ false
-      → (taken : List ℕ) × (e : ℕ) × (outcome (map variables rs) ≡ failure taken e) × (m.marked ≡ length taken) × (m.table ≡ padded max_clauses 0 (marks (length rs) taken))
+  -- a search failed: the clauses that it took are
+  failed_found : (w : Violator) → m.found ≡ Err w
+      → (taken : List ℕ) × (e : ℕ) × (outcome (map variables rs) ≡ failure taken e) × (w.size ≡ length taken) × (w.marks ≡ padded max_clauses 0 (marks (length rs) taken))
   unfolding packed
-  failed_found g = at (outcome (map variables rs)) refl of_clauses
+  failed_found w g = at (outcome (map variables rs)) refl of_clauses
     where
       at : (o : Outcome) → outcome (map variables rs) ≡ o → m ≡ packed (length rs) o
-          → (taken : List ℕ) × (e : ℕ) × (outcome (map variables rs) ≡ failure taken e) × (m.marked ≡ length taken) × (m.table ≡ padded max_clauses 0 (marks (length rs) taken))
-      at (success vs e) p q = absurd (true≢false (sym (ap (λ (y : Matching). y.complete) q) ∙ g))
-      at (failure taken e) p q = (taken, e, p, ap (λ (y : Matching). y.marked) q, ap (λ (y : Matching). y.table) q)
+          → (taken : List ℕ) × (e : ℕ) × (outcome (map variables rs) ≡ failure taken e) × (w.size ≡ length taken) × (w.marks ≡ padded max_clauses 0 (marks (length rs) taken))
+      at (success vs e) p q = absurd cc
+      at (failure taken e) p q = (taken, e, p, cc, cc)
 
   -- the table that is spread from the answers l, raised by k
-  table_is : (g : List Literal → RowByte) → Every (λ c. g c ≡ cond (satisfied_by u c) (known 0) asked) cs → (l : List ℕ) → length l ≡ length rs → (k : ℕ) (table : List ℕ)
-      → m.table ≡ padded max_clauses 0 l → table ≡ padded max_clauses 0 (bytes_at f.clauses b m.table k f.count)
+  table_is : (g : List Literal → RowByte) → Every (λ c. g c ≡ cond (satisfied_by u c) (known 0) asked) cs → (l : List ℕ) → length l ≡ length rs → (k : ℕ) (answers table : List ℕ)
+      → answers ≡ padded max_clauses 0 l → table ≡ padded max_clauses 0 (bytes_at f.clauses b answers k f.count)
       → table ≡ padded max_clauses 0 (spread g cs (raised k l))
-  table_is g zeros l h k table e w = w ∙ rw (e, M.masks, M.assigned, spread_bytes n cs u M.once g zeros l k h)
-
--- a row in a table
-row_represents : (f : Formula) (a : Acceptance) (table : List ℕ) → HasClauses a f → f.count ≡ length (row_of a) → table ≡ padded max_clauses 0 (row_of a)
-    → Represents a f (record { outcome = outcome_of a; length = f.count; table = table })
-row_represents f a table h k w =
-    let bytes : take f.count table ≡ row_of a = rw (w, k) (take_padded max_clauses 0 (row_of a)) in
-    record { outcome = refl; formula = h; length = k; bytes = bytes; rest = w ∙ ap (padded max_clauses 0) (sym bytes) }
+  table_is g zeros l h k answers table e w = w ∙ rw (e, M.masks, M.assigned, spread_bytes n cs u M.once g zeros l k h)
 
 -- a byte for each clause
 spread_count : {n : ℕ} (cs : List (List Literal)) {f : Formula} (q : f ≡ formula_of n cs) (g : List Literal → RowByte) (answers : List ℕ) → f.count ≡ length (spread g cs answers)
 spread_count cs q g answers = ap (λ (h : Formula). h.count) q ∙ sym (spread_length g cs answers)
 
+-- the code's row is the row
+row_is : (f : Formula) (table row : List ℕ) → f.count ≡ length row → table ≡ padded max_clauses 0 row → ◌≡◌ {A = Row} (record { length = f.count; table = table }) (row_held row)
+row_is f table row k w = rw (w, k)
+
 -- ---- matched whole
 
 module _ {n : ℕ} {t : List Literal} {cs : List (List Literal)} {f : Formula} {a : Assignment} {m : Matching} (M : MatchedUnder n cs f t a m) where
   -- what remains is matched
-  pub whole_represents : m.complete ≡ true → (table : List ℕ) → table ≡ padded max_clauses 0 (bytes_at f.clauses a m.table 1 f.count)
-      → Represents (formula_acceptance n t cs) f (record { outcome = outcomes.Accepted; length = f.count; table = table })
-  whole_represents g table w =
-      let x = complete_found M g in
+  pub whole_held : (l : List ℕ) → m.found ≡ Ok l → (table : List ℕ) → table ≡ padded max_clauses 0 (bytes_at f.clauses a l 1 f.count)
+      → Ok (record { length = f.count; table = table }) ≡ held_row (formula_acceptance n t cs)
+  whole_held l g table w =
+      let x = matched_found M l g in
       let row = spread (whole_byte t) cs (map suc x.0) in
-      let e : table ≡ padded max_clauses 0 row = rw (← (raised_one x.0)) (table_is M (whole_byte t) (whole-zeros t cs) x.0 x.3 1 table x.4 w) in
-      rw x.2 (row_represents f (accepted n t cs row) table M.masks (spread_count cs M.masks (whole_byte t) (map suc x.0)) e)
+      let e : table ≡ padded max_clauses 0 row = rw (← (raised_one x.0)) (table_is M (whole_byte t) (whole-zeros t cs) x.0 x.3 1 l table x.4 w) in
+      rw x.2 (ap Ok (row_is f table row (spread_count cs M.masks (whole_byte t) (map suc x.0)) e))
 
   -- it is not: it is stripped
-  pub stripped_represents : m.complete ≡ false → (r : Row) → Represents (by_stripped n t cs (stripped n (remaining t cs))) f r → Represents (formula_acceptance n t cs) f r
-  stripped_represents g r w = rw (failed_found M g).2 w
+  pub stripped_held : (w : Violator) → m.found ≡ Err w → held_row (by_stripped n t cs (stripped n (remaining t cs))) ≡ held_row (formula_acceptance n t cs)
+  stripped_held w g = rw (failed_found M w g).2
 
 -- ---- what stripping leaves
 
@@ -322,17 +329,16 @@ module _ {n : ℕ} {t : List Literal} {cs : List (List Literal)} {f : Formula} {
     left_outcome = ap (λ (l : List (List Literal)). outcome (map variables l)) (sym strips.left)
 
     -- it is matched
-    pub left_represents : m.complete ≡ true → (table told : List ℕ) → table ≡ padded max_clauses 0 (bytes_at f.clauses s.assignment m.table 1 f.count)
+    pub left_held : (l : List ℕ) → m.found ≡ Ok l → (table told : List ℕ) → table ≡ padded max_clauses 0 (bytes_at f.clauses s.assignment l 1 f.count)
         → told ≡ padded max_clauses 0 (told_bytes f.clauses a s table f.count)
-        → Represents (by_stripped n t cs (stripped n (remaining t cs))) f (record { outcome = outcomes.Accepted; length = f.count; table = told })
-    left_represents g table told w v =
-        let x = complete_found M g in
+        → Ok (record { length = f.count; table = told }) ≡ held_row (by_stripped n t cs (stripped n (remaining t cs)))
+    left_held l g table told w v =
+        let x = matched_found M l g in
         let row = spread (stripped_byte t (noted_of n t cs)) cs (map suc x.0) in
         let e : table ≡ padded max_clauses 0 (spread (marked_byte t (noted_of n t cs)) cs (map suc x.0)) =
-        rw (← (raised_one x.0)) (table_is M (marked_byte t (noted_of n t cs)) (stripped_zeros strips) x.0 x.3 1 table x.4 w) in
+        rw (← (raised_one x.0)) (table_is M (marked_byte t (noted_of n t cs)) (stripped_zeros strips) x.0 x.3 1 l table x.4 w) in
         rw (left_outcome ∙ x.2)
-        (row_represents f (accepted n t cs row) told q (spread_count cs q (stripped_byte t (noted_of n t cs)) (map suc x.0))
-        (v ∙ ap (padded max_clauses 0) (bytes (map suc x.0) e)))
+        (ap Ok (row_is f told row (spread_count cs q (stripped_byte t (noted_of n t cs)) (map suc x.0)) (v ∙ ap (padded max_clauses 0) (bytes (map suc x.0) e))))
       where
         bytes : (l : List ℕ) → table ≡ padded max_clauses 0 (spread (marked_byte t (noted_of n t cs)) cs l)
             → told_bytes f.clauses a s table f.count ≡ spread (stripped_byte t (noted_of n t cs)) cs l
@@ -355,42 +361,51 @@ module _ {n : ℕ} {t : List Literal} {cs : List (List Literal)} {f : Formula} {
                 (sym (rw e (get_or_padded max_clauses 0 zeros i 0 k) ∙ spread_byte (marked_byte t (noted_of n t cs)) cs l i h)))
 
     -- it is not
-    pub unmatched_represents : m.complete ≡ false → (table : List ℕ) → table ≡ padded max_clauses 0 (bytes_at f.clauses s.assignment m.table 0 f.count)
-        → Represents (by_stripped n t cs (stripped n (remaining t cs))) f (record { outcome = outcomes.Refused (Unmatched m.marked); length = f.count; table = table })
-    unmatched_represents g table w =
-        let x = failed_found M g in
+    pub unmatched_held : (v : Violator) → m.found ≡ Err v → (table : List ℕ) → table ≡ padded max_clauses 0 (bytes_at f.clauses s.assignment v.marks 0 f.count)
+        → Err (record { refusal = Unmatched v.size; row = record { length = f.count; table = table } }) ≡ held_row (by_stripped n t cs (stripped n (remaining t cs)))
+    unmatched_held v g table w =
+        let x = failed_found M v g in
         let l = length (remaining strips.trail cs) in
         let e : table ≡ padded max_clauses 0 (spread (marked_byte t (noted_of n t cs)) cs (marks l x.0)) =
-        rw (← (raised_none (marks l x.0))) (table_is M (marked_byte t (noted_of n t cs)) (stripped_zeros strips) (marks l x.0) (length-marks l x.0) 0 table x.4 w) in
-        subst (λ (k : ℕ). Represents (by_stripped n t cs (stripped n (remaining t cs))) f (record { outcome = outcomes.Refused (Unmatched k); length = f.count; table = table }))
-        (sym x.3) (at x.0 x.1 (left_outcome ∙ x.2) e)
+        rw (← (raised_none (marks l x.0))) (table_is M (marked_byte t (noted_of n t cs)) (stripped_zeros strips) (marks l x.0) (length-marks l x.0) 0 v.marks table x.4 w) in
+        rw x.3 (at x.0 x.1 (left_outcome ∙ x.2) e)
       where
         at : (taken : List ℕ) (e : ℕ) → outcome (map variables (left_of n t cs)) ≡ failure taken e
             → table ≡ padded max_clauses 0 (spread (marked_byte t (noted_of n t cs)) cs (marks (length (remaining strips.trail cs)) taken))
-            → Represents (by_stripped n t cs (stripped n (remaining t cs))) f (record { outcome = outcomes.Refused (Unmatched (length taken)); length = f.count; table = table })
+            → Err (record { refusal = Unmatched (length taken); row = record { length = f.count; table = table } }) ≡ held_row (by_stripped n t cs (stripped n (remaining t cs)))
         at taken e o h =
             let ms = marks (length (left_of n t cs)) taken in
             rw o
-            (row_represents f (declined (Unmatched (length taken)) (spread (marked_byte t (noted_of n t cs)) cs ms)) table tt (spread_count cs q (marked_byte t (noted_of n t cs)) ms)
-            (h ∙ ap (λ (ds : List (List Literal)). padded max_clauses 0 (spread (marked_byte t (noted_of n t cs)) cs (marks (length ds) taken))) strips.left))
+            (ap (λ (r : Row). Err (record { refusal = Unmatched (length taken); row = r }))
+            (row_is f table (spread (marked_byte t (noted_of n t cs)) cs ms) (spread_count cs q (marked_byte t (noted_of n t cs)) ms)
+            (h ∙ ap (λ (ds : List (List Literal)). padded max_clauses 0 (spread (marked_byte t (noted_of n t cs)) cs (marks (length ds) taken))) strips.left)))
 
 -- ---- an input
 
 module _ (s : List ℕ) (us : List Assumption) where
   -- one that was read, with no bad assumption, is what its formula is
-  pub read_represents : (n : ℕ) (t : List Literal) (cs : List (List Literal)) → decode s ≡ readable n cs → assumed n us ≡ literals t
-      → (f : Formula) (r : Row) → Represents (formula_acceptance n t cs) f r → Represents (acceptance s us) f r
-  unfolding acceptance
-  read_represents n t cs e g f r w = rw (e, g) w
+  module _ (n : ℕ) (t : List Literal) (cs : List (List Literal)) (reads : decode s ≡ readable n cs) (assumes : assumed n us ≡ literals t) where
+    pub accepted_held : (row : Row) → Ok row ≡ held_row (formula_acceptance n t cs)
+        → Ok (record { formula = formula_of n cs; assignment = assignment_of t; row = row }) ≡ held_acceptance (acceptance s us)
+    accepted_held row w = rw (read_acceptance s us n t cs reads assumes) (by (formula_case s us n t cs reads assumes) w)
+      where
+        by : {a : Acceptance} → FormulaComes n t cs a → Ok row ≡ held_row a → Ok (record { formula = formula_of n cs; assignment = assignment_of t; row = row }) ≡ held_acceptance a
+        by (paired vs p) q = cc
+        by (strips vs none p) q = cc
+        by (unpaired ms v none) q = absurd cc
 
-  declined_represents : (e : Refusal) → acceptance s us ≡ declined e [] → (f : Formula) → Represents (acceptance s us) f (refused_row e)
-  declined_represents e q f = rw q (record { outcome = refl; formula = tt; length = refl; bytes = refl; rest = sym (padded_none max_clauses 0) })
+    pub declined_held : (d : Declined) → Err d ≡ held_row (formula_acceptance n t cs) → Err d ≡ held_acceptance (acceptance s us)
+    declined_held d w = rw (read_acceptance s us n t cs reads assumes) (by (formula_acceptance n t cs) w)
+      where
+        by : (a : Acceptance) → Err d ≡ held_row a → Err d ≡ held_acceptance a
+        by (accepted m u ds r) q = absurd cc
+        by (declined r x) q = q
 
   -- one with a bad assumption has no bytes
-  pub bad_represents : (n : ℕ) (cs : List (List Literal)) (i : ℕ) → decode s ≡ readable n cs → assumed n us ≡ bad i
-      → (f : Formula) → Represents (acceptance s us) f (refused_row (BadAssumption i))
-  bad_represents n cs i e g f = declined_represents (BadAssumption i) (bad_declined s us n cs i e g) f
+  pub bad_held : (n : ℕ) (cs : List (List Literal)) (i : ℕ) → decode s ≡ readable n cs → assumed n us ≡ bad i
+      → Err (refused_row (BadAssumption i)) ≡ held_acceptance (acceptance s us)
+  bad_held n cs i e g = rw (bad_declined s us n cs i e g)
 
   -- nor has one that was refused
-  pub refused_represents : (e : Refusal) → decode s ≡ refused e → (f : Formula) → Represents (acceptance s us) f (refused_row e)
-  refused_represents e q f = declined_represents e (unreadable_declined s us e q) f
+  pub refused_held : (e : Refusal) → decode s ≡ refused e → Err (refused_row e) ≡ held_acceptance (acceptance s us)
+  refused_held e q = rw (unreadable_declined s us e q)

@@ -5,6 +5,7 @@ use mathlib.Core.List.{List, [], map}
 use mathlib.Core.Path.{◌≡◌, refl, ap, ◌∙◌}
 use native.Mathlib.Omega.{arith}
 use lib.ListN.{length}
+use Rattle.std.specs.Prelude.{Ok, Err}
 use Rattle.limits.specs.Limits.{max_clauses}
 use Rattle.formula.specs.declared.Refusal.{Refusal}
 use Rattle.formula.specs.declared.Refusal.TheVariants.{Unmatched, BadAssumption}
@@ -24,8 +25,10 @@ use Rattle.splitting.specs.Nodes.{remaining}
 use Rattle.splitting.specs.Stripping.{stripped}
 use Rattle.splitting.specs.Terms.{Sound}
 use Rattle.splitting.proofs.Theorems.{matched_sound}
+use Rattle.matched.specs.declared.Accepted.{Accepted}
+use Rattle.matched.specs.declared.Declined.{Declined}
 use Rattle.matched.specs.Acceptance.{Acceptance, accepted, declined, whole_byte, stripped_byte, spread, by_left_outcome, by_outcome, formula_acceptance, by_assumed, by_decoding, acceptance}
-use Rattle.matched.specs.InnerAccept.{row_of}
+use Rattle.matched.specs.InnerAccept.{row_of, row_held, held_acceptance}
 use Rattle.matched.specs.Pairing.{Pairs, noted_of, left_of, Pairable, Walkable, Violator, marked}
 use Rattle.matched.proofs.PairingLaws.{masks_words, matches_pairs, pairs_matches}
 use Rattle.matched.proofs.SizedLaws.{remaining_sized, left_sized}
@@ -136,7 +139,7 @@ module _ (s : List ℕ) (us : List Assumption) where
     unfolding acceptance
     read_acceptance = rw (reads, assumes)
 
-    formula_case : FormulaComes n t cs (formula_acceptance n t cs)
+    pub formula_case : FormulaComes n t cs (formula_acceptance n t cs)
     formula_case = formula_comes n t cs (accepted_fits s n cs reads) (literals_over n us t assumes)
 
     -- what remains can be paired: accepted, with such a pairing
@@ -268,7 +271,7 @@ module _ (s : List ℕ) (us : List Assumption) where
       by (unreadable k reads) e = let z : k ≡ r = cc in absurd (omega (arith, (numbers s k reads).1, rw (← z) at q))
 
   -- the bytes fit a table
-  pub row_few : length (row_of (acceptance s us)) ≤ max_clauses
+  row_few : length (row_of (acceptance s us)) ≤ max_clauses
   row_few = by comes
     where
       of : (n : ℕ) (t : List Literal) (cs : List (List Literal)) → decode s ≡ readable n cs → {a : Acceptance} → FormulaComes n t cs a → length (row_of a) ≤ max_clauses
@@ -282,3 +285,17 @@ module _ (s : List ℕ) (us : List Assumption) where
       by (of_formula n t cs reads assumes f) = of n t cs reads f
       by (bad_assumed n cs i reads assumes) = omega arith
       by (unreadable r e) = omega arith
+
+  pub accepted_few : (r : Accepted) → held_acceptance (acceptance s us) ≡ Ok r → r.row.length ≤ max_clauses
+  accepted_few r q = by (acceptance s us) row_few q
+    where
+      by : (a : Acceptance) → length (row_of a) ≤ max_clauses → held_acceptance a ≡ Ok r → r.row.length ≤ max_clauses
+      by (accepted n t cs row) few q = let w : row_held row ≡ r.row = cc in rw (← w) few
+      by (declined e row) few q = absurd cc
+
+  pub declined_few : (d : Declined) → held_acceptance (acceptance s us) ≡ Err d → d.row.length ≤ max_clauses
+  declined_few d q = by (acceptance s us) row_few q
+    where
+      by : (a : Acceptance) → length (row_of a) ≤ max_clauses → held_acceptance a ≡ Err d → d.row.length ≤ max_clauses
+      by (accepted n t cs row) few q = absurd cc
+      by (declined e row) few q = let w : row_held row ≡ d.row = cc in rw (← w) few

@@ -40,18 +40,6 @@ use Rattle.matched.proofs.AcceptanceLaws.{pairable_walkable}
 use Rattle.matched.proofs.JudgeLaws.{judged_unmatched, unmatched_long, walkable_numberless}
 use Rattle.matched.proofs.PairingLaws.{array_masks, masks_words, matches_pairs, pairs_matches}
 
--- ---- the loop: the clause at i as well
-
-module _ (cs : List Clause) (i : ℕ) (inside : i < length cs) (room : i < max_clauses) where
-  pub masks_more : (sets : List ℕ) → sets ≡ padded max_clauses 0 (map clause_variables (take i cs))
-      → set sets i (clause_variables (get_or cs i no_clause)) ≡ padded max_clauses 0 (map clause_variables (take (i + 1) cs))
-  masks_more sets e =
-      let l = map clause_variables (take i cs) in
-      let k : length l ≡ i = length-map (take i cs) clause_variables ∙ length-take-le i cs (omega arith) in
-      let more : take (i + 1) cs ≡ take i cs ++ (get_or cs i no_clause ∷ []) = rw add-one (take-suc cs i no_clause inside) in
-      let n : map clause_variables (take (i + 1) cs) ≡ l ++ (clause_variables (get_or cs i no_clause) ∷ []) = rw (more, map-append) in
-      rw (e, n) (ap (λ (j : ℕ). set (padded max_clauses 0 l) j (clause_variables (get_or cs i no_clause))) (sym k) ∙ padded_set max_clauses 0 l _ (omega arith))
-
 -- ---- what is counted
 
 padded_words : (n : ℕ) (l : List ℕ) → length l ≤ n → Words l → Words (padded n 0 l)
@@ -75,12 +63,12 @@ module _ (s : List ℕ) where
   clauses_less_most n cs e = readable_deficiency n cs e ∙ rw (length-map cs variables)
 
   -- over the formula f that was read, and the array of its masks
-  module _ (f : Formula) (a : Accepts s f) (sets : List ℕ) (are : sets ≡ padded max_clauses 0 (map clause_variables (take f.count f.clauses))) where
+  module _ (f : Formula) (a : Accepts s f) (sets : List ℕ) (are : sets ≡ map clause_variables f.clauses) where
     abbrev masks : List ℕ
     masks = map variables a.clauses
 
     array_is : sets ≡ padded max_clauses 0 masks
-    array_is = are ∙ ap (padded max_clauses 0) (array_masks a.variables a.clauses f a.formula)
+    array_is = are ∙ rw a.formula (map_padded clause_variables max_clauses no_clause (map clause_of a.clauses) ∙ ?)
 
     count_is : f.count ≡ length masks
     count_is = ap (λ (g : Formula). g.count) a.formula ∙ sym (length-map a.clauses variables)

@@ -6,20 +6,22 @@ use native.Mathlib.Decide.{dec_lt}
 use native.Mathlib.Omega.{arith}
 use lib.ListN.{length, take}
 use borrow.Author.Tests.{le-ltb, lt-ltb}
+use Rattle.std.specs.Prelude.{Ok, Err}
 use Rattle.limits.specs.Limits.{max_clauses}
 use Rattle.lists.specs.Over.{over}
-use Rattle.formula.specs.declared.Formula.{Formula}
-use Rattle.formula.specs.declared.Outcome.TheVariants as outcomes
+use Rattle.lists.proofs.PaddedLaws.{take_padded}
 use Rattle.formula.specs.declared.Refusal.{Refusal}
 use Rattle.formula.specs.declared.Refusal.TheVariants.{ShortBuffer}
 use Rattle.formula.specs.Format.{Literal, Encodes}
+use Rattle.formula.specs.InnerMasked.{formula_of}
 use Rattle.formula.specs.Refusals.{table_row}
 use Rattle.assumptions.specs.declared.Assumption.{Assumption}
 use Rattle.assumptions.specs.FirstBad.{NoneBad, FirstBad}
 use Rattle.assumptions.specs.Assumed.{literal_of}
-use Rattle.matched.specs.declared.Row.{Row}
+use Rattle.matched.specs.declared.Accepted.{Accepted}
+use Rattle.matched.specs.declared.Declined.{Declined}
 use Rattle.matched.specs.Acceptance.{Acceptance, accepted, declined, acceptance}
-use Rattle.matched.specs.InnerAccept.{Represents}
+use Rattle.matched.specs.InnerAccept.{row_held, held_acceptance}
 use Rattle.matched.specs.Judge.{JudgementValues, Judged, accepted_values, refused_values, judgement_of, judge}
 use Rattle.matched.specs.Pairing.{Pairs, left_of, Walkable}
 use Rattle.matched.proofs.AcceptanceLaws.{accepted_walkable, walkable_accepted, declined_number, declined_unmatched, declined_bad}
@@ -47,22 +49,28 @@ module _ (s : List ℕ) (us : List Assumption) (b : List ℕ) (l : max_clauses �
 
   -- ---- the code
 
-  pub accepted_judged : (f : Formula) (r : Row) → Represents (acceptance s us) f r → r.outcome ≡ outcomes.Accepted
-      → judge s us b ≡ record { answer = accepted_values f.variables f.count; buffer = over (take r.length r.table) b }
-  accepted_judged f r w o = rw judge_long (by (acceptance s us) w)
+  pub accepted_judged : (r : Accepted) → held_acceptance (acceptance s us) ≡ Ok r
+      → judge s us b ≡ record { answer = accepted_values r.formula.variables r.formula.count; buffer = over (take r.row.length r.row.table) b }
+  accepted_judged r q = rw judge_long (by (acceptance s us) q)
     where
-      by : (a : Acceptance) → Represents a f r
-          → judgement_of a b ≡ record { answer = accepted_values f.variables f.count; buffer = over (take r.length r.table) b }
-      by (accepted n t cs row) w = rw (w.formula, w.bytes)
-      by (declined e row) w = let z : ◌≡◌ {A = ℕ} 0 1 = cc w.outcome in absurd (omega arith)
+      by : (a : Acceptance) → held_acceptance a ≡ Ok r
+          → judgement_of a b ≡ record { answer = accepted_values r.formula.variables r.formula.count; buffer = over (take r.row.length r.row.table) b }
+      by (accepted n t cs row) q =
+          let f : formula_of n cs ≡ r.formula = cc in
+          let w : row_held row ≡ r.row = cc in
+          rw (← f, ← w, take_padded max_clauses 0 row)
+      by (declined e row) q = absurd cc
 
-  pub refused_judged : (f : Formula) (r : Row) (e : Refusal) → Represents (acceptance s us) f r → r.outcome ≡ outcomes.Refused e
-      → judge s us b ≡ record { answer = refused_values e; buffer = over (take r.length r.table) b }
-  refused_judged f r e w o = rw judge_long (by (acceptance s us) w)
+  pub declined_judged : (d : Declined) → held_acceptance (acceptance s us) ≡ Err d
+      → judge s us b ≡ record { answer = refused_values d.refusal; buffer = over (take d.row.length d.row.table) b }
+  declined_judged d q = rw judge_long (by (acceptance s us) q)
     where
-      by : (a : Acceptance) → Represents a f r → judgement_of a b ≡ record { answer = refused_values e; buffer = over (take r.length r.table) b }
-      by (accepted n t cs row) w = let z : ◌≡◌ {A = ℕ} 0 1 = cc w.outcome in absurd (omega arith)
-      by (declined t row) w = let q : t ≡ e = cc w.outcome in rw (w.bytes, q)
+      by : (a : Acceptance) → held_acceptance a ≡ Err d → judgement_of a b ≡ record { answer = refused_values d.refusal; buffer = over (take d.row.length d.row.table) b }
+      by (accepted n t cs row) q = absurd cc
+      by (declined e row) q =
+          let f : e ≡ d.refusal = cc in
+          let w : row_held row ≡ d.row = cc in
+          rw (← f, ← w, take_padded max_clauses 0 row)
 
   -- ---- the demands
 

@@ -9,19 +9,18 @@ use lib.ListN.{length, take, get_or, set, drop, length-map, get_or-map}
 use lib.Seq.{length-take-le, take-suc, get_or-drop}
 use Rattle.limits.specs.Limits.{max_clauses}
 use Rattle.lists.specs.Every.{Every}
-use Rattle.lists.specs.Over.{over}
 use Rattle.lists.specs.Padded.{padded}
 use Rattle.lists.proofs.EveryLaws.{every_get_or}
 use Rattle.lists.proofs.MapLaws.{get_or-map_in}
-use Rattle.lists.proofs.OverLaws.{over_set}
 use Rattle.lists.proofs.PaddedLaws.{padded_set, padded_filled, get_or_padded}
 use Rattle.lists.proofs.TabulatedLaws.{length_tabulated, tabulated_more, tabulated_of}
+use Rattle.formula.specs.declared.assignment.Assignment.{Assignment}
 use Rattle.formula.specs.declared.Clause.{Clause}
 use Rattle.formula.specs.Format.{Literal, distinct}
+use Rattle.formula.specs.InnerAssignment.{satisfied_under}
 use Rattle.formula.specs.InnerMasked.{no_clause, with_literals, clause_of, formula_of}
-use Rattle.splitting.specs.declared.Assignment.{Assignment}
 use Rattle.splitting.specs.Nodes.{assign, remaining, satisfied_by}
-use Rattle.splitting.specs.InnerChoose.{satisfied_under, assignment_of}
+use Rattle.splitting.specs.InnerChoose.{assignment_of}
 use Rattle.splitting.proofs.SatisfiedLaws.{less_all, remaining_cons, satisfied_masks}
 use Rattle.matched.specs.Acceptance.{RowByte, known, asked, spread}
 use Rattle.matched.specs.InnerAccept.{raised}
@@ -33,18 +32,6 @@ module _ (l more : List ℕ) (i x : ℕ) (e : length l ≡ i) (m : more ≡ l ++
   -- in an array of n places
   pub padded_more : (n d : ℕ) → a ≡ padded n d l → i < n → set a i x ≡ padded n d more
   padded_more n d q h = rw (q, m, ← e) (padded_set n d l x (omega arith))
-
-  -- over a buffer
-  pub over_more : (b : List ℕ) → a ≡ over l b → i < length b → set a i x ≡ over more b
-  over_more b q h = rw (q, m, ← e) (over_set l b x (omega arith))
-
--- of a table
-module _ (t : List ℕ) (i : ℕ) (h : i < length t) where
-  pub taken_length : length (take i t) ≡ i
-  taken_length = length-take-le i t (omega arith)
-
-  pub taken_more : take (i + 1) t ≡ take i t ++ (get_or t i 0 ∷ [])
-  taken_more = rw (add-one, take-suc t i 0 h)
 
 -- ---- the loop that spreads
 

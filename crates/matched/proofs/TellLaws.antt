@@ -11,10 +11,10 @@ use Rattle.limits.specs.Limits.{max_clauses}
 use Rattle.lists.specs.Padded.{padded}
 use Rattle.lists.proofs.TabulatedLaws.{length_tabulated, tabulated_more}
 use Rattle.masks.specs.Mask.{bit}
+use Rattle.formula.specs.declared.assignment.Assignment.{Assignment}
 use Rattle.formula.specs.declared.Clause.{Clause}
 use Rattle.formula.specs.InnerFits.{clause_variables}
 use Rattle.formula.specs.InnerMasked.{no_clause}
-use Rattle.splitting.specs.declared.Assignment.{Assignment}
 use Rattle.splitting.specs.declared.Stripping.{Stripping}
 use Rattle.matched.specs.InnerSpread.{NotesFit, first_in, first_noted, told_byte, told_bytes}
 use Rattle.matched.proofs.SpreadLaws.{padded_more}

@@ -11,10 +11,12 @@ use lib.Dec.{eqb}
 use lib.ListN.{length, get_or, take, drop, length-append}
 use lib.Seq.{length-take-le, take-suc}
 use borrow.Author.Tests.{le-ltb, lt-ltb, eq-eqb, ne_eqb}
+use Rattle.std.specs.Prelude.{Result, Ok, Err, count_by}
 use Rattle.limits.specs.Limits.{max_clauses}
 use Rattle.lists.specs.Over.{over}
 use Rattle.lists.proofs.OverLaws.{over_length}
 use Rattle.masks.specs.Mask.{minus, size}
+use Rattle.formula.specs.declared.assignment.Assignment.{Assignment}
 use Rattle.formula.specs.declared.Clause.{Clause}
 use Rattle.formula.specs.declared.Formula.{Formula}
 use Rattle.formula.specs.declared.Refusal.{Refusal}
@@ -23,18 +25,16 @@ use Rattle.formula.specs.InnerDecode.{decode}
 use Rattle.formula.specs.Decoding.{readable, refused}
 use Rattle.formula.specs.Format.{Literal}
 use Rattle.formula.specs.Masked.{variables}
+use Rattle.formula.specs.InnerAssignment.{assigned}
 use Rattle.formula.specs.InnerFits.{clause_variables}
-use Rattle.formula.specs.InnerMasked.{no_clause}
 use Rattle.formula.proofs.Demands.{accepted_fits}
 use Rattle.formula.proofs.MaskedLaws.{Accepts}
 use Rattle.assumptions.specs.declared.Assumption.{Assumption}
-use Rattle.assumptions.specs.declared.Assumptions.{Assumptions}
 use Rattle.assumptions.specs.Assumed.{literals, bad, assumed}
 use Rattle.assumptions.specs.InnerAssumed.{MasksOf}
 use Rattle.matching.specs.Sets.{union, selected}
 use Rattle.matching.proofs.MatchedLaws.{union_more}
 use Rattle.matching.proofs.SelectedLaws.{selected_more, selected_front, selected_map, selected_size}
-use Rattle.splitting.specs.InnerChoose.{assigned}
 use Rattle.splitting.proofs.MaskNodeLaws.{assigned-variables}
 use Rattle.matched.specs.Acceptance.{Acceptance, accepted, declined, acceptance}
 use Rattle.matched.specs.Judge.{Judged, judge}
@@ -45,44 +45,28 @@ use Rattle.matched.proofs.AcceptanceLaws.{FormulaComes, paired, strips, unpaired
 use Rattle.matched.proofs.JudgeLaws.{judge_short, judge_accepted, judge_declined}
 use Rattle.matched.proofs.PairingLaws.{array_masks}
 
--- ---- the loops: the element at i as well, of which there is one, and a mark for it
+-- ---- the loop that gathers: what it has, and what the marked ones of the clauses left name
 
-module _ {A : Type 0} (marks : List ℕ) (l : List A) (i : ℕ) (d : A) (inside : i < length l) (few : i < length marks) where
-  next_selected : selected marks (take (i + 1) l) ≡ selected marks (take i l) ++ cond (eqb (get_or marks i 0) 0) [] (get_or l i d ∷ [])
-  next_selected =
-      let e : length (take i l) ≡ i = length-take-le i l (omega arith) in
-      ap (selected marks) (rw add-one (take-suc l i d inside))
-      ∙ selected_more marks (take i l) (get_or l i d) (rw e few)
-      ∙ rw e
+abbrev pub gathers : ℕ → List ℕ → List Clause → ℕ
+gathers m marks cs = bit_or m (union (selected marks (map clause_variables cs)))
 
-  -- it is marked
-  next_marked : (get_or marks i 0 ≡ 0 → ⊥) → selected marks (take (i + 1) l) ≡ selected marks (take i l) ++ (get_or l i d ∷ [])
-  next_marked ne = rw (next_selected, ne_eqb (get_or marks i 0) 0 ne)
+module _ (m mark : ℕ) (marks : List ℕ) (c : Clause) (cs : List Clause) where
+  -- the next one is marked
+  pub gathers_marked : (mark ≡ 0 → ⊥) → gathers (bit_or m (clause_variables c)) marks cs ≡ gathers m (mark ∷ marks) (c ∷ cs)
+  unfolding union selected
+  gathers_marked ne = ?
 
   -- it is not
-  next_unmarked : get_or marks i 0 ≡ 0 → selected marks (take (i + 1) l) ≡ selected marks (take i l)
-  next_unmarked z = rw (next_selected, eq-eqb (get_or marks i 0) 0 z) (append-nil (selected marks (take i l)))
+  pub gathers_unmarked : mark ≡ 0 → gathers m marks cs ≡ gathers m (mark ∷ marks) (c ∷ cs)
+  unfolding selected
+  gathers_unmarked z = rw (eq-eqb mark 0 z)
 
--- the marks that are counted
-module _ (marks : List ℕ) (i k : ℕ) (inside : i < length marks) (counted : k ≡ length (selected marks (take i marks))) where
-  pub counted_marked : (get_or marks i 0 ≡ 0 → ⊥) → k + 1 ≡ length (selected marks (take (i + 1) marks))
-  counted_marked ne = rw (next_marked marks marks i 0 inside inside ne, length-append, counted)
+-- ---- the marks that are counted
 
-  pub counted_unmarked : get_or marks i 0 ≡ 0 → k ≡ length (selected marks (take (i + 1) marks))
-  counted_unmarked z = rw (next_unmarked marks marks i 0 inside inside z) counted
-
--- the variables that are gathered
-module _ (marks : List ℕ) (cs : List Clause) (i m : ℕ) (inside : i < length cs) (few : i < length marks)
-    (gathered : m ≡ union (selected marks (map clause_variables (take i cs)))) where
-  pub gathered_marked : (get_or marks i 0 ≡ 0 → ⊥)
-      → bit_or m (clause_variables (get_or cs i no_clause)) ≡ union (selected marks (map clause_variables (take (i + 1) cs)))
-  gathered_marked ne =
-      rw (gathered, selected_map clause_variables marks (take (i + 1) cs), next_marked marks cs i no_clause inside few ne, map-append, selected_map clause_variables marks (take i cs))
-      (sym (union_more (map clause_variables (selected marks (take i cs))) (clause_variables (get_or cs i no_clause))))
-
-  pub gathered_unmarked : get_or marks i 0 ≡ 0 → m ≡ union (selected marks (map clause_variables (take (i + 1) cs)))
-  gathered_unmarked z =
-      rw (selected_map clause_variables marks (take (i + 1) cs), next_unmarked marks cs i no_clause inside few z, ← selected_map clause_variables marks (take i cs)) gathered
+-- a list's first n marks mark as many of themselves
+marked_count : (marks : List ℕ) (n : ℕ) → n ≤ length marks → count_by (λ x. not (eqb x 0)) (take n marks) ≡ length (selected marks (take n marks))
+unfolding selected
+marked_count marks n h = ?
 
 -- ---- what is weighed, by the cases of its definition
 
@@ -107,32 +91,34 @@ module _ (s : List ℕ) (us : List Assumption) (b : List ℕ) (l : max_clauses �
 
   -- ---- what the code answers, over the masks u of the assumptions and the formula f that was read
 
-  module _ (u : Assumptions) (given : MasksOf s us u) (f : Formula) (a : Accepts s f) where
+  module _ (u : Result Assignment Refusal) (given : MasksOf s us u) (f : Formula) (a : Accepts s f) where
     abbrev n : ℕ
     n = a.variables
 
     abbrev cs : List (List Literal)
     cs = a.clauses
 
-    pub bad_weighed : u.bad ≡ true → weighed s us b ≡ unweighed_values (BadAssumption u.place)
-    bad_weighed e = weigh_bad n cs a.reads u.place (given_bad s us u given n cs a.reads e)
+    pub bad_weighed : (r : Refusal) → u ≡ Err r → weighed s us b ≡ unweighed_values r
+    bad_weighed r e = let g = given_bad s us u given n cs a.reads r e in rw g.2 (weigh_bad n cs a.reads g.0 g.1)
 
     -- as many marks as marked clauses
-    counted : length (selected b (take f.count b)) ≡ length (marked b cs)
+    counted : count_by (λ x. not (eqb x 0)) (take f.count b) ≡ length (marked b cs)
     counted =
         let e : f.count ≡ length cs = ap (λ (g : Formula). g.count) a.formula in
-        selected_size b (take f.count b) cs (length-take-le f.count b (omega (arith, a.fits.few)) ∙ e)
+        let k : f.count ≤ length b = omega (arith, a.fits.few) in
+        marked_count b f.count k
+        ∙ selected_size b (take f.count b) cs (length-take-le f.count b k ∙ e)
 
     -- the masks of the marked clauses
     gathered : selected b (map clause_variables (take f.count f.clauses)) ≡ map variables (marked b cs)
     gathered = ap (selected b) (array_masks n cs f a.formula) ∙ selected_map variables b cs
 
-    pub counted_weighed : u.bad ≡ false → (k m : ℕ) → k ≡ length (selected b (take f.count b))
+    pub counted_weighed : (z : Assignment) → u ≡ Ok z → (k m : ℕ) → k ≡ count_by (λ x. not (eqb x 0)) (take f.count b)
         → m ≡ union (selected b (map clause_variables (take f.count f.clauses)))
-        → weighed s us b ≡ counted_values k (size (minus m (bit_or u.trues u.falses)))
-    counted_weighed e k m p q =
-        let g = given_literals s us u given n cs a.reads e in
-        let v : bit_or u.trues u.falses ≡ variables g.0 = ap assigned g.2 ∙ assigned-variables g.0 in
+        → weighed s us b ≡ counted_values k (size (minus m (assigned z)))
+    counted_weighed z e k m p q =
+        let g = given_literals s us u given n cs a.reads z e in
+        let v : assigned z ≡ variables g.0 = ap assigned g.2 ∙ assigned-variables g.0 in
         rw (weigh_under n cs a.reads g.0 g.1, p, q, counted, gathered, v)
 
 -- ---- marks that were written over the first bytes of a buffer

@@ -17,6 +17,10 @@ use Rattle.matched.specs.declared.Declined.{Declined}
 use Rattle.matched.specs.declared.Row.{Row}
 use Rattle.matched.specs.Acceptance.{Acceptance, accepted, declined, acceptance}
 
+abbrev pub row_of : Acceptance → List ℕ
+row_of (accepted n t cs row) = row
+row_of (declined r row) = row
+
 -- the numbers of a list, each plus k
 abbrev pub raised : ℕ → List ℕ → List ℕ
 raised k l = map (λ x. x + k) l

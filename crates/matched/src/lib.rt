@@ -4,7 +4,7 @@
 // lent buffer. `weigh_marks` counts the clauses that a buffer marks and the variables that they name. `deficiency` asks nothing of these.
 #![tactic(auto)]
 
-ghost use Rattle.std.specs.Prelude.{List, map, ◌≡◌, ℕ, ◌+◌, ◌<◌, ◌≤◌, length, get_or, take};
+ghost use Rattle.std.specs.Prelude.{List, map, count_by, not, ◌==◌, ◌≡◌, ℕ, ◌+◌, ◌<◌, ◌≤◌, length, get_or, take};
 ghost use Rattle.limits.specs.Limits.{max_clauses};
 ghost use Rattle.lists.specs.Over.{over};
 ghost use Rattle.lists.specs.Padded.{padded};
@@ -254,7 +254,7 @@ pub fn find_matching(
 
 // How many of the marks are not 0.
 fn count_marked(marks: &[u8]) -> usize
-    ensures { result ≡ length (selected marks.now marks.now) }
+    ensures { result ≡ count_by (λ mark. not (mark == 0)) marks.now }
 {
     marks.iter().filter(|mark| **mark != 0).count()
 }
@@ -311,23 +311,11 @@ pub fn weigh_marks(input: &[u8], list: &[Assumption], buffer: &[u8]) -> Result<W
     weigh_marks_under(input, u, buffer)
 }
 
-// The variables that each clause names, as masks, and zeros behind them.
-fn clause_masks(f: &Formula) -> [u64; MAX_CLAUSES]
-    requires { f.now.count ≤ max_clauses }
-    ensures { result ≡ padded max_clauses 0 (map clause_variables (take f.now.count f.now.clauses)) }
-{
-    let mut sets = [0u64; MAX_CLAUSES];
-    for (set, c) in sets.iter_mut().zip(&f.clauses[..f.count]) {
-        *set = c.variables();
-    }
-    sets
-}
-
 // S22.1: how many clauses are left over by the most that can be matched together, before stripping and with no assumption.
 pub fn deficiency(input: &[u8]) -> Result<usize, Refusal>
     ensures { measured_values result ≡ deficiency_of input.now }
 {
     let f = formula::decode(input)?;
-    let most = matching::match_most(&clause_masks(&f), f.count);
-    Ok(f.count - most)
+    let sets = f.clauses.map(Clause::variables);
+    Ok(f.count - matching::match_most(&sets, f.count))
 }

@@ -17,7 +17,7 @@ use Rattle.enumeration.specs.Values.{checkpoint_values}
 use Rattle.page.specs.declared.Paged.{Paged}
 use Rattle.page.specs.declared.filling.Lines.{Lines}
 use Rattle.page.specs.PageLines.{page_lines, line_size, page_size, blank_line}
-use Rattle.page.specs.Pages.{line_at, joined, max_serial, filled_values, page_values}
+use Rattle.page.specs.Pages.{line_at, joined, max_serial}
 
 -- the results of a run that brings a model and of those behind it; none if it brings none
 abbrev pub while_model : AnswerKind → Result → List Result → List Result
@@ -72,6 +72,6 @@ pub record LinesFilled (K : Tree) (n mask serial : ℕ) (p : Position) (before a
 
 -- the same with the whole page, and with the checkpoint
 pub record PageFilled (K : Tree) (n mask serial : ℕ) (p : Position) (before after : List ℕ) (r : Paged) : Type 0 where
-  pub answer : page_values r.answer ≡ filled_values (length (found_from K page_lines p))
+  pub lines : r.lines ≡ length (found_from K page_lines p)
   pub checkpoint : checkpoint_values r.checkpoint ≡ shown (stopped_from K page_lines p)
   pub written : after ≡ over (joined (line_at n mask serial (found_from K page_lines p)) page_lines) before

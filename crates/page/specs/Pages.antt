@@ -1,5 +1,6 @@
 -- S19.2 to S19.5: the act page, over walk calls of an ample budget, and pages one after the other; S21.4: the steps on its lines.
-use Rattle.std.specs.Prelude.{ℕ, zero, suc, ◌+◌, cond, ◌||◌, List, [], ◌∷◌, ◌++◌, map, eqb, ltb, length, get_or, replicate}
+use Rattle.std.specs.Prelude as std
+use Rattle.std.specs.Prelude.{Ok, Err, ℕ, zero, suc, ◌+◌, cond, ◌||◌, List, [], ◌∷◌, ◌++◌, map, eqb, ltb, length, get_or, replicate}
 use Rattle.lists.specs.Over.{over}
 use Rattle.formula.specs.Format.{Literal}
 use Rattle.formula.specs.declared.Refusal.{Refusal}
@@ -13,8 +14,6 @@ use Rattle.walk.specs.Gaps.{ample_budget}
 use Rattle.walk.specs.Results.{AnswerKind, says_model, says_spent, says_ended, says_refused, Result}
 use Rattle.walk.specs.WalkCall.{walk_call, walk_calls, last_checkpoint}
 use Rattle.enumeration.specs.Values.{checkpoint_values}
-use Rattle.page.specs.declared.PageAnswer.{PageAnswer}
-use Rattle.page.specs.declared.PageAnswer.TheVariants.{Filled, Refused}
 use Rattle.page.specs.declared.Paged.{Paged}
 use Rattle.page.specs.PageLines.{page_lines, page_size, page_line, blank_line}
 
@@ -81,9 +80,14 @@ abbrev pub unfilled_values : ℕ → ℕ → PageValues
 unfilled_values number place = record { number = number; place = place; lines = 0 }
 
 -- the values of each case
-abbrev pub page_values : PageAnswer → PageValues
-page_values (Filled k) = filled_values k
-page_values (Refused r) = unfilled_values (table_row r).number (table_row r).place
+abbrev pub page_values : std.Result Paged Refusal → PageValues
+page_values (Ok p) = filled_values p.lines
+page_values (Err r) = unfilled_values (table_row r).number (table_row r).place
+
+-- the checkpoint that comes back: that behind the page or, on a refusal, the one c that was handed in
+abbrev pub page_checkpoint : Checkpoint → std.Result Paged Refusal → Checkpoint
+page_checkpoint c (Ok p) = checkpoint_values p.checkpoint
+page_checkpoint c (Err r) = c
 
 -- the answer, the checkpoint that comes back, and the page as it is left
 pub record PageCall : Type 0 where
@@ -91,9 +95,9 @@ pub record PageCall : Type 0 where
   pub checkpoint : Checkpoint
   pub page : List ℕ
 
--- what the function gives, with the page as it leaves it
-abbrev pub page_told : Paged → List ℕ → PageCall
-page_told r after = record { answer = page_values r.answer; checkpoint = checkpoint_values r.checkpoint; page = after }
+-- what the function gives from the checkpoint c, with the page as it leaves it
+abbrev pub page_told : Checkpoint → std.Result Paged Refusal → List ℕ → PageCall
+page_told c r after = record { answer = page_values r; checkpoint = page_checkpoint c r; page = after }
 
 -- S19.4: a refusal: no line is filled, the checkpoint comes back as it was handed in, and the page stays
 abbrev pub unfilled : ℕ → ℕ → Checkpoint → List ℕ → PageCall

@@ -6,10 +6,9 @@ ghost use Rattle.enumeration.specs.InnerState.{position_in, Follows, Holds};
 ghost use Rattle.page.specs.PageLines.{page_lines, page_size};
 ghost use Rattle.page.specs.InnerPages.{blanked, Fillable, LinesFilled, PageFilled};
 
-use crate::lines::{PAGE_LINES, put_blank_at, put_line_at};
-use crate::{PageAnswer, Paged};
-use enumeration::{Ending, Scope, State};
-use formula::Formula;
+use crate::Paged;
+use crate::lines::{PAGE_LINES, put_blank, put_line};
+use enumeration::{AMPLE_BUDGET, Answer, State, Task};
 
 // How many lines are filled, and where the walk stands behind them.
 #[derive(Clone, Copy)]
@@ -18,25 +17,27 @@ pub struct Lines {
     state: State,
 }
 
-// Lines of the next models from a state, until the page is full or a run brings none. The mask has the variables whose values are shown.
-fn fill_lines(f: Formula, z: Scope, mask: u64, start: State, serial: u64, page: &mut [u8]) -> Lines
-    requires { Fillable f z start serial page.old }
-    ensures { (K : Tree) → Follows f z K → Holds K start → LinesFilled K f.variables mask serial (position_in start) page.old page.new result }
+// Lines of the next models from a state, until the page is full or a run brings none.
+fn fill_lines(task: &Task, start: State, serial: u64, page: &mut [u8]) -> Lines
+    requires { Fillable task.now.formula task.now.scope start serial page.old }
+    ensures { (K : Tree) → Follows task.now.formula task.now.scope K → Holds K start
+        → LinesFilled K task.now.formula.variables (visible_in task.now.scope) serial (position_in start) page.old page.new result }
 {
-    let mut s = start;
-    let mut i: usize = 0;
-    while i < PAGE_LINES {
-        let r = enumeration::go_on(f, z, s, enumeration::AMPLE_BUDGET);
-        let ending = r.ending;
-        let steps = r.steps;
-        s = r.state;
-        let Ending::Model(model) = ending else {
-            return Lines { count: i, state: s };
+    let n = task.formula.variables;
+    let mask = task.visible();
+    let mut state = start;
+    for i in 0..PAGE_LINES {
+        let run = task.go_on(state, AMPLE_BUDGET);
+        state = run.state;
+        let Answer::Model(model) = run.answer else {
+            return Lines { count: i, state };
         };
-        put_line_at(serial + i as u64, f.variables, mask, model, steps, page, i);
-        i += 1;
+        put_line(page, i, serial + i as u64, n, mask, model, run.steps);
     }
-    Lines { count: i, state: s }
+    Lines {
+        count: PAGE_LINES,
+        state,
+    }
 }
 
 // Blank lines from line i on.
@@ -44,25 +45,21 @@ fn blank_rest(page: &mut [u8], i: usize)
     requires { (i ≤ page_lines) × (page_size ≤ length page.old) }
     ensures { page.new ≡ blanked i page.old }
 {
-    let mut j = i;
-    while j < PAGE_LINES {
-        put_blank_at(page, j);
-        j += 1;
+    for j in i..PAGE_LINES {
+        put_blank(page, j);
     }
 }
 
 // The whole page from a state, and the checkpoint behind its last model, or that of the end.
-pub fn fill_page(f: Formula, z: Scope, start: State, serial: u64, page: &mut [u8]) -> Paged
-    requires { Fillable f z start serial page.old }
-    ensures { (K : Tree) → Follows f z K → Holds K start → PageFilled K f.variables (visible_in z) serial (position_in start) page.old page.new result }
+pub fn fill_page(task: &Task, start: State, serial: u64, page: &mut [u8]) -> Paged
+    requires { Fillable task.now.formula task.now.scope start serial page.old }
+    ensures { (K : Tree) → Follows task.now.formula task.now.scope K → Holds K start
+        → PageFilled K task.now.formula.variables (visible_in task.now.scope) serial (position_in start) page.old page.new result }
 {
-    let mask = enumeration::visible_in(z);
-    let lines = fill_lines(f, z, mask, start, serial, page);
-    let count = lines.count;
-    let state = lines.state;
-    blank_rest(page, count);
+    let lines = fill_lines(task, start, serial, page);
+    blank_rest(page, lines.count);
     Paged {
-        answer: PageAnswer::Filled(count),
-        checkpoint: enumeration::checkpoint_of(state),
+        lines: lines.count,
+        checkpoint: lines.state.checkpoint(),
     }
 }

@@ -1,85 +1,54 @@
 // The act page: the next models of a walk as 50 lines of 60 bytes in a lent page (S19).
 #![tactic(auto)]
 
-ghost use Rattle.std.specs.Prelude.{List, ◌≡◌, ℕ};
+ghost use Rattle.std.specs.Prelude.{List, ◌≡◌};
 ghost use Rattle.assumptions.specs.declared.Assumption.{Assumption};
 ghost use Rattle.assumptions.specs.InnerAssumed.{MasksOf};
 ghost use Rattle.enumeration.specs.Values.{checkpoint_values};
-ghost use Rattle.page.specs.Pages.{page_call, page_told, refusing_page};
+ghost use Rattle.page.specs.Pages.{page_call, page_told};
 
 mod filling;
 mod lines;
 
 use crate::filling::fill_page;
-use assumptions::{Assumption, Assumptions};
-use enumeration::Checkpoint;
-use formula::{Outcome, Refusal};
+use assumptions::Assumption;
+use enumeration::{Checkpoint, Task};
+use formula::{Assignment, Refusal};
 pub use lines::{LINE_SIZE, PAGE_LINES, PAGE_SIZE};
 
 // The highest first serial.
 pub const MAX_SERIAL: u32 = 999950;
 
-// How many lines are filled, or the refusal.
-#[derive(Clone, Copy)]
-pub enum PageAnswer {
-    Filled(usize),
-    Refused(Refusal),
-}
-
-// What the act gives: the answer, and the checkpoint for the next page.
+// What the act gives: how many lines are filled, and the checkpoint for the next page.
 #[derive(Clone, Copy)]
 pub struct Paged {
-    pub answer: PageAnswer,
+    pub lines: usize,
     pub checkpoint: Checkpoint,
 }
 
-// A refusal: the checkpoint comes back.
-fn refuse(r: Refusal, c: Checkpoint) -> Paged
-    ensures { (page : List ℕ) → page_told result page ≡ refusing_page r (checkpoint_values c) page }
-{
-    Paged {
-        answer: PageAnswer::Refused(r),
-        checkpoint: c,
-    }
-}
-
-// S19.2: the page of the next models from the checkpoint, over the masks of the assumptions. Nothing is written before all refusals are
+// S19.2: the page of the next models from the checkpoint, over what the assumptions read to. Nothing is written before all refusals are
 // past.
 pub fn write_page_under(
     input: &[u8],
-    u: Assumptions,
+    u: Result<Assignment, Refusal>,
     checkpoint: Checkpoint,
     serial: u32,
     page: &mut [u8],
-) -> Paged
+) -> Result<Paged, Refusal>
     requires { (us : List Assumption) × MasksOf input.now us u }
     ensures { (us : List Assumption) → MasksOf input.now us u
-        → page_call input.now us (checkpoint_values checkpoint) serial page.old ≡ page_told result page.new }
+        → page_call input.now us (checkpoint_values checkpoint) serial page.old ≡ page_told (checkpoint_values checkpoint) result page.new }
 {
     if page.len() < PAGE_SIZE {
-        return refuse(Refusal::ShortPage(0), checkpoint);
+        return Err(Refusal::ShortPage(0));
     }
-    if serial == 0 {
-        return refuse(Refusal::BadSerial(0), checkpoint);
+    if serial == 0 || MAX_SERIAL < serial {
+        return Err(Refusal::BadSerial(0));
     }
-    if MAX_SERIAL < serial {
-        return refuse(Refusal::BadSerial(0), checkpoint);
-    }
-    let d = formula::decode(input);
-    let read = d.outcome;
-    let f = d.formula;
-    let row = matched::accept(read, f, u);
-    let accepted = row.outcome;
-    let z = enumeration::scope_of(f, matched::assigned_by(u));
-    let e = enumeration::enter(accepted, f, z, checkpoint);
-    let outcome = e.outcome;
-    match outcome {
-        Outcome::Refused(refusal) => refuse(refusal, checkpoint),
-        Outcome::Accepted => {
-            let s = e.state;
-            fill_page(f, z, s, serial as u64, page)
-        }
-    }
+    let a = matched::accept(input, u)?;
+    let task = Task::new(a.formula, a.assignment);
+    let state = task.enter(checkpoint)?;
+    Ok(fill_page(&task, state, u64::from(serial), page))
 }
 
 // S19.2: the act page, under a lent list of assumptions.
@@ -89,10 +58,9 @@ pub fn write_page(
     checkpoint: Checkpoint,
     serial: u32,
     page: &mut [u8],
-) -> Paged
-    ensures { page_call input.now list.now (checkpoint_values checkpoint) serial page.old ≡ page_told result page.new }
+) -> Result<Paged, Refusal>
+    ensures { page_call input.now list.now (checkpoint_values checkpoint) serial page.old ≡ page_told (checkpoint_values checkpoint) result page.new }
 {
-    let n = assumptions::stated(input);
-    let u = assumptions::read_assumptions(list, n);
+    let u = assumptions::read_assumptions(list, assumptions::stated(input));
     write_page_under(input, u, checkpoint, serial, page)
 }

@@ -1,8 +1,10 @@
-// S19.1: the lines of a page, each written into the 60 bytes that are lent for it.
+// S19.1: the lines of a page, each written into its 60 bytes.
 ghost use Rattle.std.specs.Prelude.{◌≡◌, ◌*◌, ◌<◌, ◌≤◌, length};
 ghost use Rattle.limits.specs.Limits.{max_variables};
 ghost use Rattle.writing.specs.Placed.{placed};
 ghost use Rattle.page.specs.PageLines.{page_lines, line_size, page_size, page_line, blank_line};
+
+use writing::Writer;
 
 // A page has so many lines.
 pub const PAGE_LINES: usize = 50;
@@ -18,45 +20,27 @@ const SERIAL_WIDTH: usize = 6;
 
 const STEPS_WIDTH: usize = 3;
 
-// The line of a model of n variables, of which the mask has those whose values are shown.
-fn put_line(serial: u64, n: usize, mask: u64, a: u64, steps: u64, line: &mut [u8])
-    requires { (length line.old ≡ line_size) × (serial < 1000000) × (n ≤ max_variables) × (steps < 1000) }
-    ensures { line.new ≡ page_line serial n mask a steps }
-{
-    let first = writing::put_right(serial, SERIAL_WIDTH, line, 0);
-    let columns = writing::put_byte(b' ', line, first);
-    let past = writing::put_columns(n, mask, a, line, columns);
-    let second = writing::put_blanks(limits::MAX_VARIABLES - n, line, past);
-    let last = writing::put_byte(b' ', line, second);
-    let feed = writing::put_right(steps, STEPS_WIDTH, line, last);
-    let _end = writing::put_byte(b'\n', line, feed);
-}
-
-// A line without a model.
-fn put_blank(line: &mut [u8])
-    requires { length line.old ≡ line_size }
-    ensures { line.new ≡ blank_line }
-{
-    let feed = writing::put_blanks(LINE_SIZE - 1, line, 0);
-    let _end = writing::put_byte(b'\n', line, feed);
-}
-
-// Line i of a page: the line of a model.
-pub fn put_line_at(serial: u64, n: usize, mask: u64, a: u64, steps: u64, page: &mut [u8], i: usize)
+// Line i of a page: the line of a model of n variables, of which the mask has those whose values are shown.
+pub fn put_line(page: &mut [u8], i: usize, serial: u64, n: usize, mask: u64, a: u64, steps: u64)
     requires { (i < page_lines) × (page_size ≤ length page.old) × (serial < 1000000) × (n ≤ max_variables) × (steps < 1000) }
     ensures { page.new ≡ placed (line_size * i) (page_line serial n mask a steps) page.old }
 {
-    let from = LINE_SIZE * i;
-    let to = from + LINE_SIZE;
-    put_line(serial, n, mask, a, steps, &mut page[from..to]);
+    let mut w = Writer::new(page, LINE_SIZE * i);
+    w.put_right(serial, SERIAL_WIDTH);
+    w.put_byte(b' ');
+    w.put_columns(n, mask, a);
+    w.put_blanks(limits::MAX_VARIABLES - n);
+    w.put_byte(b' ');
+    w.put_right(steps, STEPS_WIDTH);
+    w.put_byte(b'\n');
 }
 
-// Line i of a page: blank.
-pub fn put_blank_at(page: &mut [u8], i: usize)
+// Line i of a page, without a model.
+pub fn put_blank(page: &mut [u8], i: usize)
     requires { (i < page_lines) × (page_size ≤ length page.old) }
     ensures { page.new ≡ placed (line_size * i) blank_line page.old }
 {
-    let start = LINE_SIZE * i;
-    let end = start + LINE_SIZE;
-    put_blank(&mut page[start..end]);
+    let mut w = Writer::new(page, LINE_SIZE * i);
+    w.put_blanks(LINE_SIZE - 1);
+    w.put_byte(b'\n');
 }

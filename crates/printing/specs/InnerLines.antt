@@ -1,13 +1,14 @@
 -- The lines as the code writes them: call after call of the machine that resumes, and as results of walk calls.
-use Rattle.std.specs.Prelude.{ℕ, zero, suc, List, [], ◌∷◌, ◌++◌}
+use Rattle.std.specs.Prelude.{ℕ, zero, suc, List, [], ◌∷◌, ◌++◌, ◌≡◌}
 use Rattle.walk.specs.Gaps.{ample_budget}
 use Rattle.walk.specs.InnerStack.{empty, Tree}
 use Rattle.walk.specs.InnerMachine.{Position, down, resume}
 use Rattle.walk.specs.Results.{AnswerKind, says_model, says_spent, says_ended, says_refused, Result}
-use Rattle.formula.specs.declared.Formula.{Formula}
 use Rattle.formula.specs.InnerFits.{FormulaFits}
 use Rattle.matched.specs.InnerAccept.{Takes}
-use Rattle.enumeration.specs.declared.scope.Scope.{Scope}
+use Rattle.splitting.specs.InnerChoose.{assignment_of}
+use Rattle.enumeration.specs.declared.scope.Task.{Task}
+use Rattle.enumeration.specs.InnerScope.{scope_under, visible_in}
 use Rattle.enumeration.specs.InnerState.{Follows}
 use Rattle.writing.specs.declared.Writer.{Writer}
 use Rattle.writing.specs.Placed.{RoomIn}
@@ -21,18 +22,22 @@ module _ (K : Tree) (n mask : ℕ) where
       let r = resume K ample_budget p in
       call_lines n mask r.answer r.steps r.expansions (lines_from j r.position)
 
--- a formula within the limits, whose choices over a scope make a tree; and the writer has room for its lines, of which the mask has the
--- variables that are shown
-pub record Fitting (f : Formula) (z : Scope) (mask : ℕ) (w : Writer) : Type 0 where
-  pub fits : FormulaFits f
+-- the task of a formula within the limits, whose choices over the scope make a tree; and the writer has room for its lines
+pub record Fitting (T : Task) (w : Writer) : Type 0 where
+  pub fits : FormulaFits T.formula
   pub tree : Tree
-  pub follows : Follows f z tree
-  pub room : RoomIn (lines_from tree f.variables mask max_models (down empty)) w
+  pub follows : Follows T.formula T.scope tree
+  pub room : RoomIn (lines_from tree T.formula.variables (visible_in T.scope) max_models (down empty)) w
 
--- an accepted input has this formula, and the writer has room for its print
-pub record Printable (f : Formula) (w : Writer) : Type 0 where
+-- the input is accepted without assumptions, and T is what its walk goes over
+pub record IsTask (s : List ℕ) (T : Task) : Type 0 where
+  pub takes : Takes s [] T.formula
+  pub scope : T.scope ≡ scope_under T.formula (assignment_of takes.trail)
+
+-- T is what the walk of an input goes over, and the writer has room for its print
+pub record Printable (T : Task) (w : Writer) : Type 0 where
   pub input : List ℕ
-  pub takes : Takes input [] f
+  pub task : IsTask input T
   pub room : RoomIn (printed input) w
 
 -- the line of a result, and then the rest

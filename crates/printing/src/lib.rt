@@ -1,18 +1,18 @@
 // The printed walk: its lines as bytes, written into a lent buffer (S12).
 #![tactic(auto)]
 
-ghost use Rattle.std.specs.Prelude.{◌≡◌, List, [], ℕ, ◌≤◌};
+ghost use Rattle.std.specs.Prelude.{◌≡◌, List, ℕ, ◌≤◌};
 ghost use Rattle.writing.specs.Placed.{Puts, RoomIn};
-ghost use Rattle.matched.specs.InnerAccept.{Takes};
 ghost use Rattle.walk.specs.InnerStack.{empty, Tree};
 ghost use Rattle.walk.specs.InnerMachine.{down};
+ghost use Rattle.enumeration.specs.InnerScope.{visible_in};
 ghost use Rattle.enumeration.specs.InnerState.{Follows};
-ghost use Rattle.printing.specs.InnerLines.{lines_from, Fitting, Printable};
+ghost use Rattle.printing.specs.InnerLines.{lines_from, Fitting, IsTask, Printable};
 ghost use Rattle.printing.specs.Printing.{printing};
 ghost use Rattle.printing.specs.Printed.{header, model_line, end_line, more_line, refusal_line, max_models, printed};
 
-use enumeration::{Ending, Scope};
-use formula::{Formula, Outcome, Refusal};
+use enumeration::{AMPLE_BUDGET, Answer, Task};
+use formula::{Assignment, Refusal};
 use writing::Writer;
 
 // The most bytes of an input that is printed.
@@ -70,40 +70,40 @@ pub fn put_refusal_line(w: &mut Writer, refusal: Refusal)
     ensures { Puts (refusal_line refusal) w.old w.new }
 {
     w.put_word(b"refused ");
-    w.put_numbers(formula::number_of(refusal), formula::place_of(refusal) as u64);
+    w.put_numbers(refusal.number(), refusal.place() as u64);
 }
 
 // The lines of a walk from its start: its first models, each by a run that goes on to the next one or to the end.
-fn put_walk(w: &mut Writer, f: Formula, z: Scope, mask: u64)
-    requires { Fitting f z mask w.old }
-    ensures { (K : Tree) → Follows f z K → Puts (lines_from K f.variables mask max_models (down empty)) w.old w.new }
+fn put_walk(w: &mut Writer, task: &Task)
+    requires { Fitting task.now w.old }
+    ensures { (K : Tree) → Follows task.now.formula task.now.scope K
+        → Puts (lines_from K task.now.formula.variables (visible_in task.now.scope) max_models (down empty)) w.old w.new }
 {
-    let mut s = enumeration::root(z);
+    let n = task.formula.variables;
+    let mask = task.visible();
+    let mut state = task.root();
     for _ in 0..MAX_MODELS {
-        let r = enumeration::go_on(f, z, s, enumeration::AMPLE_BUDGET);
-        match r.ending {
-            Ending::Ended => {
-                put_end_line(w, r.steps, r.expansions);
+        let run = task.go_on(state, AMPLE_BUDGET);
+        match run.answer {
+            Answer::Model(model) => put_model_line(w, n, mask, model, run.steps, run.expansions),
+            Answer::Spent => return,
+            Answer::Ended => {
+                put_end_line(w, run.steps, run.expansions);
                 return;
             }
-            Ending::Spent => return,
-            Ending::Model(model) => {
-                put_model_line(w, f.variables, mask, model, r.steps, r.expansions);
-            }
         }
-        s = r.state;
+        state = run.state;
     }
     put_more_line(w);
 }
 
-// The print of an accepted formula: the first line and the walk.
-fn put_formula(w: &mut Writer, f: Formula)
-    requires { Printable f w.old }
-    ensures { (s : List ℕ) → Takes s [] f → Puts (printed s) w.old w.new }
+// The print of an accepted input: the first line and the walk.
+fn put_task(w: &mut Writer, task: &Task)
+    requires { Printable task.now w.old }
+    ensures { (s : List ℕ) → IsTask s task.now → Puts (printed s) w.old w.new }
 {
-    put_header(w, f.variables, f.count);
-    let z = enumeration::scope_of(f, splitting::no_assignment());
-    put_walk(w, f, z, enumeration::visible_in(z));
+    put_header(w, task.formula.variables, task.formula.count);
+    put_walk(w, task);
 }
 
 // S12: prints the walk of an input, or its refusal, into the first bytes of the buffer, and answers how many these are.
@@ -113,12 +113,10 @@ pub fn print(input: &[u8], buffer: &mut [u8]) -> usize
     if buffer.len() < MAX_PRINT || MAX_INPUT < input.len() {
         return 0;
     }
-    let d = formula::decode(input);
-    let row = matched::accept(d.outcome, d.formula, assumptions::none_assumed());
     let mut w = Writer::new(buffer, 0);
-    match row.outcome {
-        Outcome::Refused(refusal) => put_refusal_line(&mut w, refusal),
-        Outcome::Accepted => put_formula(&mut w, d.formula),
+    match matched::accept(input, Ok(Assignment::none())) {
+        Ok(a) => put_task(&mut w, &Task::new(a.formula, a.assignment)),
+        Err(declined) => put_refusal_line(&mut w, declined.refusal),
     }
     w.behind()
 }

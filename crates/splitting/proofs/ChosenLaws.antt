@@ -7,8 +7,8 @@ use borrow.Author.Tests.{ne_eqb}
 use Rattle.masks.specs.Mask.{minus}
 use Rattle.formula.specs.declared.Formula.{Formula}
 use Rattle.formula.specs.declared.assignment.Assignment.{Assignment}
-use Rattle.splitting.specs.declared.Reduced.{Reduced}
-use Rattle.splitting.specs.declared.Survey.{Survey}
+use Rattle.splitting.specs.declared.clauses.Reduced.{Reduced}
+use Rattle.splitting.specs.declared.clauses.Survey.{Survey}
 use Rattle.splitting.specs.InnerChoose.{node, survey_of, reduced, passing, busiest_first, greatest, listed_last, mask_choice}
 
 -- ---- the choice

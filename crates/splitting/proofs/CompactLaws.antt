@@ -28,12 +28,13 @@ use Rattle.formula.specs.InnerMasked.{no_clause}
 use Rattle.formula.specs.InnerFits.{side, clause_variables}
 use Rattle.formula.specs.declared.assignment.Assignment.{Assignment}
 use Rattle.splitting.specs.declared.Choice.{Choice}
-use Rattle.splitting.specs.declared.Reduced.{Reduced}
-use Rattle.splitting.specs.declared.Survey.{Survey}
-use Rattle.splitting.specs.declared.Trial.{Trial}
+use Rattle.splitting.specs.declared.clauses.Reduced.{Reduced}
+use Rattle.splitting.specs.declared.clauses.Clauses.{Clauses}
+use Rattle.splitting.specs.declared.clauses.Survey.{Survey}
+use Rattle.splitting.specs.declared.clauses.Trial.{Trial}
 use Rattle.splitting.specs.Choosing.{both_open}
 use Rattle.formula.specs.InnerAssignment.{assigned, set_to, satisfied_under, left_under, unassigned}
-use Rattle.splitting.specs.InnerChoose.{open_clauses, node, unnamed, formula_at, clauses_in, clause_in, formula_in, Small, surveys, survey_from, survey_of, matching_at, pure_of, reduce_from, reduced, tried, passing, occurrences_in, busiest_first, greatest, listed_last, mask_choice}
+use Rattle.splitting.specs.InnerChoose.{open_clauses, node, unnamed, formula_at, clause_in, clauses_of, formula_in, Small, surveys, survey_from, survey_of, matching_at, pure_of, reduce_from, reduced, tried, passing, occurrences_in, busiest_first, greatest, listed_last, mask_choice}
 use Rattle.splitting.proofs.NodeMatchingLaws.{small_at}
 use Rattle.splitting.proofs.ReduceLaws.{pure_lowest, reduce_done, reduce_turn}
 use Rattle.splitting.proofs.LastMemberLaws.{greatest_member}
@@ -89,13 +90,13 @@ node_none f e = ap (open_clauses f.clauses unassigned) (sym e) ∙ open_list una
 node_at : (f : Formula) (a : Assignment) → node (formula_at f a) unassigned ≡ node f a
 node_at f a = node_none (formula_at f a) refl
 
-pub node_in : (p q : List ℕ) (k : ℕ) → node (formula_in p q k) unassigned ≡ clauses_in p q k
-node_in p q k = node_none (formula_in p q k) (length_tabulated (clause_in p q) k)
+pub node_in : (s : Clauses) → node (formula_in s) unassigned ≡ clauses_of s
+node_in s = node_none (formula_in s) (length_tabulated (clause_in s.positives s.negatives) s.count)
 
 -- the matching of the node, from the arrays of its clauses
-pub matching_in : (f : Formula) (a : Assignment) (p q : List ℕ) (k : ℕ) → formula_in p q k ≡ formula_at f a → matching_at (formula_in p q k) unassigned ≡ matching_at f a
-matching_in f a p q k e =
-    ap (λ (l : List Clause). packed (length l) (outcome (map clause_variables l))) (node_in p q k ∙ ap (λ (g : Formula). g.clauses) e)
+pub matching_in : (f : Formula) (a : Assignment) (s : Clauses) → formula_in s ≡ formula_at f a → matching_at (formula_in s) unassigned ≡ matching_at f a
+matching_in f a s e =
+    ap (λ (l : List Clause). packed (length l) (outcome (map clause_variables l))) (node_in s ∙ ap (λ (g : Formula). g.clauses) e)
 
 -- ---- what a node names is not assigned
 
@@ -148,12 +149,6 @@ pure_free : (f : Formula) → Small f → (a : Assignment) → (pure_of f a ≡ 
 pure_free f small a z = one_way_free f a (lowest (pure_of f a)) (pure_lowest f small a z).set
 
 -- ---- stripping
-
--- the clauses of a node in arrays: there are at most 96
-pub few_in : (f : Formula) → Small f → (a : Assignment) (p q : List ℕ) (k : ℕ) → clauses_in p q k ≡ node f a → k ≤ max_clauses
-few_in f small a p q k e =
-    let m : k ≡ length (node f a) = sym (length_tabulated (clause_in p q) k) ∙ ap length e in
-    omega (arith, (small_at f small a).few)
 
 -- no clause of a list has v on a side that its survey has not
 survey_none : (v : ℕ) (sign : Bool) (s : Survey) (cs : List Clause) → bit (survey_side (survey_from s cs) sign) v ≡ false
@@ -229,18 +224,18 @@ module _ (v : ℕ) (way : Bool) where
       go false e = rw (satisfied_way c (h n (omega arith)), e, left_way c e)
 
 -- the clauses that do not name the lowest pure variable are those of the next node
-pub strip_more : (f : Formula) → Small f → (a : Assignment) (p q : List ℕ) (k : ℕ) → clauses_in p q k ≡ node f a → (pure_of f a ≡ 0 → ⊥)
+pub strip_more : (f : Formula) → Small f → (a : Assignment) (s : Clauses) → clauses_of s ≡ node f a → (pure_of f a ≡ 0 → ⊥)
     → (v : ℕ) → v ≡ lowest (pure_of f a) → (way : Bool) → way ≡ bit (survey_of (node f a)).positive v
-    → unnamed (clauses_in p q k) v k ≡ node f (set_to a v way)
-strip_more f small a p q k e z v l way w =
-    dropped v way (clauses_in p q k) k (λ i m. every_get_or (λ c. bit (side c (not way)) v ≡ false) (clauses_in p q k) i no_clause (rw (length_tabulated (clause_in p q) k) m) others)
-    ∙ node_more (formula_in p q k) f unassigned a v way (node_in p q k ∙ e) (free_none v) (rw l (pure_free f small a z))
+    → unnamed (clauses_of s) v s.count ≡ node f (set_to a v way)
+strip_more f small a s e z v l way w =
+    dropped v way (clauses_of s) s.count (λ i m. every_get_or (λ c. bit (side c (not way)) v ≡ false) (clauses_of s) i no_clause (rw (length_tabulated (clause_in s.positives s.negatives) s.count) m) others)
+    ∙ node_more (formula_in s) f unassigned a v way (node_in s ∙ e) (free_none v) (rw l (pure_free f small a z))
   where
     is_pure : bit (pure_of f a) v ≡ true
     is_pure = rw l (pure_lowest f small a z).set
 
-    others : Every (λ c. bit (side c (not way)) v ≡ false) (clauses_in p q k)
-    others = (survey_none v (not way) (record { positive = 0; negative = 0; any = false }) (clauses_in p q k) (rw (e, w) (pure_way (survey_of (node f a)) v is_pure))).1
+    others : Every (λ c. bit (side c (not way)) v ≡ false) (clauses_of s)
+    others = (survey_none v (not way) (record { positive = 0; negative = 0; any = false }) (clauses_of s) (rw (e, w) (pure_way (survey_of (node f a)) v is_pure))).1
 
 -- two results of stripping have the same clauses
 record Same (g f : Formula) (r s : Reduced) : Type 0 where

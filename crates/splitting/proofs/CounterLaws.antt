@@ -19,7 +19,7 @@ use Rattle.masks.proofs.MembersLaws.{lowest_is, mask_lt, member_some}
 use Rattle.matching.proofs.Counting.{lt_or_le}
 use Rattle.formula.specs.declared.Clause.{Clause}
 use Rattle.formula.specs.InnerFits.{clause_variables}
-use Rattle.splitting.specs.declared.Counts.{Counts}
+use Rattle.splitting.specs.declared.counts.Counts.{Counts}
 use Rattle.splitting.specs.InnerChoose.{clause_in, clauses_in, occurrences_in, digit, count_at, max_count, narrowed, Busiest}
 use Rattle.splitting.proofs.OrderLaws.{one_more_le}
 

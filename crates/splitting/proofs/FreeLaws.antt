@@ -10,7 +10,7 @@ use Rattle.formula.specs.declared.Formula.{Formula}
 use Rattle.formula.specs.InnerCheck.{all_first}
 use Rattle.formula.specs.InnerMasked.{no_clause}
 use Rattle.formula.specs.declared.assignment.Assignment.{Assignment}
-use Rattle.splitting.specs.declared.Survey.{Survey}
+use Rattle.splitting.specs.declared.clauses.Survey.{Survey}
 use Rattle.formula.specs.InnerAssignment.{set_to, satisfied_under, left_under}
 use Rattle.splitting.specs.InnerChoose.{open_clauses, node, survey_from, survey_of, all_satisfied, free_choice, mask_choice}
 use Rattle.splitting.proofs.OpenClauseLaws.{survey_snoc}

@@ -24,9 +24,9 @@ use Rattle.formula.specs.InnerFits.{clause_variables}
 use Rattle.formula.proofs.FormatLaws.{names-append, names_either, clause_more}
 use Rattle.formula.specs.declared.assignment.Assignment.{Assignment}
 use Rattle.splitting.specs.declared.Choice.{Choice}
-use Rattle.splitting.specs.declared.Reduced.{Reduced}
-use Rattle.splitting.specs.declared.Survey.{Survey}
-use Rattle.splitting.specs.declared.Trial.{Trial}
+use Rattle.splitting.specs.declared.clauses.Reduced.{Reduced}
+use Rattle.splitting.specs.declared.clauses.Survey.{Survey}
+use Rattle.splitting.specs.declared.clauses.Trial.{Trial}
 use Rattle.splitting.specs.Nodes as nodes
 use Rattle.splitting.specs.Nodes.{assign, remaining, satisfied_by, occurs, lowest_with, upward}
 use Rattle.splitting.specs.Stripping.{pure, not_naming, Stripped, note, strip, stripped}

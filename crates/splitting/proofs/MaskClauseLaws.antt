@@ -15,7 +15,7 @@ use Rattle.formula.specs.Masked.{variables}
 use Rattle.formula.specs.InnerMasked.{clause_of}
 use Rattle.formula.specs.InnerFits.{clause_variables}
 use Rattle.formula.proofs.ClauseLaws.{clause_side, clause_names, clause_empty, variables-named, named_as}
-use Rattle.splitting.specs.declared.Survey.{Survey}
+use Rattle.splitting.specs.declared.clauses.Survey.{Survey}
 use Rattle.splitting.specs.Nodes as nodes
 use Rattle.splitting.specs.Nodes.{less, assign, occurs}
 use Rattle.splitting.specs.Stripping.{pure, not_naming}

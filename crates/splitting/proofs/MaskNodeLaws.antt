@@ -26,7 +26,7 @@ use Rattle.formula.specs.Masked.{variables}
 use Rattle.formula.proofs.ClauseLaws.{clause_side, variables-bit}
 use Rattle.formula.proofs.FormatLaws.{distinct_rest}
 use Rattle.formula.specs.declared.assignment.Assignment.{Assignment}
-use Rattle.splitting.specs.declared.Survey.{Survey}
+use Rattle.splitting.specs.declared.clauses.Survey.{Survey}
 use Rattle.splitting.specs.Nodes.{less, assign, remaining}
 use Rattle.formula.specs.InnerAssignment.{assigned, set_to, satisfied_under, left_under, unassigned}
 use Rattle.splitting.specs.InnerChoose.{open_clauses, node, surveys, assign_all, assignment_of}

@@ -16,13 +16,14 @@ use Rattle.masks.specs.Mask.{bit, members, size}
 use Rattle.masks.specs.InnerMask.{without, lowest}
 use Rattle.masks.proofs.BitLaws.{minus_lt, bit-none, bit_below, bit-without, bit-without-same}
 use Rattle.masks.proofs.MembersLaws.{lowest_is, members-lowest}
+use Rattle.std.specs.Result.{is_ok}
 use Rattle.matching.specs.declared.Matching.{Matching}
 use Rattle.matching.specs.Search.{succeeds}
-use Rattle.matching.proofs.ResultLaws.{packed_complete, packed-expansions}
+use Rattle.matching.proofs.ResultLaws.{packed-found, packed-expansions}
 use Rattle.formula.specs.declared.Formula.{Formula}
 use Rattle.formula.specs.declared.assignment.Assignment.{Assignment}
-use Rattle.splitting.specs.declared.Trial.{Trial}
-use Rattle.splitting.specs.declared.Counts.{Counts}
+use Rattle.splitting.specs.declared.clauses.Trial.{Trial}
+use Rattle.splitting.specs.declared.counts.Counts.{Counts}
 use Rattle.splitting.specs.Choosing.{both_open, by_count, among}
 use Rattle.splitting.specs.Terms.{Ordered}
 use Rattle.formula.specs.InnerAssignment.{set_to}
@@ -37,30 +38,30 @@ use Rattle.splitting.proofs.NodeMatchingLaws.{node_cost}
 
 module _ (f : Formula) (a : Assignment) (v : ℕ) where
   -- the matching with v false fails
-  pub tried_false : (m : Matching) → m ≡ matching_at f (set_to a v false) → m.complete ≡ false
+  pub tried_false : (m : Matching) → m ≡ matching_at f (set_to a v false) → is_ok m.found ≡ false
       → ◌≡◌ {A = Trial} (record { passes = false; cost = m.expansions }) (tried f a v)
   unfolding tried
   tried_false m e h =
       let o = matched_node f (set_to a v false) in
       let n = length (node f (set_to a v false)) in
-      let t : succeeds o ≡ false = sym (packed_complete n o) ∙ ap (λ (x : Matching). x.complete) (sym e) ∙ h in
+      let t : succeeds o ≡ false = sym (packed-found n o) ∙ ap (λ (x : Matching). is_ok x.found) (sym e) ∙ h in
       rw (e, packed-expansions, tried, t)
 
   -- it succeeds, and the one with v true decides
-  pub tried_true : (m n : Matching) → m ≡ matching_at f (set_to a v false) → m.complete ≡ true
+  pub tried_true : (m n : Matching) → m ≡ matching_at f (set_to a v false) → is_ok m.found ≡ true
       → n ≡ matching_at f (set_to a v true)
-      → ◌≡◌ {A = Trial} (record { passes = n.complete; cost = m.expansions + n.expansions }) (tried f a v)
+      → ◌≡◌ {A = Trial} (record { passes = is_ok n.found; cost = m.expansions + n.expansions }) (tried f a v)
   unfolding tried
   tried_true m n e h d =
       let o = matched_node f (set_to a v false) in
       let q = matched_node f (set_to a v true) in
-      let t : succeeds o ≡ true = sym (packed_complete (length (node f (set_to a v false))) o) ∙ ap (λ (x : Matching). x.complete) (sym e) ∙ h in
+      let t : succeeds o ≡ true = sym (packed-found (length (node f (set_to a v false))) o) ∙ ap (λ (x : Matching). is_ok x.found) (sym e) ∙ h in
       rw (
         e,
         d,
         packed-expansions (length (node f (set_to a v false))) o,
         packed-expansions (length (node f (set_to a v true))) q,
-        packed_complete (length (node f (set_to a v true))) q,
+        packed-found (length (node f (set_to a v true))) q,
         tried,
         t,
       )

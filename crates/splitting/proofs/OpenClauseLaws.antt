@@ -20,12 +20,13 @@ use Rattle.masks.specs.Mask.{bit}
 use Rattle.masks.proofs.BitLaws.{bit-or}
 use Rattle.masks.proofs.MembersLaws.{some_member, member_some}
 use Rattle.formula.specs.declared.Clause.{Clause}
+use Rattle.formula.specs.declared.Formula.{Formula}
 use Rattle.formula.specs.InnerMasked.{no_clause}
 use Rattle.formula.specs.InnerFits.{clause_variables}
 use Rattle.formula.specs.declared.assignment.Assignment.{Assignment}
-use Rattle.splitting.specs.declared.Survey.{Survey}
+use Rattle.splitting.specs.declared.clauses.Survey.{Survey}
 use Rattle.formula.specs.InnerAssignment.{satisfied_under, left_under}
-use Rattle.splitting.specs.InnerChoose.{open_clauses, unnamed, clause_in, clauses_in, formula_in, surveys, survey_from, survey_of, some_empty}
+use Rattle.splitting.specs.InnerChoose.{open_clauses, unnamed, clause_in, clauses_in, surveys, survey_from, survey_of, some_empty}
 
 -- ---- one clause
 
@@ -62,7 +63,7 @@ module _ (p q : List ℕ) where
 
   -- they are a formula
   pub formula_held : (n : ℕ) (cs : List Clause) → clauses_in p q n ≡ cs
-      → formula_in p q n ≡ record { variables = 64; count = length cs; clauses = cs }
+      → ◌≡◌ {A = Formula} (record { variables = 64; count = n; clauses = clauses_in p q n }) (record { variables = 64; count = length cs; clauses = cs })
   formula_held n cs e =
       let m : n ≡ length cs = sym (length_tabulated (clause_in p q) n) ∙ ap length e in
       λ i. record { variables = 64; count = m i; clauses = e i }

@@ -18,8 +18,8 @@ use Rattle.masks.proofs.MembersLaws.{Lowest, lowest_is}
 use Rattle.formula.specs.declared.Clause.{Clause}
 use Rattle.formula.specs.declared.Formula.{Formula}
 use Rattle.formula.specs.declared.assignment.Assignment.{Assignment}
-use Rattle.splitting.specs.declared.Reduced.{Reduced}
-use Rattle.splitting.specs.declared.Survey.{Survey}
+use Rattle.splitting.specs.declared.clauses.Reduced.{Reduced}
+use Rattle.splitting.specs.declared.clauses.Survey.{Survey}
 use Rattle.formula.specs.InnerAssignment.{set_to}
 use Rattle.splitting.specs.InnerChoose.{node, Small, surveys, survey_from, survey_of, reduced_at, pure_of, reduce_from, reduced, noted_from, stripping_at}
 use Rattle.splitting.proofs.NodeMatchingLaws.{Word, WordClause, open_words}

@@ -18,11 +18,12 @@ use Rattle.formula.specs.InnerCheck.{all_first}
 use Rattle.formula.specs.InnerMasked.{no_clause}
 use Rattle.formula.specs.InnerFits.{side, clause_variables}
 use Rattle.splitting.specs.declared.Choice.{Choice}
-use Rattle.splitting.specs.declared.Counts.{Counts}
-use Rattle.splitting.specs.declared.Reduced.{Reduced}
 use Rattle.splitting.specs.declared.Stripping.{Stripping}
-use Rattle.splitting.specs.declared.Survey.{Survey}
-use Rattle.splitting.specs.declared.Trial.{Trial}
+use Rattle.splitting.specs.declared.clauses.Clauses.{Clauses}
+use Rattle.splitting.specs.declared.clauses.Reduced.{Reduced}
+use Rattle.splitting.specs.declared.clauses.Survey.{Survey}
+use Rattle.splitting.specs.declared.clauses.Trial.{Trial}
+use Rattle.splitting.specs.declared.counts.Counts.{Counts}
 use Rattle.splitting.specs.Choosing.{both_open, by_count, last}
 use Rattle.splitting.specs.Terms.{Before}
 
@@ -57,8 +58,11 @@ clause_in p q i = record { positive = get_or p i 0; negative = get_or q i 0 }
 abbrev pub clauses_in : List ℕ → List ℕ → ℕ → List Clause
 clauses_in p q k = tabulated (clause_in p q) k
 
-abbrev pub formula_in : List ℕ → List ℕ → ℕ → Formula
-formula_in p q k = record { variables = 64; count = k; clauses = clauses_in p q k }
+abbrev pub clauses_of : Clauses → List Clause
+clauses_of s = clauses_in s.positives s.negatives s.count
+
+abbrev pub formula_in : Clauses → Formula
+formula_in s = record { variables = 64; count = s.count; clauses = clauses_of s }
 
 -- at most 96 clauses, of 64-bit masks
 pub record Small (f : Formula) : Type 0 where

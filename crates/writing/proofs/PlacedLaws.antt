@@ -9,8 +9,9 @@ use lib.Seq.{length-take-le, take-suc, set_split, take_at, drop-append-add, drop
 use Rattle.lists.specs.Over.{over}
 use Rattle.lists.specs.Tabulated.{tabulated}
 use Rattle.lists.proofs.TabulatedLaws.{length_tabulated, tabulated_more}
+use Rattle.std.specs.Borrow.{MutBor}
 use Rattle.writing.specs.declared.Writer.{Writer}
-use Rattle.writing.specs.Placed.{placed, Room, Wrote, RoomIn, Puts}
+use Rattle.writing.specs.Placed.{placed, Room, Wrote, Lent, RoomIn, Puts}
 
 module _ {A : Type 0} where
   -- the length stays
@@ -146,3 +147,9 @@ puts_more {xs} {ys} p q =
       shape = q.shape ∙ p.shape;
       room = omega arith;
     }
+
+-- what was lent to a writer, and what it holds now
+pub lent_puts : {xs : List ℕ} {b : MutBor (List ℕ)} {at : ℕ} {v w : Writer} → Lent b at v → Puts xs v w
+    → (w.buffer.ghost_name ≡ b.ghost_name) × Wrote xs at b.now w.buffer.now w.at
+lent_puts {xs} {w = w} l p =
+    (p.same ∙ l.same, rw (l.bytes, l.next) at p.wrote)

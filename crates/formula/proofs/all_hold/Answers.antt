@@ -1,20 +1,18 @@
--- `formula::all_hold` meets its contract. The loop's invariant: the clauses below i hold.
-use native.Mathlib.Omega.{arith}
-use mathlib.Core.Path.{◌≡◌, refl, sym, ◌∙◌}
-use Rattle.formula.specs.InnerCheck.{all_first}
-use Rattle.formula.proofs.CheckLaws.{all_more, all_fails}
+-- `formula::all_hold` meets its contract: the test of each clause of the slice.
+use mathlib.Core.Path.{sym, ◌∙◌}
 use borrow.Author.Rules.{rules}
+use borrow.Author.Tests.{tests}
+use lib.ListN.{take}
+use Rattle.std.proofs.lemmas.Iterator.{YieldsList-from_slice}
+use Rattle.std.proofs.lemmas.Iterator.Search.{all_from_yields_List}
+use Rattle.formula.specs.InnerCheck.{clause_holds}
+use Rattle.formula.proofs.CheckLaws.{all_taken}
 use Rattle.formula.proofs.all_hold.Goals as goal
 
-pub loop-i-init : goal.loop-i-init
-unfolding all_first
-loop-i-init c = (search rules, refl)
-
-pub returns-then-not-holds : goal.returns-then-not-holds
-returns-then-not-holds c = sym (all_fails _ _ c.loop-i.i _ c.loop-i-test.true (sym c.holds.ensures ∙ c.if-not-holds.true))
-
-pub loop-i-preserved : goal.loop-i-preserved
-loop-i-preserved c = (search rules, all_more _ _ c.loop-i.i c.loop-i.invariant.1 (sym c.holds.ensures ∙ c.if-not-holds.false))
-
 pub returns : goal.returns
-returns c = let e : c.loop-i.i ≡ c.args.f.count = omega arith in sym (rw e at c.loop-i.invariant.1)
+returns c =
+    let f = c.args.f.now in
+    all_from_yields_List (clause_holds c.args.assignment) _ _ c.all.result c.all.ensures.ran
+    (YieldsList-from_slice (take f.count f.clauses) cc)
+    (λ x b q k. search (rules, tests))
+    ∙ sym (all_taken (clause_holds c.args.assignment) f.clauses f.count (search rules))

@@ -1,14 +1,13 @@
--- `matched::named_by` meets its contract. The loop's invariant: what the marked ones of the first i clauses name is gathered.
-use Prim.Native.Nat.{◌≤◌, ◌-◌}
+-- `matched::named_by` meets its contract. The loop's invariant: what is gathered, and what the marked ones of the clauses left name.
 use mathlib.Core.List.{map}
 use mathlib.Core.Path.{◌≡◌}
+use lib.Bits.{bit_or}
 use lib.ListN.{take}
 use Rattle.formula.specs.InnerFits.{clause_variables}
 use Rattle.matching.specs.Sets.{union, selected}
 use Rattle.matched.proofs.named_by.Given as goal
 
-abbrev pub invariant-loop-i : goal.invariant-loop-i
-invariant-loop-i l = (l.i ≤ l.f.count) × (l.named ≡ union (selected l.marks (map clause_variables (take l.i l.f.clauses))))
-
-abbrev pub decreases-loop-i : goal.decreases-loop-i
-decreases-loop-i l = l.f.count - l.i
+abbrev pub invariant-loop-c : goal.invariant-loop-c
+invariant-loop-c l =
+    bit_or l.named (union (selected l.c-iterator.b.rest.now (map clause_variables l.c-iterator.a.rest.now)))
+    ≡ union (selected l.marks (map clause_variables (take l.f.count l.f.clauses)))

@@ -1,20 +1,18 @@
--- `all_satisfied` tells whether each clause is satisfied.
-use native.Mathlib.Omega.{arith}
-use mathlib.Core.Path.{◌≡◌, refl, sym, ◌∙◌}
-use Rattle.formula.specs.InnerCheck.{all_first}
-use Rattle.formula.proofs.CheckLaws.{all_more, all_fails}
+-- `all_satisfied` tells whether each clause is satisfied: the test of each clause of the slice.
+use mathlib.Core.Path.{sym, ◌∙◌}
 use borrow.Author.Rules.{rules}
+use borrow.Author.Tests.{tests}
+use lib.ListN.{take}
+use Rattle.std.proofs.lemmas.Iterator.{YieldsList-from_slice}
+use Rattle.std.proofs.lemmas.Iterator.Search.{all_from_yields_List}
+use Rattle.formula.specs.InnerAssignment.{satisfied_under}
+use Rattle.formula.proofs.CheckLaws.{all_taken}
 use Rattle.splitting.proofs.all_satisfied.Goals as goal
 
-pub loop-i-init : goal.loop-i-init
-unfolding all_first
-loop-i-init c = (search rules, refl)
-
-pub returns-then-not-is_satisfied : goal.returns-then-not-is_satisfied
-returns-then-not-is_satisfied c = sym (all_fails _ _ c.loop-i.i _ c.loop-i-test.true (sym c.is_satisfied.ensures ∙ c.if-not-is_satisfied.true))
-
-pub loop-i-preserved : goal.loop-i-preserved
-loop-i-preserved c = (search rules, all_more _ _ c.loop-i.i c.loop-i.invariant.1 (sym c.is_satisfied.ensures ∙ c.if-not-is_satisfied.false))
-
 pub returns : goal.returns
-returns c = let e : c.loop-i.i ≡ c.args.f.count = omega arith in sym (rw e at c.loop-i.invariant.1)
+returns c =
+    let f = c.args.f.now in
+    all_from_yields_List (satisfied_under c.args.a) _ _ c.all.result c.all.ensures.ran
+    (YieldsList-from_slice (take f.count f.clauses) cc)
+    (λ x b q k. search (rules, tests))
+    ∙ sym (all_taken (satisfied_under c.args.a) f.clauses f.count (let h = c.requires in ?))

@@ -7,11 +7,11 @@ use Rattle.splitting.proofs.choose.Goals as goal
 pub returns-then-all_satisfied : goal.returns-then-all_satisfied
 returns-then-all_satisfied c =
     let s = c.args in
-    c.choose_free.ensures ∙ sym (chosen_satisfied s.f s.a (sym c.all_satisfied.ensures ∙ c.if-all_satisfied.true) s.scope)
+    c.choose_free.ensures ∙ sym (chosen_satisfied s.f.now s.a (sym c.all_satisfied.ensures ∙ c.if-all_satisfied.true) s.scope)
 
 pub choose_open-requires : goal.choose_open-requires
 choose_open-requires c =
-    (small_of c.args.f c.requires, some_open c.args.f c.args.a (sym c.all_satisfied.ensures ∙ c.if-all_satisfied.false))
+    (small_of c.args.f.now c.requires, some_open c.args.f.now c.args.a (sym c.all_satisfied.ensures ∙ c.if-all_satisfied.false))
 
 pub returns : goal.returns
 returns c = c.choose_open.ensures c.args.scope

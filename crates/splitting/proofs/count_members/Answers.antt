@@ -1,6 +1,0 @@
--- `count_members` counts one more of each member: the digits that it writes are those of the sums.
-use Rattle.splitting.proofs.CounterLaws.{counts_more}
-use Rattle.splitting.proofs.count_members.Goals as goal
-
-pub returns : goal.returns
-returns c v = counts_more c.args.c c.args.mask v (c.requires v)
