@@ -8,12 +8,15 @@ use lib.Dec.{ltb}
 use lib.ListN.{length, get_or}
 use borrow.Author.Tests.{ltb-false, le-ltb}
 use Rattle.limits.specs.Limits.{max_variables}
+use Rattle.std.specs.Prelude.{Result, Ok}
+use Rattle.formula.specs.declared.assignment.Assignment.{Assignment}
+use Rattle.formula.specs.declared.Refusal.{Refusal}
+use Rattle.formula.specs.InnerAssignment.{unassigned}
 use Rattle.formula.specs.Format.{Literal, formula_bytes, Encodes}
 use Rattle.formula.specs.InnerMasked.{with_literals}
 use Rattle.assumptions.specs.declared.Assumption.{Assumption}
-use Rattle.assumptions.specs.declared.Assumptions.{Assumptions}
 use Rattle.assumptions.specs.Assumed.{assumed_from, assumed}
-use Rattle.assumptions.specs.InnerAssumed.{none_assumed, masks_of, stated_in, MasksOf}
+use Rattle.assumptions.specs.InnerAssumed.{masks_of, stated_in, MasksOf}
 
 -- it is at most 48
 pub stated_le : (s : List ℕ) → stated_in s ≤ max_variables
@@ -35,14 +38,14 @@ pub stated_encoded : {s : List ℕ} {n : ℕ} {cs : List (List Literal)} → Enc
 unfolding formula_bytes
 stated_encoded {s} {n} e = ap stated_in e.bytes ∙ stated_second 1 n _ e.sized.most
 
--- ---- the masks of a list beside an input
+-- ---- what a list beside an input reads to
 
--- they are those for the number of variables of the formula that the input encodes
-pub given_encoded : {s : List ℕ} {n : ℕ} {cs : List (List Literal)} (us : List Assumption) {a : Assumptions} → MasksOf s us a → Encodes s n cs
+-- it is that for the number of variables of the formula that the input encodes
+pub given_encoded : {s : List ℕ} {n : ℕ} {cs : List (List Literal)} (us : List Assumption) {a : Result Assignment Refusal} → MasksOf s us a → Encodes s n cs
     → a ≡ masks_of (assumed n us)
 given_encoded us g e = rw (← stated_encoded e) g
 
--- of a list without assumptions they are empty
-pub given_none : (s : List ℕ) → MasksOf s [] none_assumed
+-- a list without assumptions assigns nothing
+pub given_none : (s : List ℕ) → MasksOf s [] (Ok unassigned)
 unfolding assumed assumed_from with_literals
 given_none s = refl

@@ -19,13 +19,12 @@ masks_of (bad i) = Err (BadAssumption i)
 -- ---- one assumption more
 
 -- the variable s, from 1, can't be assumed
-unfoldable pub bad_in : ℕ → Assignment → ℕ → Bool
+abbrev pub bad_in : ℕ → Assignment → ℕ → Bool
 bad_in n a s = eqb s 0 || (ltb n s || bit (assigned a) (s - 1))
 
--- the assumption with the index i is read; nothing changes behind a bad one
-unfoldable pub taken : ℕ → ℕ → Assumption → Result Assignment Refusal → Result Assignment Refusal
-taken n i u (Ok a) = cond (bad_in n a u.variable) (Err (BadAssumption i)) (Ok (set_to a (u.variable - 1) u.value))
-taken n i u (Err r) = Err r
+-- the assumption with the index i is read, unless it is bad
+abbrev pub taken : ℕ → ℕ → Assumption → Assignment → Result Assignment Refusal
+taken n i u a = cond (bad_in n a u.variable) (Err (BadAssumption i)) (Ok (set_to a (u.variable - 1) u.value))
 
 -- ---- the input beside a list, and a list as bytes
 

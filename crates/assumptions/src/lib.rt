@@ -3,7 +3,7 @@
 // A list is lent as structs (`read_assumptions`) or as bytes, two for each (`read_pairs`); both are read by `take`.
 #![tactic(auto)]
 
-ghost use Rattle.std.specs.Prelude.{◌≡◌, ◌+◌, ◌*◌, ◌<◌, ◌≤◌, length, Ok};
+ghost use Rattle.std.specs.Prelude.{◌≡◌, ◌+◌, ◌*◌, ◌<◌, ◌≤◌, length};
 ghost use Rattle.limits.specs.Limits.{max_variables};
 ghost use Rattle.assumptions.specs.Assumed.{assumed};
 ghost use Rattle.assumptions.specs.InnerAssumed.{bad_in, taken, masks_of, stated_in, pair_at};
@@ -20,6 +20,7 @@ pub struct Assumption {
 }
 
 // The number of variables that the input states in its byte 1, at most 48; 0 where it has no such byte.
+#[tactic(auto, unfolding(crate::specs::InnerAssumed::stated_in))]
 pub fn stated(input: &[u8]) -> usize
     ensures { result ≡ stated_in input.now }
 {
@@ -40,7 +41,7 @@ fn bad_in(a: Assignment, n: usize, s: usize) -> bool
 // One assumption more, which has the index i.
 fn take(a: Assignment, n: usize, i: usize, u: Assumption) -> Result<Assignment, Refusal>
     requires { n ≤ max_variables }
-    ensures { result ≡ taken n i u (Ok a) }
+    ensures { result ≡ taken n i u a }
 {
     let s = usize::from(u.variable);
     if bad_in(a, n, s) {
