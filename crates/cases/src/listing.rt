@@ -10,7 +10,7 @@ ghost use Rattle.cases.specs.Walking.{Leaves};
 
 use crate::assuming::{assumed, just_two};
 use crate::walking::{
-    CHECKPOINT_SIZE, Told, call, called, checkpoint_wrong, origin, report_call, report_checkpoint,
+    CHECKPOINT_SIZE, Called, Told, call, checkpoint_wrong, origin, report_call, report_checkpoint,
 };
 use enumeration::{Checkpoint, Listed, Walked};
 use formula::Refusal;
@@ -31,7 +31,7 @@ pub fn listing_vector(rt: &impl Print, v: &Vector<'_>, last: &mut Checkpoint) ->
     } else {
         *last
     };
-    let got = called(from, call(v, from, enumeration::AMPLE_BUDGET));
+    let got = Called::new(from, call(v, from, enumeration::AMPLE_BUDGET));
     *last = got.checkpoint;
     if expected == got.told {
         return Ok(true);
@@ -94,15 +94,11 @@ pub fn list_vector(rt: &impl Print, v: &Vector<'_>, last: &mut Checkpoint) -> io
     let mut array = [fill; 256];
     let listed = list(v, from, &mut array[..room]);
     let count = count_of(listed);
-    let got = called(from, last_call(listed));
+    let got = Called::new(from, last_call(listed));
     *last = got.checkpoint;
     let wrong = checkpoint_wrong(stored, got.checkpoint);
     let other = first_wrong(&array, |i| wanted_model(v.expected, fill, i));
-    if count == models
-        && other == array.len()
-        && wrong == CHECKPOINT_SIZE
-        && expected == got.told
-    {
+    if count == models && other == array.len() && wrong == CHECKPOINT_SIZE && expected == got.told {
         return Ok(true);
     }
     report_call(rt, v.number, expected, got.told)?;

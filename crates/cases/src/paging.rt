@@ -1,10 +1,10 @@
 // The vectors of pages: each answer, checkpoint and lent page compared with the expected ones.
 ghost use Rattle.std.specs.Prelude.{◌≤◌, ◌≡◌, length, IfOk};
 ghost use Rattle.enumeration.specs.Values.{checkpoint_values};
-ghost use Rattle.page.specs.Pages.{page_call, page_told};
+ghost use Rattle.page.specs.Pages.{page_values, page_call, page_told};
 ghost use Rattle.vectors.specs.Corpus.{parts_of};
 ghost use Rattle.cases.specs.Assuming.{assumptions_of};
-ghost use Rattle.cases.specs.Paging.{page_byte, page_agrees, page_leaves};
+ghost use Rattle.cases.specs.Paging.{page_written, page_byte, page_agrees, page_leaves};
 ghost use Rattle.cases.specs.Walking.{Leaves};
 
 use crate::assuming::{assumed, just_two};
@@ -20,7 +20,7 @@ use vectors::report;
 
 // The number of lines that are filled stands as the place.
 fn answer_of(paged: Result<Paged, Refusal>) -> Answer
-    ensures { (c : checkpoints.Checkpoint) (page : List ℕ) → result ≡ page_written (page_told c paged page).answer }
+    ensures { result ≡ page_written (page_values paged) }
 {
     match paged {
         Ok(paged) => Answer {
@@ -46,7 +46,12 @@ fn page_byte(expected: &[u8], size: usize, fill: u8, i: usize) -> u8
 }
 
 // A page of the vector's input under its assumptions.
-fn write_page(v: &Vector<'_>, from: Checkpoint, serial: u32, page: &mut [u8]) -> Result<Paged, Refusal>
+fn write_page(
+    v: &Vector<'_>,
+    from: Checkpoint,
+    serial: u32,
+    page: &mut [u8],
+) -> Result<Paged, Refusal>
     ensures { page_call v.now.input.now (assumptions_of (parts_of v.now)) (checkpoint_values from) serial page.old
         ≡ page_told (checkpoint_values from) result page.new }
 {

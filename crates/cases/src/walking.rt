@@ -50,36 +50,38 @@ pub struct Called {
     pub checkpoint: Checkpoint,
 }
 
-// What a call from a checkpoint gives; a refusal gives that back.
-pub fn called(from: Checkpoint, walked: Result<Walked, Refusal>) -> Called
-    ensures { Tells (call_values (checkpoint_values from) walked) result }
-{
-    match walked {
-        Ok(walked) => {
-            let (says, model) = match walked.answer {
-                enumeration::Answer::Model(model) => (Says::Model, model),
-                enumeration::Answer::Spent => (Says::Spent, 0),
-                enumeration::Answer::Ended => (Says::Ended, 0),
-            };
-            Called {
-                told: Told {
-                    answer: Answer::bare(says),
-                    model,
-                    steps: walked.steps,
-                    expansions: walked.expansions,
-                },
-                checkpoint: walked.checkpoint,
+impl Called {
+    // Of a call from a checkpoint, which a refusal gives back.
+    pub fn new(from: Checkpoint, walked: Result<Walked, Refusal>) -> Self
+        ensures { Tells (call_values (checkpoint_values from) walked) result }
+    {
+        match walked {
+            Ok(walked) => {
+                let (says, model) = match walked.answer {
+                    enumeration::Answer::Model(model) => (Says::Model, model),
+                    enumeration::Answer::Spent => (Says::Spent, 0),
+                    enumeration::Answer::Ended => (Says::Ended, 0),
+                };
+                Called {
+                    told: Told {
+                        answer: Answer::bare(says),
+                        model,
+                        steps: walked.steps,
+                        expansions: walked.expansions,
+                    },
+                    checkpoint: walked.checkpoint,
+                }
             }
-        }
-        Err(refusal) => Called {
-            told: Told {
-                answer: Answer::refused(refusal),
-                model: 0,
-                steps: 0,
-                expansions: 0,
+            Err(refusal) => Called {
+                told: Told {
+                    answer: Answer::refused(refusal),
+                    model: 0,
+                    steps: 0,
+                    expansions: 0,
+                },
+                checkpoint: from,
             },
-            checkpoint: from,
-        },
+        }
     }
 }
 
@@ -139,8 +141,18 @@ pub fn checkpoint_wrong(expected: &[u8], c: Checkpoint) -> usize
 }
 
 // The first wrong byte of a checkpoint, if one is wrong.
-pub fn report_checkpoint(rt: &impl Print, expected: &[u8], c: Checkpoint, wrong: usize) -> io::Result<()> {
-    report::wrong_byte(rt, &checkpoint_bytes(c), wrong, |i| wanted_byte(expected, 0, i))
+pub fn report_checkpoint(
+    rt: &impl Print,
+    expected: &[u8],
+    c: Checkpoint,
+    wrong: usize,
+) -> io::Result<()> {
+    report::wrong_byte(
+        rt,
+        &checkpoint_bytes(c),
+        wrong,
+        |i| wanted_byte(expected, 0, i),
+    )
 }
 
 pub fn report_call(rt: &impl Print, vector: u16, wanted: Told, got: Told) -> io::Result<()> {
@@ -172,7 +184,7 @@ pub fn walk_vector(rt: &impl Print, v: &Vector<'_>, last: &mut Checkpoint) -> io
     let expected = Told::expected(v.fields);
     let stored = &v.fields[22..22 + CHECKPOINT_SIZE];
     let from = origin(&v.fields[72..], *last);
-    let got = called(from, call(v, from, four_bytes(v.fields, 123)));
+    let got = Called::new(from, call(v, from, four_bytes(v.fields, 123)));
     *last = got.checkpoint;
     let wrong = checkpoint_wrong(stored, got.checkpoint);
     if wrong == CHECKPOINT_SIZE && expected == got.told {
