@@ -1,5 +1,5 @@
 -- Laws of `framed`: its cases, by how the bytes are split, and how many bytes are behind a vector.
-use Rattle.std.proofs.Common.{ℕ, ◌≡◌, ◌+◌, ◌<◌, ◌≤◌, Bool, true, false, List, length, take, drop, None, Some, ◌∙◌, ap, arith, lt-ltb, le-ltb, length-drop}
+use Rattle.std.proofs.Common.{ℕ, ◌≡◌, ◌+◌, ◌<◌, ◌≤◌, List, length, take, drop, None, Some, ◌∙◌, ap, arith, lt-ltb, le-ltb, length-drop}
 use borrow.Author.Tests.{ltb-false}
 use borrow.Table.Steps.{cases}
 use lib.Dec.{ltb}
@@ -21,7 +21,7 @@ pub framed_cut :
 unfolding framed
 framed_cut s head fields e h =
     let k : length s < 8 + two_bytes s 2 + two_bytes s 4 + two_bytes s 6 + fields =
-        rw (← two_bytes_head s 2 (omega arith), ← two_bytes_head s 4 (omega arith), ← two_bytes_head s 6 (omega arith), ← e) h in
+    rw (← two_bytes_head s 2 (omega arith), ← two_bytes_head s 4 (omega arith), ← two_bytes_head s 6 (omega arith), ← e) h in
     rw (lt-ltb _ _ k)
 
 -- the parts, each split off the front of the bytes that the one before it leaves
@@ -42,7 +42,7 @@ framed_whole s head input assumptions expected last r₀ r₁ r₂ r₃ rest num
     let c_there = c_is ∙ head_at 6 (omega arith) in
     let number_there = number_is ∙ head_at 0 (omega arith) in
     let k : 8 + two_bytes s 2 + two_bytes s 4 + two_bytes s 6 + fields ≤ length s =
-        omega (arith, h.4, i.4, u.4, e.4, l.0, a_there, b_there, c_there) in
+    omega (arith, h.4, i.4, u.4, e.4, l.0, a_there, b_there, c_there) in
     rw (le-ltb _ _ k, l.1, l.2, e.1, e.2, u.1, u.2, i.1, i.2, h.2, a_there, b_there, c_there, number_there)
 
 -- the bytes behind a vector are fewer by 8 at least

@@ -42,10 +42,13 @@ framed s fields =
     let last = drop c expected in
     cond (ltb (length s) (8 + a + b + c + fields))
     None
-    (Some (record {
-      number = two_bytes s 0;
-      input = take a input;
-      assumptions = take b assumptions;
-      expected = take c expected;
-      fields = take fields last;
-    }, drop fields last))
+    (Some (
+      record {
+        number = two_bytes s 0;
+        input = take a input;
+        assumptions = take b assumptions;
+        expected = take c expected;
+        fields = take fields last;
+      },
+      drop fields last,
+    ))

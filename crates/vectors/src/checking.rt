@@ -21,6 +21,7 @@ fn answer_of(verdict: Result<bool, Refusal>) -> Answer
 }
 
 // Whether check gives the expected answer; a difference is printed.
+#[tactic(auto, unfolding(crate::specs::Checking::check_agrees))]
 pub fn check_vector(rt: &impl Print, v: &Vector<'_>) -> io::Result<bool>
     requires { 14 ≤ length v.now.fields.now }
     ensures { IfOk result (λ agrees. agrees ≡ check_agrees (parts_of v.now)) }

@@ -98,5 +98,8 @@ pub fn broken(rt: &impl Print, name: &str, at: usize) -> io::Result<()> {
 
 // How many vectors, or calls, were run.
 pub fn summary(rt: &impl Print, name: &str, unit: &str, t: Totals) -> io::Result<()> {
-    println!(rt; "{name}: {} {unit}, {} differences", t.vectors, t.differences)
+    println!(rt;
+        "{name}: {} {unit}, {} differences",
+        t.vectors, t.differences
+    )
 }
