@@ -37,6 +37,7 @@ fn convert(reads: bool, given: &[u8], buffer: &mut [u8]) -> Answer
 
 // Whether the conversion gives the expected answer and leaves, in a filled buffer, the expected bytes before the fill; a difference is
 // printed.
+#[tactic(auto, unfolding(crate::specs::Converting::convert_agrees))]
 pub fn convert_vector(rt: &impl Print, v: &Vector<'_>, reads: bool) -> io::Result<bool>
     requires { 9 ≤ length v.now.fields.now }
     ensures { IfOk result (λ agrees. agrees ≡ convert_agrees reads (parts_of v.now)) }

@@ -21,6 +21,7 @@ use vectors::report;
 
 // Whether a call of a listing, of an ample budget, gives what it must; a difference is printed. The call goes on from the start checkpoint or
 // from the last one, which becomes the one that it returned: the vector does not tell that.
+#[tactic(auto, unfolding(crate::specs::Listing::listing_call, crate::specs::Listing::listing_agrees, crate::specs::Listing::listing_leaves))]
 pub fn listing_vector(rt: &impl Print, v: &Vector<'_>, last: &mut Checkpoint) -> io::Result<bool>
     requires { 23 ≤ length v.now.fields.now }
     ensures { IfOk result (Leaves (listing_agrees (parts_of v.now) (checkpoint_values last.old)) (listing_leaves (parts_of v.now) (checkpoint_values last.old)) last.new) }
@@ -81,6 +82,7 @@ fn wanted_model(expected: &[u8], fill: u64, i: usize) -> u64
 }
 
 // Whether the vector's list gives what it must; a difference is printed. The last checkpoint becomes the one that the list returned.
+#[tactic(auto, unfolding(crate::specs::Listing::listed_by, crate::specs::Listing::list_agrees, crate::specs::Listing::list_leaves))]
 pub fn list_vector(rt: &impl Print, v: &Vector<'_>, last: &mut Checkpoint) -> io::Result<bool>
     requires { 125 ≤ length v.now.fields.now }
     ensures { IfOk result (Leaves (list_agrees (parts_of v.now) (checkpoint_values last.old)) (list_leaves (parts_of v.now) (checkpoint_values last.old)) last.new) }

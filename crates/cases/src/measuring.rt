@@ -24,6 +24,7 @@ fn answer_of(measured: Result<usize, Refusal>) -> Answer
 }
 
 // Whether deficiency gives the expected answer; a difference is printed.
+#[tactic(auto, unfolding(crate::specs::Measuring::deficiency_agrees))]
 pub fn deficiency_vector(rt: &impl Print, v: &Vector<'_>) -> io::Result<bool>
     requires { 6 ≤ length v.now.fields.now }
     ensures { IfOk result (λ agrees. agrees ≡ deficiency_agrees (parts_of v.now)) }

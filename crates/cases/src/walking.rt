@@ -134,6 +134,7 @@ fn checkpoint_bytes(c: Checkpoint) -> [u8; CHECKPOINT_SIZE]
 }
 
 // Where a checkpoint first has another byte than is expected; its size if nowhere.
+#[tactic(auto, unfolding(crate::specs::Walking::checkpoint_wrong))]
 pub fn checkpoint_wrong(expected: &[u8], c: Checkpoint) -> usize
     ensures { result ≡ checkpoint_wrong expected.now (checkpoint_values c) }
 {
@@ -163,6 +164,7 @@ pub fn report_call(rt: &impl Print, vector: u16, wanted: Told, got: Told) -> io:
 }
 
 // Whether the start checkpoint is the expected one; a difference is printed.
+#[tactic(auto, unfolding(crate::specs::Walking::start_agrees))]
 pub fn start_vector(rt: &impl Print, v: &Vector<'_>) -> io::Result<bool>
     ensures { IfOk result (λ agrees. agrees ≡ start_agrees (parts_of v.now)) }
 {
@@ -177,6 +179,7 @@ pub fn start_vector(rt: &impl Print, v: &Vector<'_>) -> io::Result<bool>
 }
 
 // Whether the vector's call gives what it must; a difference is printed. The last checkpoint becomes the one that the call returned.
+#[tactic(auto, unfolding(crate::specs::Walking::called, crate::specs::Walking::walk_agrees, crate::specs::Walking::walk_leaves))]
 pub fn walk_vector(rt: &impl Print, v: &Vector<'_>, last: &mut Checkpoint) -> io::Result<bool>
     requires { 127 ≤ length v.now.fields.now }
     ensures { IfOk result (Leaves (walk_agrees (parts_of v.now) (checkpoint_values last.old)) (walk_leaves (parts_of v.now) (checkpoint_values last.old)) last.new) }
