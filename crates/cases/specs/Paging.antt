@@ -1,5 +1,5 @@
 -- The vectors of pages: the answer, the checkpoint and the page of their definition (S19), compared with those that the corpus has.
-use Rattle.std.specs.Prelude.{ℕ, ◌+◌, ◌-◌, ◌%◌, Bool, cond, ◌&&◌, List, eqb, ltb, get_or, take, drop, replicate}
+use Rattle.std.specs.Prelude.{ℕ, ◌+◌, ◌-◌, ◌%◌, Bool, cond, ◌&&◌, List, eqb, ltb, length, get_or, take, drop, replicate}
 use Rattle.writing.specs.Text.{line_feed, blank}
 use Rattle.walk.specs.Checkpoints.{Checkpoint}
 use Rattle.page.specs.PageLines.{line_size, page_size}
@@ -7,8 +7,8 @@ use Rattle.page.specs.Pages.{PageValues, PageCall, page_call}
 use Rattle.vectors.specs.declared.answers.Says.{Says}
 use Rattle.vectors.specs.declared.answers.Says.TheVariants.{Filled}
 use Rattle.vectors.specs.declared.answers.Answer.{Answer}
-use Rattle.vectors.specs.Answers.{byte_of, plain, expected}
-use Rattle.vectors.specs.Comparing.{alike}
+use Rattle.vectors.specs.Answers.{byte_of, plain, expected, same_answer}
+use Rattle.vectors.specs.Comparing.{first_wrong}
 use Rattle.vectors.specs.Corpus.{Parts, two_bytes, four_bytes}
 use Rattle.cases.specs.Assuming.{assumptions_of}
 use Rattle.cases.specs.Judging.{unless_refused}
@@ -37,13 +37,19 @@ paged v last =
     page_call v.input (assumptions_of v) (origin (drop 56 v.fields) last) (four_bytes v.fields 107)
     (take (two_bytes v.fields 111) (replicate 65536 (get_or v.fields 113 0)))
 
+-- no byte of the checkpoint is wrong, the answers are the same, and the first wrong byte of the page would stand behind it
+abbrev pub page_alike : Answer → Answer → ℕ → ℕ → ℕ → Bool
+page_alike wanted got other wrong size = eqb other stored_checkpoint_size && (same_answer wanted got && eqb wrong size)
+
 -- the call gives what it must
 unfoldable pub page_agrees : Parts → Checkpoint → Bool
 page_agrees v last =
     let p = paged v last in
     let wanted = expected v.fields in
-    eqb (checkpoint_wrong (take stored_checkpoint_size (drop 6 v.fields)) p.checkpoint) stored_checkpoint_size
-    && alike wanted (page_written p.answer) (page_byte v.expected (written_size wanted.says) (get_or v.fields 113 0)) p.page
+    page_alike wanted (page_written p.answer)
+    (checkpoint_wrong (take stored_checkpoint_size (drop 6 v.fields)) p.checkpoint)
+    (first_wrong eqb (page_byte v.expected (written_size wanted.says) (get_or v.fields 113 0)) p.page)
+    (length p.page)
 
 -- the checkpoint that the call returns
 unfoldable pub page_leaves : Parts → Checkpoint → Checkpoint

@@ -1,10 +1,11 @@
 -- The waits of a chain (S21): the steps between two models, over all of its calls, compared with the trails in the checkpoints that come
 -- back with the models.
 use Rattle.std.specs.Prelude.{ℕ, zero, suc, ◌+◌, ◌*◌, ◌-◌, ◌/◌, ◌≤◌, Bool, true, false, ◌&&◌, List, [], ◌∷◌, Option, None, Some, ◌≡◌, eqb, leb, length}
+use Rattle.std.specs.List.{take_while, zip}
 use Rattle.limits.specs.Limits.{max_variables}
 use Rattle.formula.specs.Format.{Literal}
 use Rattle.walk.specs.Checkpoints as walk
-use Rattle.walk.specs.Gaps.{Gap, to_model, to_end, so_far, gaps_from, gaps, shared}
+use Rattle.walk.specs.Gaps.{Gap, to_model, to_end, so_far, gaps_from, gaps, same_literal, shared}
 use Rattle.walk.specs.Results.{Result}
 use Rattle.walk.specs.WalkCall.{walk_calls}
 use Rattle.enumeration.specs.declared.checkpoint.Checkpoint.{Checkpoint}
@@ -63,6 +64,10 @@ waits_agree v =
     waits_hold None gs && eqb (closed gs) (four_bytes v.fields 0)
 
 -- ---- call by call
+
+-- how long the longest beginning is that the trails of some bytes share
+abbrev pub shared_bytes : List ℕ → List ℕ → ℕ
+shared_bytes x y = length (take_while (λ p. same_literal (walk.byte_literal p.0) (walk.byte_literal p.1)) (zip x y))
 
 -- the trail in a checkpoint
 abbrev pub checkpoint_trail : Checkpoint → List Literal

@@ -92,6 +92,6 @@ unfoldable pub walk_leaves : Parts → checkpoints.Checkpoint → checkpoints.Ch
 walk_leaves v last = (called v last).checkpoint
 
 -- whether the vector agrees, and the checkpoint that the last call returned
-pub record Leaves (agreeing : Bool) (leaving : checkpoints.Checkpoint) (last : Checkpoint) (agrees : Bool) : Type 0 where
-  pub agrees : agrees ≡ agreeing
+pub record Leaves (agreeing : Bool) (leaving : checkpoints.Checkpoint) (last : Checkpoint) (r : Bool) : Type 0 where
+  pub agrees : r ≡ agreeing
   pub leaves : checkpoint_values last ≡ leaving

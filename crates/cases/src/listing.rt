@@ -5,7 +5,7 @@ ghost use Rattle.enumeration.specs.Lists.{next_models, Delivered};
 ghost use Rattle.enumeration.specs.Values.{checkpoint_values, call_values, list_values, list_count};
 ghost use Rattle.vectors.specs.Corpus.{parts_of};
 ghost use Rattle.cases.specs.Assuming.{assumptions_of};
-ghost use Rattle.cases.specs.Listing.{listing_agrees, listing_leaves, wanted_model, list_agrees, list_leaves};
+ghost use Rattle.cases.specs.Listing.{listing_agrees, listing_leaves, wanted_model, list_alike, list_agrees, list_leaves};
 ghost use Rattle.cases.specs.Walking.{Leaves};
 
 use crate::assuming::{assumed, just_two};
@@ -81,6 +81,13 @@ fn wanted_model(expected: &[u8], fill: u64, i: usize) -> u64
     }
 }
 
+// As many models as must be, none of them wrong, and the last answer is the same.
+fn agree(told: bool, count: usize, models: usize, other: usize) -> bool
+    ensures { result ≡ list_alike told count models other }
+{
+    count == models && other == 256 && told
+}
+
 // Whether the vector's list gives what it must; a difference is printed. The last checkpoint becomes the one that the list returned.
 #[tactic(auto, unfolding(crate::specs::Listing::listed_by, crate::specs::Listing::list_agrees, crate::specs::Listing::list_leaves))]
 pub fn list_vector(rt: &impl Print, v: &Vector<'_>, last: &mut Checkpoint) -> io::Result<bool>
@@ -100,12 +107,12 @@ pub fn list_vector(rt: &impl Print, v: &Vector<'_>, last: &mut Checkpoint) -> io
     *last = got.checkpoint;
     let wrong = checkpoint_wrong(stored, got.checkpoint);
     let other = first_wrong(&array, |i| wanted_model(v.expected, fill, i));
-    if count == models && other == array.len() && wrong == CHECKPOINT_SIZE && expected == got.told {
+    if agree(expected.agrees(got.told, wrong), count, models, other) {
         return Ok(true);
     }
     report_call(rt, v.number, expected, got.told)?;
     report::numbers(rt, "models", models as u64, count as u64)?;
-    report::numbers(rt, "first other model", array.len() as u64, other as u64)?;
+    report::numbers(rt, "first other model", 256, other as u64)?;
     report_checkpoint(rt, stored, got.checkpoint, wrong)?;
     Ok(false)
 }

@@ -1,12 +1,12 @@
 // The vectors of waits: the calls of a chain, and the steps to the first model, between two models and to the end compared with the trails
 // of these.
-ghost use Rattle.std.specs.Prelude.{◌+◌, ◌-◌, ◌<◌, ◌≤◌, ◌^◌, [], map, ◌≡◌, length, IfOk};
+ghost use Rattle.std.specs.Prelude.{◌+◌, ◌-◌, ◌<◌, ◌≤◌, ◌^◌, ◌&&◌, [], map, ◌≡◌, eqb, length, IfOk};
 ghost use Rattle.limits.specs.Limits.{max_variables};
 ghost use Rattle.walk.specs.Checkpoints.{byte_number, byte_literal};
-ghost use Rattle.walk.specs.Gaps.{same_literal, shared};
+ghost use Rattle.walk.specs.Gaps.{same_literal};
 ghost use Rattle.enumeration.specs.Values.{checkpoint_values, call_values};
 ghost use Rattle.vectors.specs.Corpus.{parts_of};
-ghost use Rattle.cases.specs.Waiting.{checkpoint_trail, last_trail, due, may_end, tallied_in, tallied, NoneYet, AfterCall, calls_of, waits_agree};
+ghost use Rattle.cases.specs.Waiting.{shared_bytes, checkpoint_trail, last_trail, due, may_end, most, tallied_in, tallied, NoneYet, AfterCall, calls_of, waits_agree};
 
 use crate::walking::call;
 use enumeration::{Answer, Checkpoint, Walked};
@@ -47,7 +47,7 @@ fn trail_of(c: &Checkpoint) -> &[u8]
 
 // The length of the longest beginning that two trails share.
 fn shared_of(x: &[u8], y: &[u8]) -> usize
-    ensures { result ≡ shared (map byte_literal x.now) (map byte_literal y.now) }
+    ensures { result ≡ shared_bytes x.now y.now }
 {
     x.iter()
         .zip(y)
@@ -139,16 +139,29 @@ impl Waits {
         }
     }
 
-    // Whether every wait was right. One that is still open has at most twice as many steps as the trail of the last model has literals, or,
-    // before any, as many as there may be variables.
+    // The most steps of a wait that is still open: twice as many as the trail of the last model has literals, or, before any, as many as
+    // there may be variables.
+    fn most(&self) -> u64
+        ensures { result ≡ most (last_trail self.now.last) }
+    {
+        match &self.last {
+            Some(last) => 2 * trail_of(last).len() as u64,
+            None => MAX_VARIABLES as u64,
+        }
+    }
+
+    // Whether every wait was right.
     fn all_right(&self) -> bool
         ensures { result ≡ (tallied self.now []).right }
     {
-        let most = match &self.last {
-            Some(last) => 2 * trail_of(last).len(),
-            None => MAX_VARIABLES,
-        };
-        self.right && (self.ended || self.steps <= most as u64)
+        self.right && (self.ended || self.steps <= self.most())
+    }
+
+    // And as many waits are over as must be.
+    fn agree(&self, wanted: u64) -> bool
+        ensures { result ≡ (tallied self.now []).right && eqb self.now.closed wanted }
+    {
+        self.all_right() && self.closed == wanted
     }
 }
 
@@ -174,7 +187,7 @@ pub fn wait_vector(rt: &impl Print, v: &Vector<'_>) -> io::Result<bool>
 {
     let wanted = u64::from(four_bytes(v.fields, 0));
     let w = waits_of(v);
-    if w.all_right() && w.closed == wanted {
+    if w.agree(wanted) {
         return Ok(true);
     }
     report::other_waits(rt, v.number)?;

@@ -1,5 +1,5 @@
 -- Laws of `framed`: its cases, by how the bytes are split, and how many bytes are behind a vector.
-use Rattle.std.proofs.Common.{ℕ, ◌≡◌, ◌+◌, ◌<◌, ◌≤◌, List, length, take, drop, None, Some, ◌∙◌, ap, arith, lt-ltb, le-ltb, length-drop}
+use Rattle.std.proofs.Common.{ℕ, ◌≡◌, ◌+◌, ◌<◌, ◌≤◌, List, length, take, drop, None, Some, ◌∙◌, ap, arith, lt-ltb, le-ltb, length-drop, length-take-le}
 use borrow.Author.Tests.{ltb-false}
 use borrow.Table.Steps.{cases}
 use lib.Dec.{ltb}
@@ -45,18 +45,39 @@ framed_whole s head input assumptions expected last r₀ r₁ r₂ r₃ rest num
     omega (arith, h.4, i.4, u.4, e.4, l.0, a_there, b_there, c_there) in
     rw (le-ltb _ _ k, l.1, l.2, e.1, e.2, u.1, u.2, i.1, i.2, h.2, a_there, b_there, c_there, number_there)
 
--- the bytes behind a vector are fewer by 8 at least
-pub framed_shorter : (s : List ℕ) (fields : ℕ) (v : Parts) (rest : List ℕ) → framed s fields ≡ Some (v, rest) → length rest + 8 ≤ length s
+-- the fields of a vector are as many as they must be, its parts lie within the bytes, and those behind it are fewer by 8 at least
+pub record Within (s : List ℕ) (fields : ℕ) (v : Parts) (rest : List ℕ) : Type 0 where
+  pub fields_size : length v.fields ≡ fields
+  pub expected : length v.expected ≤ length s
+  pub shorter : length rest + 8 ≤ length s
+
+pub within : (s : List ℕ) (fields : ℕ) (v : Parts) (rest : List ℕ) → framed s fields ≡ Some (v, rest) → Within s fields v rest
 unfolding framed
-framed_shorter s fields v rest e =
+within s fields v rest e =
     let n = 8 + two_bytes s 2 + two_bytes s 4 + two_bytes s 6 + fields in
     cases (ltb (length s) n)
     (λ t. let none : framed s fields ≡ None = rw t in cc)
     (λ f.
     let enough : n ≤ length s = ltb-false _ _ f in
-    let last = drop (two_bytes s 6) (drop (two_bytes s 4) (drop (two_bytes s 2) (drop 8 s))) in
-    let first : Parts = record { number = two_bytes s 0; input = take (two_bytes s 2) (drop 8 s); assumptions = take (two_bytes s 4) (drop (two_bytes s 2) (drop 8 s)); expected = take (two_bytes s 6) (drop (two_bytes s 4) (drop (two_bytes s 2) (drop 8 s))); fields = take fields last } in
+    let input = drop 8 s in
+    let assumptions = drop (two_bytes s 2) input in
+    let expected = drop (two_bytes s 4) assumptions in
+    let last = drop (two_bytes s 6) expected in
+    let first : Parts = record {
+      number = two_bytes s 0;
+      input = take (two_bytes s 2) input;
+      assumptions = take (two_bytes s 4) assumptions;
+      expected = take (two_bytes s 6) expected;
+      fields = take fields last;
+    } in
     let some : framed s fields ≡ Some (first, drop fields last) = rw f in
     let both : ◌≡◌ {A = Parts × List ℕ} (v, rest) (first, drop fields last) = cc in
+    let is : v ≡ first = ap (λ (x : Parts × List ℕ). x.0) both in
     let d : rest ≡ drop fields last = ap (λ (x : Parts × List ℕ). x.1) both in
-    omega (arith, ap length d, length-drop {A = ℕ}))
+    let left : fields ≤ length last = omega (arith, length-drop {A = ℕ}) in
+    let more : two_bytes s 6 ≤ length expected = omega (arith, length-drop {A = ℕ}) in
+    record {
+      fields_size = ap (λ (x : Parts). length x.fields) is ∙ length-take-le fields last left;
+      expected = omega (arith, ap (λ (x : Parts). length x.expected) is, length-take-le (two_bytes s 6) expected more, length-drop {A = ℕ});
+      shorter = omega (arith, ap length d, length-drop {A = ℕ});
+    })

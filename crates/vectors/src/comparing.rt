@@ -52,7 +52,7 @@ pub fn compare_bytes<F: Fn(usize) -> u8>(
 ) -> io::Result<bool>
     requires fields { 6 ≤ length v.now.fields.now }
     requires callable { F.IsAlwaysCallable wanted }
-    ensures { IfOk result (λ agrees. (w : ℕ → ℕ) → Gives (F.post wanted) w (length bytes.now) → agrees ≡ alike (expected v.now.fields.now) got w bytes.now) }
+    ensures { (w : ℕ → ℕ) → Gives (F.post wanted) w (length bytes.now) → IfOk result (λ agrees. agrees ≡ alike (expected v.now.fields.now) got w bytes.now) }
 {
     let expected = Answer::expected(v.fields);
     let wrong = first_wrong(bytes, &wanted);
