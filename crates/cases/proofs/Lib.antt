@@ -1,7 +1,10 @@
 pub mod AssumingLaws
 pub mod ConvertingLaws
 pub mod JudgingLaws
+pub mod ListingLaws
+pub mod PagingLaws
 pub mod PrintsLaws
 pub mod RunLaws
 pub mod WaitingLaws
+pub mod WalkingLaws
 pub mod WeighingLaws
