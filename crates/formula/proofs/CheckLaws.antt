@@ -1,6 +1,6 @@
 -- Clauses as masks hold where clauses as lists of literals hold.
 use Prim.Native.Nat.{ℕ, zero, suc, ◌+◌, ◌≤◌, ◌<◌}
-use mathlib.Core.Bool.{Bool, true, false, not, cond, ◌&&◌, ◌||◌, beq, or_assoc, or-false, and_assoc, and-false, and-true}
+use mathlib.Core.Bool.{Bool, true, false, not, cond, ◌&&◌, ◌||◌, beq, or_assoc, or-false, and-false}
 use mathlib.Core.List.{List, [], ◌∷◌, map}
 use mathlib.Core.Logic.{inl, inr, ⊎_elim}
 use mathlib.Core.Path.{◌≡◌, refl, sym, ap, ◌∙◌}
@@ -12,11 +12,11 @@ use lib.Dec.{eqb}
 use lib.ListN.{length, length-map, get_or, take}
 use Rattle.std.specs.Prelude.{Ok}
 use Rattle.std.specs.List.{list_all}
-use Rattle.std.proofs.lemmas.List.Folds.{list_all_more}
+use Rattle.std.proofs.lemmas.List.Folds.{list_all_more, list_all-map}
 use borrow.Author.Tests.{eqb-true}
 use Rattle.limits.specs.Limits.{max_clauses}
 use Rattle.lists.specs.Padded.{padded}
-use Rattle.lists.proofs.PaddedLaws.{get_or_padded}
+use Rattle.lists.proofs.PaddedLaws.{length_padded, take_padded}
 use Rattle.lists.proofs.TestLaws.{and_left, and_right, and_both, or_cases, or_swap}
 use Rattle.masks.specs.Mask.{bit, with, minus}
 use Rattle.masks.proofs.BitLaws.{bit-and, bit-minus, bit-with, bit-with-same}
@@ -114,26 +114,22 @@ unfolding all_first
 all_taken test cs zero l = refl
 all_taken test cs (suc n) l = rw (all_taken test cs n (omega arith), ← add-one) (sym (list_all_more test cs n no_clause l))
 
-clauses_hold_cons : (a : ℕ) (c : Clause) (cs : List Clause) (n : ℕ) → clauses_hold a (c ∷ cs) (suc n) ≡ clause_holds a c && clauses_hold a cs n
-unfolding all_first
-clauses_hold_cons a c cs zero = sym (and-true (clause_holds a c))
-clauses_hold_cons a c cs (suc n) = ap (λ (b : Bool). b && clause_holds a (get_or cs n no_clause)) (clauses_hold_cons a c cs n) ∙ and_assoc (clause_holds a c) (clauses_hold a cs n) (clause_holds a (get_or cs n no_clause))
+masks_hold : (a : ℕ) (cs : List (List Literal)) → list_all (λ c. clause_holds a (clause_of c)) cs ≡ satisfied a cs
+unfolding satisfied
+masks_hold a [] = refl
+masks_hold a (c ∷ cs) = rw (clause_holds_of a c, masks_hold a cs)
 
-clauses_hold_padded : (a k : ℕ) (cs : List Clause) (n : ℕ) → n ≤ length cs → clauses_hold a (padded k no_clause cs) n ≡ clauses_hold a cs n
-unfolding all_first
-clauses_hold_padded a k cs zero l = refl
-clauses_hold_padded a k cs (suc n) l = rw (clauses_hold_padded a k cs n (omega arith), get_or_padded k no_clause cs n no_clause l)
-
-clauses_hold_map : (a : ℕ) (cs : List (List Literal)) → clauses_hold a (map clause_of cs) (length cs) ≡ satisfied a cs
-unfolding satisfied all_first
-clauses_hold_map a [] = refl
-clauses_hold_map a (c ∷ cs) = clauses_hold_cons a (clause_of c) (map clause_of cs) (length cs) ∙ rw (clause_holds_of a c, clauses_hold_map a cs)
+-- the array's first part has them
+first_part : (cs : List (List Literal)) → take (length cs) (padded max_clauses no_clause (map clause_of cs)) ≡ map clause_of cs
+first_part cs = rw (length-map cs clause_of) at (take_padded max_clauses no_clause (map clause_of cs))
 
 -- the clauses of a formula hold exactly if it is satisfied
-pub clauses_hold_of : (a : ℕ) (cs : List (List Literal)) → clauses_hold a (padded max_clauses no_clause (map clause_of cs)) (length cs) ≡ satisfied a cs
-clauses_hold_of a cs =
-    let m : length cs ≤ length (map clause_of cs) = omega (arith, length-map cs clause_of) in
-    clauses_hold_padded a max_clauses (map clause_of cs) (length cs) m ∙ clauses_hold_map a cs
+pub clauses_hold_of : (a : ℕ) (cs : List (List Literal)) → length cs ≤ max_clauses
+    → clauses_hold a (padded max_clauses no_clause (map clause_of cs)) (length cs) ≡ satisfied a cs
+clauses_hold_of a cs l =
+    let m : length (map clause_of cs) ≤ max_clauses = rw (length-map cs clause_of) l in
+    let p : length cs ≤ length (padded max_clauses no_clause (map clause_of cs)) = rw (length_padded max_clauses no_clause (map clause_of cs) m) l in
+    rw (all_taken (clause_holds a) (padded max_clauses no_clause (map clause_of cs)) (length cs) p, first_part cs, list_all-map) (masks_hold a cs)
 
 -- ---- check
 
@@ -141,7 +137,7 @@ clauses_hold_of a cs =
 pub checked_accepted : (s : List ℕ) (f : Formula) (a : ℕ) → Accepts s f
     → checked s a ≡ cond (stray f.variables a) (verdict_refused (StrayVariable 0)) (cond (clauses_hold a f.clauses f.count) (verdict_said said_yes) (verdict_said said_no))
 unfolding checked
-checked_accepted s f a w = rw (w.reads, w.formula, clauses_hold_of a w.clauses)
+checked_accepted s f a w = rw (w.reads, w.formula, clauses_hold_of a w.clauses w.sized.few)
 
 -- which says yes or no
 pub said_by : (b : Bool) → cond b (verdict_said said_yes) (verdict_said said_no) ≡ verdict_values (Ok b)

@@ -1,10 +1,10 @@
 -- Literals that are read in a row: what stands there, and what it makes of the reader.
 use Prim.Native.Nat.{ℕ, ◌+◌, ◌-◌, ◌<◌}
-use Rattle.std.specs.Prelude.{Some, Ok}
-use mathlib.Core.Bool.{true, false, not, ◌||◌}
+use Rattle.std.specs.Prelude.{Some, None, Ok}
+use mathlib.Core.Bool.{Bool, true, false, not, cond, ◌||◌}
 use mathlib.Core.List.{List}
 use mathlib.Core.Logic.{⊎_elim}
-use mathlib.Core.Path.{◌≡◌}
+use mathlib.Core.Path.{◌≡◌, refl, subst}
 use native.Mathlib.Omega.{arith}
 use lib.Dec.{eqb, ltb}
 use lib.ListN.{length, get_or}
@@ -13,7 +13,7 @@ use Rattle.lists.proofs.TestLaws.{and_left, and_right, or_cases}
 use Rattle.masks.specs.Mask.{bit}
 use Rattle.formula.specs.declared.Reader.{Reader}
 use Rattle.formula.specs.InnerDecode.{one_to}
-use Rattle.formula.specs.InnerReader.{record_event, literal_stands, literal_read, Passes}
+use Rattle.formula.specs.InnerReader.{record_event, literal_stands, literal_read, past_literal, Passes, PassesLiterals}
 use Rattle.formula.specs.InnerFits.{side}
 use Rattle.formula.proofs.ReaderLaws.{whole, turn_next}
 
@@ -53,13 +53,27 @@ module _ (s : List ℕ) (r : Reader) (e : literal_stands s r ≡ true) where
       (or_cases _ _ w.sign)
 
 -- one literal more
-pub passes_more : (s : List ℕ) (r x : Reader) → Passes s r x → literal_stands s x ≡ true → Passes s r (literal_read s x)
-passes_more s r x p e =
-    let i = (stands s x e).inside in
-    let f = p.forward in
-    record {
-      reads = λ clauses w. (turn_next (whole s x clauses (p.reads clauses w)) (literal_next s x e)).kept (omega arith);
-      forward = omega arith;
-      inside = omega arith;
-      small = p.small;
-    }
+pub passes_more : (s : List ℕ) (r x y : Reader) → Passes s r x → past_literal s x ≡ Some y → Passes s r y
+passes_more s r x y p q = go (literal_stands s x) refl q
+  where
+    go : (t : Bool) → literal_stands s x ≡ t → cond t (Some (literal_read s x)) None ≡ Some y → Passes s r y
+    go true e k =
+        let z : literal_read s x ≡ y = cc in
+        let i = (stands s x e).inside in
+        let f = p.forward in
+        subst (Passes s r) z
+        (record {
+          reads = λ clauses w. (turn_next (whole s x clauses (p.reads clauses w)) (literal_next s x e)).kept (omega arith);
+          forward = omega arith;
+          inside = omega arith;
+          small = p.small;
+        })
+    go false e k = absurd cc
+
+-- none more
+pub passes_all : (s : List ℕ) (r x : Reader) → Passes s r x → past_literal s x ≡ None → PassesLiterals s r x
+passes_all s r x p q = record { passes = p; last = go (literal_stands s x) refl q }
+  where
+    go : (t : Bool) → literal_stands s x ≡ t → cond t (Some (literal_read s x)) None ≡ None → literal_stands s x ≡ false
+    go true e k = absurd cc
+    go false e k = e

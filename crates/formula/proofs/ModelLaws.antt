@@ -1,6 +1,6 @@
 -- The tests of check decide what a model is.
 use Prim.Native.Nat.{ℕ, ◌+◌, ◌-◌, ◌/◌, ◌^◌, ◌≤◌}
-use mathlib.Core.Bool.{Bool, true, false, not, ◌||◌, true≢false, or-true}
+use mathlib.Core.Bool.{true, false, not, ◌||◌, true≢false, or-true}
 use mathlib.Core.List.Memᴰ
 use mathlib.Core.List.{List, [], ◌∷◌, Memᴰ}
 use mathlib.Core.Logic.{◌⊎◌, inl, inr}
@@ -8,6 +8,7 @@ use mathlib.Core.Path.{◌≡◌, refl, sym, ap, ◌∙◌, subst}
 use native.Mathlib.Omega.{arith}
 use lib.Dec.{eqb}
 use borrow.Author.Tests.{eqb-false, not-true, ne_eqb}
+use Rattle.std.proofs.lemmas.Bool.{false_from_ne_true}
 use Rattle.lists.proofs.TestLaws.{and_left, and_right, and_both, or_cases, signs_equal, sign_itself}
 use Rattle.masks.specs.Mask.{bit}
 use Rattle.masks.proofs.BitLaws.{bit_shift}
@@ -67,18 +68,18 @@ some_stray n a v l e =
     let q : v ≡ n + (v - n) = omega arith in
     ap not (ne_eqb (a / 2 ^ n) 0 (member_some (a / 2 ^ n) (v - n) (bit_shift a n (v - n) ∙ ap (bit a) (sym q) ∙ e)))
 
+-- if none is, no variable from n on is true
+pub stray_none : (n a : ℕ) → stray n a ≡ false → (v : ℕ) → n ≤ v → bit a v ≡ false
+stray_none n a e v l = false_from_ne_true (bit a v) (λ q. true≢false (sym (some_stray n a v l q) ∙ e))
+
+-- and the other way round
+pub none_stray : (n a : ℕ) → ((v : ℕ) → n ≤ v → bit a v ≡ false) → stray n a ≡ false
+none_stray n a h = false_from_ne_true (stray n a) (λ e. let w = stray_some n a e in true≢false (sym w.2 ∙ h w.0 w.1))
+
 -- the tests hold of a model
 pub model_tests : (n : ℕ) (cs : List (List Literal)) (a : ℕ) → Model n cs a → (stray n a ≡ false) × (satisfied a cs ≡ true)
-model_tests n cs a m = (go (stray n a) refl, all_satisfied a cs m.satisfies)
-  where
-    go : (t : Bool) → stray n a ≡ t → t ≡ false
-    go true e = let w = stray_some n a e in sym w.2 ∙ m.none_above w.0 w.1
-    go false e = refl
+model_tests n cs a m = (none_stray n a m.none_above, all_satisfied a cs m.satisfies)
 
 -- and of nothing else
 pub tests_model : (n : ℕ) (cs : List (List Literal)) (a : ℕ) → stray n a ≡ false → satisfied a cs ≡ true → Model n cs a
-tests_model n cs a e h = record { satisfies = satisfied_all a cs h; none_above = λ v l. go v l (bit a v) refl }
-  where
-    go : (v : ℕ) → n ≤ v → (t : Bool) → bit a v ≡ t → t ≡ false
-    go v l true q = sym (some_stray n a v l q) ∙ e
-    go v l false q = refl
+tests_model n cs a e h = record { satisfies = satisfied_all a cs h; none_above = stray_none n a e }

@@ -1,10 +1,10 @@
 -- What check says, by what the assignment is.
-use Prim.Native.Nat.{ℕ, ◌≤◌}
+use Prim.Native.Nat.{ℕ}
 use mathlib.Core.Bool.{Bool, true, false, cond, true≢false}
 use mathlib.Core.List.{List}
 use mathlib.Core.Path.{◌≡◌, refl, sym, ap, ◌∙◌}
 use native.Mathlib.Omega.{arith}
-use Rattle.masks.specs.Mask.{bit}
+use Rattle.std.proofs.lemmas.Bool.{false_from_ne_true}
 use Rattle.formula.specs.declared.Refusal.{Refusal}
 use Rattle.formula.specs.declared.Refusal.TheVariants.{StrayVariable}
 use Rattle.formula.specs.Check.{VerdictValues, said_yes, said_no, verdict_said, verdict_refused, verdict_on, checked}
@@ -14,7 +14,7 @@ use Rattle.formula.specs.Format.{Encodes}
 use Rattle.formula.specs.Models.{ModelOf, NoModelOf, StrayOf}
 use Rattle.formula.specs.InnerModels.{satisfied, stray}
 use Rattle.formula.specs.Table.{Refuses}
-use Rattle.formula.proofs.ModelLaws.{stray_some, some_stray, model_tests, tests_model}
+use Rattle.formula.proofs.ModelLaws.{stray_some, some_stray, stray_none, none_stray, model_tests, tests_model}
 use Rattle.formula.proofs.OutcomeLaws.{decode_gives, decode_means}
 use Rattle.formula.proofs.RefusalLaws.{given_number}
 
@@ -24,13 +24,6 @@ pub data Says (s : List ℕ) (a : ℕ) : VerdictValues → Type 0 where
   no_for : NoModelOf s a → Says s a (verdict_said said_no)
   stray_for : StrayOf s a → Says s a (verdict_refused (StrayVariable 0))
   refused_for : (r : Refusal) → decode s ≡ refused r → Says s a (verdict_refused r)
-
-no_strays : (n a : ℕ) → stray n a ≡ false → (v : ℕ) → n ≤ v → bit a v ≡ false
-no_strays n a e v l = go (bit a v) refl
-  where
-    go : (t : Bool) → bit a v ≡ t → t ≡ false
-    go true q = sym (some_stray n a v l q) ∙ e
-    go false q = refl
 
 says_of : (s : List ℕ) (a : ℕ) (x : Decoding) → decode s ≡ x → Says s a (verdict_on x a)
 says_of s a (readable n cs) e = go (stray n a) refl (satisfied a cs) refl
@@ -49,7 +42,7 @@ says_of s a (readable n cs) e = go (stray n a) refl (satisfied a cs) refl
           variables = n;
           clauses = cs;
           encodes = encoded;
-          none_above = no_strays n a p;
+          none_above = stray_none n a p;
           fails = λ m. true≢false (sym (model_tests n cs a m).1 ∙ q);
         })
 says_of s a (refused r) e = refused_for r e
@@ -79,18 +72,10 @@ checked_model s a m = let t = model_tests m.variables m.clauses a m.model in rw 
 
 pub checked_no_model : (s : List ℕ) (a : ℕ) → NoModelOf s a → checked s a ≡ verdict_said said_no
 unfolding checked
-checked_no_model s a m = rw (decode_gives s (readable m.variables m.clauses) m.encodes, quiet, unsatisfied (satisfied a m.clauses) refl)
-  where
-    quiet : stray m.variables a ≡ false
-    quiet = go (stray m.variables a) refl
-      where
-        go : (t : Bool) → stray m.variables a ≡ t → t ≡ false
-        go true e = let w = stray_some m.variables a e in sym w.2 ∙ m.none_above w.0 w.1
-        go false e = refl
-
-    unsatisfied : (t : Bool) → satisfied a m.clauses ≡ t → satisfied a m.clauses ≡ false
-    unsatisfied true e = absurd (m.fails (tests_model m.variables m.clauses a quiet e))
-    unsatisfied false e = e
+checked_no_model s a m =
+    let quiet = none_stray m.variables a m.none_above in
+    let fails = false_from_ne_true (satisfied a m.clauses) (λ e. m.fails (tests_model m.variables m.clauses a quiet e)) in
+    rw (decode_gives s (readable m.variables m.clauses) m.encodes, quiet, fails)
 
 pub checked-stray : (s : List ℕ) (a : ℕ) → StrayOf s a → checked s a ≡ verdict_refused (StrayVariable 0)
 unfolding checked

@@ -86,7 +86,7 @@ literal_stands s r =
     ltb 0 r.at && (ltb (r.at + 1) (length s) && ((eqb (get_or s r.at 0) 2 || eqb (get_or s r.at 0) 3)
     && (one_to r.variables (get_or s (r.at + 1) 0) && not (bit (side r.current (not (eqb (get_or s r.at 0) 2))) (get_or s (r.at + 1) 0 - 1)))))
 
--- the reader behind it
+-- the reader behind that literal
 abbrev pub literal_read : List ℕ → Reader → Reader
 literal_read s r = record {
   at = r.at + 2;
@@ -94,6 +94,10 @@ literal_read s r = record {
   count = r.count;
   current = with_literal r.current (get_or s (r.at + 1) 0 - 1) (eqb (get_or s r.at 0) 2);
 }
+
+-- the reader behind a literal, if the record is one that can be read
+abbrev pub past_literal : List ℕ → Reader → Option Reader
+past_literal s r = cond (literal_stands s r) (Some (literal_read s r)) None
 
 -- the reader at a reading
 abbrev pub reader_of : Reading → Reader

@@ -1,7 +1,7 @@
 // Encoded formulas: the reader, its refusals, and the act check.
 #![tactic(auto)]
 
-ghost use Rattle.std.specs.Prelude.{◌≡◌, ◌+◌, ◌<◌, ◌≤◌, ◌^◌, eqb, length, get_or, not};
+ghost use Rattle.std.specs.Prelude.{◌≡◌, ◌+◌, ◌<◌, ◌≤◌, ◌^◌, length, not};
 ghost use Rattle.limits.specs.Limits.{max_variables, max_clauses};
 ghost use Rattle.formula.specs.Check.{verdict_values, checked};
 ghost use Rattle.formula.specs.InnerCheck.{clause_holds, clauses_hold};
@@ -9,7 +9,7 @@ ghost use Rattle.formula.specs.InnerMasked.{no_clause, with_literal, decoded};
 ghost use Rattle.formula.specs.InnerFits.{side, clause_variables};
 ghost use Rattle.formula.specs.InnerDecode.{kind_of};
 ghost use Rattle.formula.specs.Refusals.{table_row};
-ghost use Rattle.formula.specs.InnerReader.{kind_held, count_event, variable_event, literal_event, end_event, finish_event, literal_stands, literal_read, record_event, PassesLiterals};
+ghost use Rattle.formula.specs.InnerReader.{kind_held, count_event, variable_event, literal_event, end_event, finish_event, past_literal, record_event, PassesLiterals};
 
 mod assignment;
 
@@ -307,46 +307,41 @@ fn read_record(input: &[u8], r: Reader) -> Result<Option<Reader>, Refusal>
     }
 }
 
-// The record is a literal that can be read.
-fn is_literal(input: &[u8], r: Reader) -> bool
+// The reader behind a literal, if the record is one that can be read.
+fn past_literal(input: &[u8], r: Reader) -> Option<Reader>
     requires { (r.at ≤ length input.now) × (r.variables ≤ max_variables) }
-    ensures { result ≡ literal_stands input.now r }
+    ensures { result ≡ past_literal input.now r }
 {
     if r.at == 0 || input.len() - r.at < 2 {
-        return false;
+        return None;
     }
-    let Some(Kind::Literal(sign)) = Kind::of(input[r.at]) else {
-        return false;
-    };
+    let kind = input[r.at];
+    if !matches!(kind, 2 | 3) {
+        return None;
+    }
     let b = input[r.at + 1];
     if b == 0 || r.variables < b {
-        return false;
+        return None;
     }
-    !masks::member(r.current.other_side(sign), usize::from(b) - 1)
-}
-
-// A literal that can be read is read.
-fn take_literal(input: &[u8], r: Reader) -> Reader
-    requires { (r.at + 1 < length input.now) × (1 ≤ get_or input.now (r.at + 1) 0) × (get_or input.now (r.at + 1) 0 ≤ max_variables) }
-    ensures { result ≡ literal_read input.now r }
-{
-    Reader {
+    let v = usize::from(b) - 1;
+    if masks::member(r.current.other_side(kind == 2), v) {
+        return None;
+    }
+    Some(Reader {
         at: r.at + 2,
-        current: r
-            .current
-            .with_literal(usize::from(input[r.at + 1]) - 1, input[r.at] == 2),
+        current: r.current.with_literal(v, kind == 2),
         ..r
-    }
+    })
 }
 
-// Literals are read, as many as can be: most records are such, and this way no answer is made of them.
+// Literals are read, as many as can be: most records are such, and this way no refusal is made of them.
 fn read_literals(input: &[u8], r: Reader) -> Reader
     requires { (r.at ≤ length input.now) × (r.variables ≤ max_variables) }
     ensures { PassesLiterals input.now r result }
 {
     let mut reader = r;
-    while is_literal(input, reader) {
-        reader = take_literal(input, reader);
+    while let Some(after) = past_literal(input, reader) {
+        reader = after;
     }
     reader
 }
@@ -356,13 +351,12 @@ pub fn decode(input: &[u8]) -> Result<Formula, Refusal>
     ensures { result ≡ decoded input.now }
 {
     let mut clauses = [Clause::empty(); MAX_CLAUSES];
-    let start = Reader {
+    let mut reader = Reader {
         variables: 0,
         at: 0,
         count: 0,
         current: Clause::empty(),
     };
-    let mut reader = read_literals(input, start);
     while let Some(after) = read_record(input, reader)? {
         if reader.count < after.count {
             clauses[reader.count] = reader.current;

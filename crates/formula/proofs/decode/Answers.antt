@@ -14,7 +14,7 @@ turn c = turn_next (whole _ _ _ c.loop-after.invariant) (sym c.read_record.ensur
 
 pub loop-after-init : goal.loop-after-init
 unfolding padded
-loop-after-init c = c.read_literals-reader.ensures.passes.reads _ (rw (c.empty-clauses.ensures, c.empty.ensures) (reads_start c.args.input.now))
+loop-after-init c = rw (c.empty-clauses.ensures, c.empty.ensures) (reads_start c.args.input.now)
 
 pub returns-in_err-after : goal.returns-in_err-after
 unfolding decoded
@@ -22,15 +22,15 @@ returns-in_err-after c =
     let p = err_from_is_err_and c.from_residual.result c.from_residual.ensures.1 in
     rw (p.1, p.2) (ap held (sym (turn_stopped (whole _ _ _ c.loop-after.invariant) (sym c.read_record.ensures ∙ c.in_err-after.was))))
 
-pub read_literals-reader-requires-in-Some : goal.read_literals-reader-requires-in-Some
-read_literals-reader-requires-in-Some c =
-    let t = turn (goal.at.read_literals-reader-requires-in-Some c).In-Some in
+pub read_literals-reader-requires : goal.read_literals-reader-requires
+read_literals-reader-requires c =
+    let t = turn (goal.at.read_literals-reader-requires c).In-Some in
     (t.inside, t.small)
 
 pub loop-after-preserved : goal.loop-after-preserved
 loop-after-preserved c =
     let t = turn (goal.at.loop-after-preserved c).In-Some in
-    c.read_literals-reader-in-Some.ensures.passes.reads _
+    c.read_literals-reader.ensures.passes.reads _
     (elim c.if-reader-after.branch [
       | then-reader-after w ↦ rw w.clauses-is (t.stored w.if-reader-after.true).1
       | else-reader-after w ↦ rw w.clauses-is (t.kept w.if-reader-after.false)

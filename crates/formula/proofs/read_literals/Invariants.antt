@@ -4,8 +4,8 @@ use lib.ListN.{length}
 use Rattle.formula.specs.InnerReader.{Passes}
 use Rattle.formula.proofs.read_literals.Given as goal
 
-abbrev pub invariant-loop-reader : goal.invariant-loop-reader
-invariant-loop-reader l = Passes l.input l.initial.reader l.reader
+abbrev pub invariant-loop-after : goal.invariant-loop-after
+invariant-loop-after l = Passes l.input l.initial.reader l.reader
 
-abbrev pub decreases-loop-reader : goal.decreases-loop-reader
-decreases-loop-reader l = length l.input - l.reader.at
+abbrev pub decreases-loop-after : goal.decreases-loop-after
+decreases-loop-after l = length l.input - l.reader.at
