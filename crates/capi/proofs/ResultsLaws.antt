@@ -7,8 +7,8 @@ use Rattle.formula.specs.declared.Refusal.{Refusal}
 use Rattle.formula.specs.Refusals.{table_row}
 use Rattle.formula.proofs.NumberLaws.{refusal_numbered}
 use Rattle.walk.specs.Checkpoints.{Checkpoint}
-use Rattle.enumeration.specs.declared.calls.Answer.{Answer}
-use Rattle.enumeration.specs.declared.calls.Answer.TheVariants.{Model, Spent, Ended, Refused}
+use Rattle.enumeration.specs.declared.steps.Answer.{Answer}
+use Rattle.enumeration.specs.declared.steps.Answer.TheVariants.{Model, Spent, Ended}
 use Rattle.enumeration.specs.Values.{answer_values}
 use Rattle.capi.specs.Interface.{walk_results, list_results}
 
@@ -21,11 +21,9 @@ pub counted : (a : Answer) (n : ℕ) (c : Checkpoint) → walk_results (answer_v
 counted (Model m) n c = refl
 counted Spent n c = refl
 counted Ended n c = refl
-counted (Refused r) n c = refl
 
 -- the values of an answer have the checkpoint beside it
 pub beside : (a : Answer) (s e : ℕ) (c : Checkpoint) → (answer_values a s e c).checkpoint ≡ c
 beside (Model m) s e c = refl
 beside Spent s e c = refl
 beside Ended s e c = refl
-beside (Refused r) s e c = refl

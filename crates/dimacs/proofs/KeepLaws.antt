@@ -6,15 +6,14 @@ use mathlib.Core.Path.{◌≡◌, refl, sym, ap, subst, ◌∙◌}
 use native.Mathlib.Omega.{arith}
 use borrow.Author.Tests.{le-leb, lt-leb, lt-ltb, le-ltb, eq-eqb, ne_eqb}
 use lib.Dec.{eqb}
-use lib.ListN.{length, take, drop, length-append}
-use lib.Seq.{take-append_seam}
+use lib.ListN.{length, take, set, length-append, length-set}
+use Rattle.std.proofs.lemmas.List.{take_more_set}
 use Rattle.limits.specs.Limits.{max_variables, max_clauses}
 use Rattle.lists.proofs.TestLaws.{bool_clash}
 use Rattle.masks.specs.Mask.{bit}
-use Rattle.writing.specs.Placed.{Wrote}
-use Rattle.writing.proofs.PlacedLaws.{wrote_length, wrote_more}
 use Rattle.formula.specs.declared.Refusal.TheVariants.{Truncated, NoSuchVariable, ComplementaryLiteral, TooManyClauses, ClauseCountDiffers}
-use Rattle.formula.specs.Format.{Literal, literal_bytes, literals_bytes, clause_bytes, clauses_bytes, formula_bytes, names, names_as, has_complement, add, ClauseOver, Sized}
+use Rattle.formula.specs.Decoding.{refused}
+use Rattle.formula.specs.Format.{Literal, literal_kind, literal_bytes, literals_bytes, clause_bytes, clauses_bytes, formula_bytes, names, names_as, has_complement, add, ClauseOver, Sized}
 use Rattle.formula.specs.InnerDecode.{none_yet}
 use Rattle.formula.specs.declared.Clause.{Clause}
 use Rattle.formula.specs.InnerFits.{side, clause_variables}
@@ -25,20 +24,21 @@ use Rattle.formula.proofs.RepeatLaws.{over_none, sized_more}
 use Rattle.formula.proofs.LengthLaws.{clause_le, clauses_le, literals_length}
 use Rattle.dimacs.proofs.ScanLaws.{capped_low, capped_back}
 use Rattle.dimacs.specs.declared.reader.Reader.{Reader}
-use Rattle.dimacs.specs.Text.{Piece, value, Progress, progress_start, next, take_literal, take_end, closing}
+use Rattle.dimacs.specs.Text.{Piece, value, Progress, progress_start, next, stop, take_literal, take_end, closing}
 use Rattle.dimacs.specs.InnerScan.{capped, numbers_of}
 use Rattle.dimacs.specs.declared.opening.Numbers.{Numbers}
-use Rattle.dimacs.specs.InnerReader.{kept_room, kept_bytes, Starts, Keeps, Stepped, Reads}
-use Rattle.dimacs.specs.declared.answers.Converted.TheVariants.{Written, Refused}
-use Rattle.dimacs.specs.declared.reader.Event.TheVariants.{Next, Stopped}
+use Rattle.dimacs.specs.InnerReader.{kept_room, kept_bytes, with_byte, with_record, Holds, Keeps, Stands, Kept}
 
--- ---- bytes at the front
+-- ---- a byte more
 
--- what is written behind them stands there too
-pub starts_more : (xs ys b c : List ℕ) (r : ℕ) → Starts xs b → Wrote ys (length xs) b c r → Starts (xs ++ ys) c
-starts_more xs ys b c r h w =
-    let e : c ≡ (xs ++ ys) ++ drop (length xs + length ys) b = w.buffer ∙ rw h (sym (append_assoc xs ys (drop (length xs + length ys) b))) in
-    ap (take (length (xs ++ ys))) e ∙ take-append_seam (xs ++ ys) (drop (length xs + length ys) b)
+-- the bytes that are kept, and one more
+pub holds_byte : {xs b : List ℕ} {n : ℕ} → Holds xs n b → n < kept_room → (x : ℕ) → Holds (xs ++ (x ∷ [])) (n + 1) (set b n x)
+holds_byte {xs} {b} {n} h l x =
+    record {
+      long = omega (arith, h.long, length-append xs (x ∷ []));
+      starts = take_more_set b n x (omega (arith, h.room)) ∙ ap (λ (ys : List ℕ). ys ++ (x ∷ [])) h.starts;
+      room = length-set b n x ∙ h.room;
+    }
 
 -- ---- how many bytes are kept
 
@@ -73,46 +73,22 @@ kept_all n s h = rw (h, append-nil (clauses_bytes s.ended))
 
 -- ---- what a reader has
 
-reader_same : {v v' m m' l l' : ℕ} {c c' : Clause} → v ≡ v' → m ≡ m' → c ≡ c' → l ≡ l'
-    → ◌≡◌ {A = Reader} (record { variables = v; count = m; current = c; length = l }) (record { variables = v'; count = m'; current = c'; length = l' })
-reader_same e f g h = rw (e, f, g, h)
-
-module _ {n : ℕ} {s : Progress} {r : Reader} {b : List ℕ} (k : Keeps n s r b) where
-  pub has_variables : r.variables ≡ n
-  has_variables = ap (λ (x : Reader). x.variables) k.is
-
-  pub has_count : r.count ≡ length s.ended
-  has_count = ap (λ (x : Reader). x.count) k.is
-
-  pub has_length : r.length ≡ length (kept_bytes n s)
-  has_length = ap (λ (x : Reader). x.length) k.is
-
+module _ {n : ℕ} {s : Progress} {r : Reader} (k : Keeps n s r) where
   -- a side of its clause has what is named that way
-  pub has_side : (sign : Bool) (v : ℕ) → bit (side r.current sign) v ≡ names_as s.current v sign
-  has_side sign v = ap (λ (x : Reader). bit (side x.current sign) v) k.is ∙ clause_side s.current sign v
+  has_side : (sign : Bool) (v : ℕ) → bit (side r.current sign) v ≡ names_as s.current v sign
+  has_side sign v = ap (λ (c : Clause). bit (side c sign) v) k.current ∙ clause_side s.current sign v
 
   -- both sides what is named
-  pub has_named : (v : ℕ) → bit (clause_variables r.current) v ≡ names s.current v
-  has_named v = ap (λ (x : Reader). bit (clause_variables x.current) v) k.is ∙ clause_names s.current v
+  has_named : (v : ℕ) → bit (clause_variables r.current) v ≡ names s.current v
+  has_named v = ap (λ (c : Clause). bit (clause_variables c) v) k.current ∙ clause_names s.current v
 
   -- both are empty only where there is no literal
-  pub has_none : eqb (clause_variables r.current) 0 ≡ none_yet s.current
-  has_none = ap (λ (x : Reader). eqb (clause_variables x.current) 0) k.is ∙ clause_empty s.current
+  has_none : eqb (clause_variables r.current) 0 ≡ none_yet s.current
+  has_none = ap (λ (c : Clause). eqb (clause_variables c) 0) k.current ∙ clause_empty s.current
 
   -- room for the end of a clause
-  pub end_room : r.length + 1 ≤ length b
-  end_room = omega (arith, has_length, kept_le n s k.sized k.over, k.room)
-
-  -- what is written behind the bytes that are kept is kept too
-  module _ {zs ys c : List ℕ} {x : ℕ} (e : zs ≡ kept_bytes n s ++ ys) (w : Wrote ys r.length b c x) where
-    more_starts : Starts zs c
-    more_starts = subst (λ (l : List ℕ). Starts l c) (sym e) (starts_more (kept_bytes n s) ys b c x k.starts (rw has_length at w))
-
-    more_length : x ≡ length zs
-    more_length = omega (arith, w.next, has_length, ap length e, length-append (kept_bytes n s) ys)
-
-    more_room : r.length + length ys ≤ length b → length c ≡ kept_room
-    more_room h = wrote_length h w ∙ k.room
+  pub end_room : r.length < kept_room
+  end_room = omega (arith, k.holds.long, kept_le n s k.sized k.over)
 
   -- ---- a literal
 
@@ -121,98 +97,94 @@ module _ {n : ℕ} {s : Progress} {r : Reader} {b : List ℕ} (k : Keeps n s r b
     literal = record { variable = v - 1; positive = sign }
 
     -- of a variable that there is not
-    pub literal_above : n < v → Stepped n b (take_literal n at s sign v) (Stopped (NoSuchVariable at))
-    literal_above h = rw (lt-leb v n h) refl
+    pub literal_above : r.variables < v → take_literal n at s sign v ≡ stop (NoSuchVariable at)
+    literal_above h = rw (lt-leb v n (omega (arith, k.variables)))
 
-    module _ (below : v ≤ n) where
+    module _ (below : v ≤ r.variables) where
+      fits : v ≤ n
+      fits = omega (arith, k.variables)
+
       -- whose complement is there
-      pub literal_complement : bit (side r.current (not sign)) (v - 1) ≡ true → Stepped n b (take_literal n at s sign v) (Stopped (ComplementaryLiteral at))
+      pub literal_complement : bit (side r.current (not sign)) (v - 1) ≡ true → take_literal n at s sign v ≡ stop (ComplementaryLiteral at)
       literal_complement e =
           let c : has_complement s.current literal ≡ true = sym (has_side (not sign) (v - 1)) ∙ e in
-          rw (le-leb v n below, c) refl
+          rw (le-leb v n fits, c)
 
       module _ (alone : bit (side r.current (not sign)) (v - 1) ≡ false) where
         fine : has_complement s.current literal ≡ false
         fine = sym (has_side (not sign) (v - 1)) ∙ alone
 
         -- that is there already
-        pub literal_repeat : bit (clause_variables r.current) (v - 1) ≡ true → Stepped n b (take_literal n at s sign v) (Next r)
+        pub literal_repeat : bit (clause_variables r.current) (v - 1) ≡ true → Stands n (take_literal n at s sign v) r
         unfolding add
         literal_repeat e =
             let h : names s.current (v - 1) ≡ true = sym (has_named (v - 1)) ∙ e in
-            rw (le-leb v n below, fine, h) k
+            record { progress = s; taken = rw (le-leb v n fits, fine, h); keeps = k }
 
         module _ (some : 1 ≤ v) (fresh : bit (clause_variables r.current) (v - 1) ≡ false) where
           unnamed : names s.current (v - 1) ≡ false
           unnamed = sym (has_named (v - 1)) ∙ fresh
 
           over : ClauseOver n (s.current ++ (literal ∷ []))
-          over = clause_more literal k.over (omega arith) unnamed
+          over = clause_more literal k.over (omega (arith, fits)) unnamed
 
           -- there is room for it
-          pub literal_room : r.length + 2 ≤ length b
+          pub literal_room : r.length + 2 ≤ kept_room
           literal_room =
               let s' = with_current s (s.current ++ (literal ∷ [])) in
               let l = length-append s.current (literal ∷ []) in
-              omega (arith, has_length, kept_length n s, kept_length n s', kept_le n s' k.sized over, k.room)
+              omega (arith, k.holds.long, kept_length n s, kept_length n s', kept_le n s' k.sized over)
 
           -- it is kept
-          pub literal_kept : (x : Reader) (c : List ℕ)
-              → x ≡ record { variables = r.variables; count = r.count; current = with_literal r.current (v - 1) sign; length = r.length + 2 }
-              → Wrote (literal_bytes literal) r.length b c x.length → Stepped n c (take_literal n at s sign v) (Next x)
+          pub literal_kept : Stands n (take_literal n at s sign v) (with_record r sign v)
           unfolding add literal_bytes
-          literal_kept x c e w =
-              rw (le-leb v n below, fine, unnamed)
-              (record {
-                is = e ∙ reader_same has_variables has_count masks (sym grown ∙ more_length bytes w);
-                sized = k.sized;
-                over = over;
-                starts = more_starts bytes w;
-                room = more_room bytes w literal_room;
-              })
-            where
-              bytes : kept_bytes n (with_current s (s.current ++ (literal ∷ []))) ≡ kept_bytes n s ++ literal_bytes literal
-              bytes = kept_literal n s literal
-
-              masks : with_literal r.current (v - 1) sign ≡ clause_of (s.current ++ (literal ∷ []))
-              masks = ap (λ (y : Reader). with_literal y.current (v - 1) sign) k.is ∙ sym (with_literals-last no_clause s.current literal)
-
-              grown : x.length ≡ r.length + 2
-              grown = ap (λ (y : Reader). y.length) e
+          literal_kept =
+              let one : v - 1 + 1 ≡ v = omega (arith, some) in
+              let first = holds_byte k.holds (omega (arith, literal_room)) (literal_kind sign) in
+              let both = holds_byte first (omega (arith, literal_room)) v in
+              record {
+                progress = with_current s (s.current ++ (literal ∷ []));
+                taken = rw (le-leb v n fits, fine, unnamed);
+                keeps = record {
+                  variables = k.variables;
+                  count = k.count;
+                  current = ap (λ (c : Clause). with_literal c (v - 1) sign) k.current ∙ sym (with_literals-last no_clause s.current literal);
+                  holds = rw (kept_literal n s literal, one) (rw append_assoc at both);
+                  sized = k.sized;
+                  over = over;
+                };
+              }
 
   -- ---- the end of a clause
 
-  pub end_many : (at : ℕ) → max_clauses ≤ r.count → Stepped n b (take_end at s) (Stopped (TooManyClauses at))
-  end_many at h = rw (le-ltb (length s.ended) max_clauses (omega (arith, has_count))) refl
+  pub end_many : (at : ℕ) → max_clauses ≤ r.count → take_end at s ≡ stop (TooManyClauses at)
+  end_many at h = rw (le-ltb (length s.ended) max_clauses (omega (arith, k.count)))
 
-  pub end_kept : (at : ℕ) (e : Clause) (x : ℕ) (c : List ℕ) → r.count < max_clauses → e ≡ no_clause → Wrote (4 ∷ []) r.length b c x
-      → Stepped n c (take_end at s) (Next (record { variables = r.variables; count = r.count + 1; current = e; length = x }))
+  pub end_kept : (at : ℕ) (e : Clause) → r.count < max_clauses → e ≡ no_clause → Stands n (take_end at s) (record (with_byte r 4) { count = r.count + 1; current = e })
   unfolding with_literals
-  end_kept at e x c h q w =
-      rw (lt-ltb (length s.ended) max_clauses (omega (arith, has_count)))
-      (record {
-        is = reader_same has_variables count q (more_length bytes w);
-        sized = sized_more k.sized k.over (omega (arith, has_count));
-        over = over_none;
-        starts = more_starts bytes w;
-        room = more_room bytes w end_room;
-      })
-    where
-      bytes : kept_bytes n (record { ended = s.ended ++ (s.current ∷ []); current = [] }) ≡ kept_bytes n s ++ (4 ∷ [])
-      bytes = kept_end n s
-
-      count : r.count + 1 ≡ length (s.ended ++ (s.current ∷ []))
-      count = omega (arith, has_count, length-append s.ended (s.current ∷ []))
+  end_kept at e h q =
+      record {
+        progress = record { ended = s.ended ++ (s.current ∷ []); current = [] };
+        taken = rw (lt-ltb (length s.ended) max_clauses (omega (arith, k.count)));
+        keeps = record {
+          variables = k.variables;
+          count = omega (arith, k.count, length-append s.ended (s.current ∷ []));
+          current = q;
+          holds = rw (kept_end n s) (holds_byte k.holds end_room 4);
+          sized = sized_more k.sized k.over (omega (arith, k.count));
+          over = over_none;
+        };
+      }
 
   -- ---- behind the last word
 
   -- a clause is open
-  pub close_open : (len : ℕ) (d : Piece) → (clause_variables r.current ≡ 0 → ⊥) → Reads (closing len n d (next s)) (Refused (Truncated len)) b
+  pub close_open : (len : ℕ) (d : Piece) → (clause_variables r.current ≡ 0 → ⊥) → closing len n d (next s) ≡ refused (Truncated len)
   close_open len d h = go s.current (sym has_none ∙ ne_eqb (clause_variables r.current) 0 h)
     where
-      go : (c : List Literal) → none_yet c ≡ false → Reads (closing len n d (next (with_current s c))) (Refused (Truncated len)) b
+      go : (c : List Literal) → none_yet c ≡ false → closing len n d (next (with_current s c)) ≡ refused (Truncated len)
       go [] e = bool_clash {x = true} refl e
-      go (l ∷ c) e = rw (ne_eqb (suc (length c)) 0 (λ z. absurd (omega arith))) refl
+      go (l ∷ c) e = rw (ne_eqb (suc (length c)) 0 (λ z. absurd (omega arith)))
 
   module _ (len : ℕ) (d : Piece) (none : clause_variables r.current ≡ 0) where
     closed : s.current ≡ []
@@ -224,29 +196,35 @@ module _ {n : ℕ} {s : Progress} {r : Reader} {b : List ℕ} (k : Keeps n s r b
 
     module _ (c : Piece) (p : Numbers) (e : p ≡ numbers_of c d) where
       -- another number of clauses than the p line says
-      pub close_differs : (r.count ≡ p.clauses → ⊥) → Reads (closing len n d (next s)) (Refused (ClauseCountDiffers p.fourth)) b
+      pub close_differs : (r.count ≡ p.clauses → ⊥) → closing len n d (next s) ≡ refused (ClauseCountDiffers p.fourth)
       close_differs h =
-          rw (e, closed, ne_eqb (length s.ended) (value d.bytes) (λ q. h (has_count ∙ q ∙ sym (capped_low (value d.bytes) (omega (arith, k.sized.few))) ∙ sym (ap (λ (x : Numbers). x.clauses) e)))) refl
+          rw (e, closed, ne_eqb (length s.ended) (value d.bytes) (λ q. h (k.count ∙ q ∙ sym (capped_low (value d.bytes) (omega (arith, k.sized.few))) ∙ sym (ap (λ (x : Numbers). x.clauses) e))))
 
       -- the same
-      pub close_done : (x : ℕ) (z : List ℕ) → r.count ≡ p.clauses → Wrote (5 ∷ []) r.length b z x → Reads (closing len n d (next s)) (Written x) z
-      close_done x z q w =
+      pub close_done : r.count ≡ p.clauses → Kept (closing len n d (next s)) (with_byte r 5)
+      close_done q =
           let m : r.count ≡ capped (value d.bytes) = q ∙ ap (λ (y : Numbers). y.clauses) e in
-          let f : length s.ended ≡ value d.bytes = sym has_count ∙ m ∙ capped_back (value d.bytes) (omega (arith, has_count, k.sized.few)) in
-          let bytes : formula_bytes n s.ended ≡ kept_bytes n s ++ (5 ∷ []) = kept_all n s closed in
-          rw (closed, eq-eqb (length s.ended) (value d.bytes) f) (ap Written (more_length bytes w), more_starts bytes w, k.sized)
+          let f : length s.ended ≡ value d.bytes = sym k.count ∙ m ∙ capped_back (value d.bytes) (omega (arith, k.count, k.sized.few)) in
+          record {
+            variables = n;
+            clauses = s.ended;
+            reads = rw (closed, eq-eqb (length s.ended) (value d.bytes) f);
+            holds = rw (kept_all n s closed) (holds_byte k.holds end_room 5);
+            sized = k.sized;
+          }
 
 -- ---- behind the p line
 
-pub keeps-start : (n : ℕ) (e : Clause) (x p : ℕ) (b c d : List ℕ) → 1 ≤ n → n ≤ max_variables → length b ≡ kept_room → e ≡ no_clause
-    → Wrote (1 ∷ []) 0 b c p → Wrote (n ∷ []) p c d x → Keeps n progress_start (record { variables = n; count = 0; current = e; length = x }) d
+pub keeps-start : (n : ℕ) (e : Clause) (z : List ℕ) → 1 ≤ n → n ≤ max_variables → length z ≡ kept_room → e ≡ no_clause
+    → Keeps n progress_start (with_byte (with_byte (record { variables = n; count = 0; current = e; length = 0; kept = z }) 1) n)
 unfolding with_literals clauses_bytes literals_bytes
-keeps-start n e x p b c d some most room q v w =
-    let u : Wrote (1 ∷ n ∷ []) 0 b d x = wrote_more (omega arith) v w in
+keeps-start n e z some most room q =
+    let none : Holds [] 0 z = record { long = refl; starts = refl; room = room } in
     record {
-      is = reader_same refl refl q (u.next ∙ omega arith);
+      variables = refl;
+      count = refl;
+      current = q;
+      holds = holds_byte (holds_byte none (omega arith) 1) (omega arith) n;
       sized = record { some = some; most = most; few = omega arith; clauses = tt };
       over = over_none;
-      starts = starts_more [] (1 ∷ n ∷ []) b d x refl u;
-      room = wrote_length (omega arith) u ∙ room;
     }

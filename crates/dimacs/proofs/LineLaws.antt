@@ -29,7 +29,7 @@ use Rattle.formula.proofs.RepeatLaws.{over-most}
 use Rattle.formula.proofs.ClauseLaws.{variables-bit}
 use Rattle.formula.proofs.Demands.{accepted_only}
 use Rattle.formula.proofs.FormatLaws.{names-append}
-use Rattle.dimacs.specs.declared.answers.Converted.TheVariants.{Written}
+use Rattle.std.specs.Prelude.{Ok}
 use Rattle.dimacs.specs.declared.writer.Offsets.{Offsets}
 use Rattle.dimacs.specs.Text.{minus_sign}
 use Rattle.dimacs.specs.Written.{literal_word, clause_line, clause_lines, opening_line, text_of, text_room}
@@ -383,7 +383,7 @@ module _ (s b : List ℕ) (long : text_room ≤ length b) where
 
   -- the whole text
   pub text_written : (n : ℕ) (cs : List (List Literal)) (c : List ℕ) (r : ℕ) → decode s ≡ readable n cs → Wrote (text_of n cs) 0 b c r
-      → to_text s b ≡ record { answer = converted_values (Written r); buffer = c }
+      → to_text s b ≡ record { answer = converted_values (Ok r); buffer = c }
   unfolding to_text
   text_written n cs c r e w =
       let z : 0 + length (text_of n cs) ≡ length (text_of n cs) = omega arith in

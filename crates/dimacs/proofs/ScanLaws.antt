@@ -1,4 +1,4 @@
--- Laws of the loops that scan a text.
+-- Laws of the numbers and the tokens of a text.
 use Prim.Native.Nat.{ℕ, suc, ◌+◌, ◌*◌, ◌-◌, ◌≤◌, ◌<◌}
 use mathlib.Core.Bool.{Bool, true, false, cond, and-false}
 use mathlib.Core.List.{List, [], ◌∷◌}
@@ -10,55 +10,10 @@ use lib.Dec.{eqb, ltb}
 use lib.ListN.{length, take, drop, get_or, length-drop, drop_of_length-le}
 use lib.Seq.{take_all, drop-cons}
 use Rattle.writing.specs.Text.{digit_zero}
-use Rattle.dimacs.specs.Text.{comment, is_digit, all_digits, run, value_from, bad, minus_sign, signed, unsigned, token, same}
-use Rattle.dimacs.specs.InnerScan.{until, cap, capped}
-
--- ---- up to the first byte for which a test holds
-
-module _ (test : ℕ → Bool) (s : List ℕ) (i : ℕ) where
-  -- at the end
-  pub until_end : length s ≤ i → i ≡ i + until test (drop i s)
-  unfolding until
-  until_end h = rw (drop_of_length-le s h) (omega arith)
-
-  -- at such a byte
-  pub until_here : i < length s → test (get_or s i 0) ≡ true → i ≡ i + until test (drop i s)
-  unfolding until
-  until_here h e = rw (drop-cons s i 0 h, e) (omega arith)
-
-  -- at another
-  pub until_next : i < length s → test (get_or s i 0) ≡ false → i + 1 + until test (drop (i + 1) s) ≡ i + until test (drop i s)
-  unfolding until
-  until_next h e = rw (drop-cons s i 0 h, e, add-one) (omega arith)
-
--- ---- the first byte of a line
-
-pub comment_end : (s : List ℕ) (i : ℕ) → length s ≤ i → comment (drop i s) ≡ false
-comment_end s i h = rw (drop_of_length-le s h)
-
--- ---- words that are the same
-
--- words of different lengths are not
-pub same_length : (s t : List ℕ) → (length s ≡ length t → ⊥) → same s t ≡ false
-unfolding same
-same_length [] [] h = absurd (h refl)
-same_length [] (y ∷ t) h = refl
-same_length (x ∷ s) [] h = refl
-same_length (x ∷ s) (y ∷ t) h = rw (same_length s t (λ e. h (ap suc e))) (and-false (eqb x y))
-
-module _ (s t : List ℕ) (i : ℕ) (l : length s ≡ length t) where
-  -- one byte more
-  pub same_next : i < length s → get_or s i 0 ≡ get_or t i 0 → same (drop (i + 1) s) (drop (i + 1) t) ≡ same (drop i s) (drop i t)
-  unfolding same
-  same_next h e = rw (drop-cons s i 0 h, drop-cons t i 0 (omega arith), eq-eqb (get_or s i 0) (get_or t i 0) e, add-one)
-
-  pub same_bad : i < length s → (get_or s i 0 ≡ get_or t i 0 → ⊥) → same (drop i s) (drop i t) ≡ false
-  unfolding same
-  same_bad h e = rw (drop-cons s i 0 h, drop-cons t i 0 (omega arith), ne_eqb (get_or s i 0) (get_or t i 0) e)
-
-  pub same_end : length s ≤ i → same (drop i s) (drop i t) ≡ true
-  unfolding same
-  same_end h = let k : length t ≤ i = omega arith in rw (drop_of_length-le s h, drop_of_length-le t k)
+use Rattle.std.specs.List.{list_all}
+use Rattle.std.specs.Prelude.{Some, None}
+use Rattle.dimacs.specs.Text.{is_digit, all_digits, run, value_from, value}
+use Rattle.dimacs.specs.InnerScan.{cap, capped, number_held}
 
 -- ---- digits
 
@@ -154,23 +109,25 @@ capped_zero x e = go (ltb x cap) refl
     go true p = sym (capped_low x (ltb-true x cap p)) ∙ e
     go false p = absurd (let f : cap ≡ 0 = sym (rw p) ∙ e in omega arith)
 
-pub capped_some : (x : ℕ) → (capped x ≡ 0 → ⊥) → x ≡ 0 → ⊥
-capped_some x h e = h (rw e)
-
 -- ---- tokens
 
--- the bytes behind the first
-pub behind-first : (s : List ℕ) → take (length s - 1) (drop 1 s) ≡ drop 1 s
-behind-first s = take_all (length s - 1) (drop 1 s) (omega (arith, length-drop 1 s))
+-- a run of digits has a number, and no other word
+pub number_digits : (s : List ℕ) → (length s ≡ 0 → ⊥) → all_digits s ≡ true → number_held s ≡ Some (capped (value s))
+number_digits s h e = let r : run s ≡ true = run_digits s h ∙ e in rw r
 
-pub token-none : (s : List ℕ) → length s ≡ 0 → token s ≡ bad
-token-none [] h = refl
-token-none (x ∷ s) h = absurd (omega arith)
+pub number_other : (s : List ℕ) → (length s ≡ 0 → ⊥) → all_digits s ≡ false → number_held s ≡ None
+number_other s h e = let r : run s ≡ false = run_digits s h ∙ e in rw r
 
-pub token-signed : (s : List ℕ) → (length s ≡ 0 → ⊥) → get_or s 0 0 ≡ minus_sign → token s ≡ signed (drop 1 s)
-token-signed [] h e = absurd (h refl)
-token-signed (x ∷ s) h e = rw (eq-eqb x minus_sign e)
+pub number-none : (s : List ℕ) → number_held s ≡ None → run s ≡ false
+number-none s = go (run s)
+  where
+    go : (b : Bool) → cond b (Some (capped (value s))) None ≡ None → b ≡ false
+    go true e = cc
+    go false e = refl
 
-pub token-unsigned : (s : List ℕ) → (length s ≡ 0 → ⊥) → (get_or s 0 0 ≡ minus_sign → ⊥) → token s ≡ unsigned s
-token-unsigned [] h e = absurd (h refl)
-token-unsigned (x ∷ s) h e = rw (ne_eqb x minus_sign e)
+pub number-some : (s : List ℕ) (n : ℕ) → number_held s ≡ Some n → (run s ≡ true) × (n ≡ capped (value s))
+number-some s n = go (run s)
+  where
+    go : (b : Bool) → cond b (Some (capped (value s))) None ≡ Some n → (b ≡ true) × (n ≡ capped (value s))
+    go true e = (refl, cc)
+    go false e = cc

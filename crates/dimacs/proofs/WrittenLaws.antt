@@ -15,9 +15,10 @@ use Rattle.lists.proofs.TestLaws.{or-none}
 use Rattle.writing.specs.Text.{digit_zero, line_feed, blank, decimal, line_of}
 use Rattle.writing.proofs.DecimalLaws.{told, decimal_told, IsDigit, decimal_digits, decimal_some}
 use Rattle.formula.specs.Format.{Literal}
+use Rattle.std.specs.List.{position_or_len}
 use Rattle.dimacs.specs.Text.{Piece, pieces, ends_line, parts_words, non_empty, comment, others, all_digits, run, value_from, value, ends, names_variable, minus_sign, unsigned, token}
 use Rattle.dimacs.specs.Written.{literal_word}
-use Rattle.dimacs.specs.InnerScan.{until, words_at}
+use Rattle.dimacs.specs.InnerScan.{words_at}
 use Rattle.dimacs.proofs.PieceLaws.{pieces_until, kept_piece}
 
 -- ---- the first piece of a text
@@ -28,27 +29,24 @@ module _ (test : ℕ → Bool) where
   Whole u = Every (λ x. test x ≡ false) u
 
   -- bytes that do not part stand before the first that does
-  until_whole : (u v : List ℕ) → Whole u → until test (u ++ v) ≡ length u + until test v
-  unfolding until
-  until_whole [] v h = omega arith
-  until_whole (x ∷ u) v h = let f = until_whole u v h.1 in rw h.0 (omega arith)
+  first_behind : (u v : List ℕ) → Whole u → position_or_len test (u ++ v) ≡ length u + position_or_len test v
+  first_behind [] v h = omega arith
+  first_behind (x ∷ u) v h = let f = first_behind u v h.1 in rw h.0 (omega arith)
 
   -- a piece goes up to a byte that parts
   pub pieces_part : (at : ℕ) (u : List ℕ) (x : ℕ) (v : List ℕ) → Whole u → test x ≡ true
       → pieces test at [] (u ++ (x ∷ v)) ≡ record { at = at; bytes = u } ∷ pieces test (at + length u + 1) [] v
-  unfolding until
   pieces_part at u x v h p =
-      let z : until test (x ∷ v) ≡ 0 = rw (p, until) in
-      let k : until test (u ++ (x ∷ v)) ≡ length u = (let f = until_whole u (x ∷ v) h in omega arith) in
+      let z : position_or_len test (x ∷ v) ≡ 0 = rw p in
+      let k : position_or_len test (u ++ (x ∷ v)) ≡ length u = (let f = first_behind u (x ∷ v) h in omega arith) in
       let l : ltb (length u) (length (u ++ (x ∷ v))) ≡ true = lt-ltb (length u) (length (u ++ (x ∷ v))) (omega (arith, length-append u (x ∷ v))) in
       let d : drop (suc (length u)) (u ++ (x ∷ v)) ≡ v = rw (← add-one (length u)) (drop-append-add u (x ∷ v) 1) in
       pieces_until test at (u ++ (x ∷ v)) ∙ rw (k, take-append_seam u (x ∷ v), l, d)
 
   -- the last one goes up to the end
   pub pieces_last : (at : ℕ) (u : List ℕ) → Whole u → pieces test at [] u ≡ record { at = at; bytes = u } ∷ []
-  unfolding until
   pieces_last at u h =
-      let k : until test u ≡ length u = (let f = rw append-nil at (until_whole u [] h) in omega arith) in
+      let k : position_or_len test u ≡ length u = (let f = rw append-nil at (first_behind u [] h) in omega arith) in
       pieces_until test at u ∙ rw (k, take-length u, le-ltb (length u) (length u) (omega arith))
 
 -- ---- a line of words

@@ -1,68 +1,83 @@
 -- What reading keeps, word by word; proofs/KeepLaws.antt ties it to Text.
-use Rattle.std.specs.Prelude.{ℕ, ◌+◌, ◌*◌, cond, List, Result, Ok, Err, [], ◌≡◌, ltb, length, take, drop}
-use Rattle.limits.specs.Limits.{max_clauses}
+use Rattle.std.specs.Prelude.{ℕ, ◌+◌, ◌*◌, ◌-◌, ◌≤◌, Bool, List, Result, MatchResult, ◌≡◌, length, take, set}
+use Rattle.limits.specs.Limits.{max_variables, max_clauses}
 use Rattle.formula.specs.declared.Refusal.{Refusal}
-use Rattle.formula.specs.Format.{formula_bytes, ClauseOver, Sized, max_clause_bytes}
+use Rattle.formula.specs.Format.{Literal, literal_kind, formula_bytes, ClauseOver, Sized, max_clause_bytes}
 use Rattle.formula.specs.Table.{inside, written}
 use Rattle.formula.specs.Decoding.{Decoding, readable, refused}
-use Rattle.formula.specs.InnerMasked.{clause_of}
+use Rattle.formula.specs.InnerMasked.{with_literal, clause_of}
+use Rattle.dimacs.specs.declared.opening.Numbers.{Numbers}
 use Rattle.dimacs.specs.declared.reader.Reader.{Reader}
-use Rattle.dimacs.specs.declared.reader.Event.{Event}
-use Rattle.dimacs.specs.declared.reader.Event.TheVariants.{Next, Stopped}
-use Rattle.dimacs.specs.Text.{Piece, ends_line, comment, others, all_words, Progress, Taking, next, stop}
-use Rattle.dimacs.specs.InnerScan.{until, lines_from, words_at}
+use Rattle.dimacs.specs.Text.{Piece, all_words, Progress, progress_start, Taking, next, stop, take_words, closing, by_lines}
+use Rattle.dimacs.specs.InnerScan.{numbers_of}
 
 -- room for the most clauses and one that has not ended
 abbrev pub kept_room : ℕ
 kept_room = 2 + (max_clauses + 1) * max_clause_bytes
 
+-- a reader that has kept a byte more
+abbrev pub with_byte : Reader → ℕ → Reader
+with_byte r x = record r { length = r.length + 1; kept = set r.kept r.length x }
+
+-- and one that has kept a literal's record more, of variable k, from 1
+abbrev pub with_record : Reader → Bool → ℕ → Reader
+with_record r sign k = record (with_byte (with_byte r (literal_kind sign)) k) { current = with_literal r.current (k - 1) sign }
+
+-- the bytes xs are kept, the first n of b
+pub record Holds (xs : List ℕ) (n : ℕ) (b : List ℕ) : Type 0 where
+  pub long : n ≡ length xs
+  pub starts : take n b ≡ xs
+  pub room : length b ≡ kept_room
+
 -- the bytes of what is read so far
 abbrev pub kept_bytes : ℕ → Progress → List ℕ
 kept_bytes n s = written (inside n s.ended s.current)
 
--- the reader there
-abbrev pub reader_of : ℕ → Progress → Reader
-reader_of n s = record { variables = n; count = length s.ended; current = clause_of s.current; length = length (kept_bytes n s) }
-
--- b starts with xs
-abbrev pub Starts : List ℕ → List ℕ → Type 0
-Starts xs b = take (length xs) b ≡ xs
-
--- what is read so far is within the limits, but for a clause too many that has not ended; the reader stands there, and the bytes are kept
-pub record Keeps (n : ℕ) (s : Progress) (r : Reader) (b : List ℕ) : Type 0 where
-  pub is : r ≡ reader_of n s
+-- what is read so far is within the limits, but for a clause too many that has not ended; the reader stands there, and its bytes are kept
+pub record Keeps (n : ℕ) (s : Progress) (r : Reader) : Type 0 where
+  pub variables : r.variables ≡ n
+  pub count : r.count ≡ length s.ended
+  pub current : r.current ≡ clause_of s.current
+  pub holds : Holds (kept_bytes n s) r.length r.kept
   pub sized : Sized n s.ended
   pub over : ClauseOver n s.current
-  pub starts : Starts (kept_bytes n s) b
-  pub room : length b ≡ kept_room
 
 -- so it is for something
-pub record Ready (r : Reader) (b : List ℕ) : Type 0 where
+pub record Ready (r : Reader) : Type 0 where
   pub progress : Progress
-  pub keeps : Keeps r.variables progress r b
+  pub keeps : Keeps r.variables progress r
 
--- what words give
-abbrev pub Stepped : ℕ → List ℕ → Taking → Event → Type 0
-Stepped n b (next s) (Next r) = Keeps n s r b
-Stepped n b (next s) (Stopped x) = ⊥
-Stepped n b (stop x) (Next r) = ⊥
-Stepped n b (stop x) (Stopped y) = y ≡ x
+-- words are taken, and the reader stands behind them
+pub record Stands (n : ℕ) (t : Taking) (r : Reader) : Type 0 where
+  pub progress : Progress
+  pub taken : t ≡ next progress
+  pub keeps : Keeps n progress r
 
--- what reading gives: all bytes of the formula are kept, or it is refused
-abbrev pub Reads : Decoding → Result ℕ Refusal → List ℕ → Type 0
-Reads (readable n cs) r b = (r ≡ Ok (length (formula_bytes n cs))) × Starts (formula_bytes n cs) b × Sized n cs
-Reads (refused x) r b = r ≡ Err x
+-- the reader a becomes b, or words are refused, as the taking of them from what a stands at says
+abbrev pub Takes : (ℕ → Progress → Taking) → Reader → Reader → Result (Unit {0}) Refusal → Type 0
+Takes take a b x = (n : ℕ) (s : Progress) → Keeps n s a → MatchResult x (λ _. Stands n (take n s) b) (λ r. take n s ≡ stop r)
 
--- the words of the line that starts at an offset, of which a comment has none
-abbrev pub line_at : List ℕ → ℕ → List ℕ
-line_at t from = take (until ends_line (drop from t)) (drop from t)
+-- the first of some lines is a p line of these numbers, so the words of the others decide
+pub record Opened (len : ℕ) (ls behind : List Piece) (p : Numbers) : Type 0 where
+  pub third : Piece
+  pub fourth : Piece
+  pub numbers : p ≡ numbers_of third fourth
+  pub some : 1 ≤ p.variables
+  pub most : p.variables ≤ max_variables
+  pub reads : by_lines len ls ≡ closing len p.variables fourth (take_words p.variables (all_words behind) progress_start)
 
-abbrev pub other_words : List ℕ → ℕ → List Piece
-other_words t from = cond (comment (drop from t)) [] (words_at from (line_at t from))
+-- or they are refused by it
+abbrev pub Opens : ℕ → List Piece → List Piece → Result Numbers Refusal → Type 0
+Opens len ls behind x = MatchResult x (Opened len ls behind) (λ r. by_lines len ls ≡ refused r)
 
--- the lines behind the one that ends at an offset, and their words
-abbrev pub lines_behind : List ℕ → ℕ → List Piece
-lines_behind t end = cond (ltb end (length t)) (lines_from t (end + 1)) []
+-- all bytes of the formula are kept
+pub record Kept (d : Decoding) (r : Reader) : Type 0 where
+  pub variables : ℕ
+  pub clauses : List (List Literal)
+  pub reads : d ≡ readable variables clauses
+  pub holds : Holds (formula_bytes variables clauses) r.length r.kept
+  pub sized : Sized variables clauses
 
-abbrev pub words_behind : List ℕ → ℕ → List Piece
-words_behind t end = all_words (others (lines_behind t end))
+-- or it is refused
+abbrev pub Reads : Decoding → Reader → Result (Unit {0}) Refusal → Type 0
+Reads d r x = MatchResult x (λ _. Kept d r) (λ y. d ≡ refused y)

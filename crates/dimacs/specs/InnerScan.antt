@@ -1,38 +1,33 @@
 -- What the scanning of a text computes; proofs/ScanLaws.antt, TextLaws.antt and OpeningLaws.antt tie it to Text.
-use Rattle.std.specs.Prelude.{ℕ, suc, ◌+◌, ◌≤◌, Bool, false, not, cond, ◌&&◌, List, [], ◌∷◌, ◌≡◌, ltb, length, drop}
+use Rattle.std.specs.Prelude.{ℕ, Bool, not, cond, List, [], Option, Some, None, option_map, ltb}
+use Rattle.dimacs.specs.declared.scan.Lines.{Lines}
+use Rattle.dimacs.specs.declared.scan.Words.{Words}
 use Rattle.dimacs.specs.declared.scan.Token as held
 use Rattle.dimacs.specs.declared.scan.Token.TheVariants.{Ends, Literal, Bad}
 use Rattle.dimacs.specs.declared.opening.Numbers.{Numbers}
-use Rattle.dimacs.specs.declared.opening.Opening as held_opening
-use Rattle.dimacs.specs.declared.opening.Opening.TheVariants.{PLine, Other}
-use Rattle.dimacs.specs.Text.{Piece, pieces, ends_line, parts_words, non_empty, comment, others, run, value, Token, ends, names_variable, bad, Opening, p_line, other_line, by_lines, read_text}
-
--- how many bytes stand before the first for which the test holds, or all if it holds for none
-unfoldable pub until : (ℕ → Bool) → List ℕ → ℕ
-until test [] = 0
-until test (x ∷ s) = cond (test x) 0 (suc (until test s))
+use Rattle.dimacs.specs.Text.{Piece, pieces, ends_line, parts_words, words, others, run, value, Token, ends, names_variable, bad, Opening, p_line, other_line}
+use Rattle.dimacs.specs.InnerPiece.{piece_of}
 
 -- a byte of a word
 abbrev pub in_word : ℕ → Bool
 in_word x = not (parts_words x)
 
--- the lines of a text from an offset on, at which one starts
-abbrev pub lines_from : List ℕ → ℕ → List Piece
-lines_from t from = pieces ends_line from [] (drop from t)
-
 -- the words of bytes that stand at an offset
 abbrev pub words_at : ℕ → List ℕ → List Piece
-words_at at s = non_empty (pieces parts_words at [] s)
+words_at at s = words (record { at = at; bytes = s })
 
--- the words of the line s at an offset, from index i on
-abbrev pub words_from : ℕ → List ℕ → ℕ → List Piece
-words_from at s i = words_at (at + i) (drop i s)
+-- the words that are left
+abbrev pub words_left : Words → List Piece
+words_left w = words (piece_of w.rest)
 
--- before `from` stand only comments, and the line there is none, or `from` is the length
-pub record OpensAt (t : List ℕ) (from : ℕ) : Type 0 where
-  pub inside : from ≤ length t
-  pub reads : read_text t ≡ by_lines (length t) (others (lines_from t from))
-  pub other : comment (drop from t) ≡ false
+-- the lines of what is left of a text, if something is
+abbrev pub lines_of : Option Piece → List Piece
+lines_of None = []
+lines_of (Some p) = pieces ends_line p.at [] p.bytes
+
+-- the lines that are left and are no comments
+abbrev pub lines_left : Lines → List Piece
+lines_left l = others (lines_of (option_map piece_of l.rest))
 
 -- the least of a number and the cap
 abbrev pub cap : ℕ
@@ -40,6 +35,10 @@ cap = 1000
 
 abbrev pub capped : ℕ → ℕ
 capped x = cond (ltb x cap) x cap
+
+-- the number of a run of digits, capped
+abbrev pub number_held : List ℕ → Option ℕ
+number_held s = cond (run s) (Some (capped (value s))) None
 
 -- a token with its number capped
 abbrev pub token_held : Token → held.Token
@@ -51,13 +50,6 @@ token_held bad = Bad
 abbrev pub numbers_of : Piece → Piece → Numbers
 numbers_of c d = record { variables = capped (value c.bytes); third = c.at; clauses = capped (value d.bytes); fourth = d.at }
 
-abbrev pub opening_held : Opening → held_opening.Opening
-opening_held (p_line c d) = PLine (numbers_of c d)
-opening_held other_line = Other
-
--- the words behind p and cnf
-abbrev pub by_numbers : List Piece → Opening
-by_numbers [] = other_line
-by_numbers (c ∷ []) = other_line
-by_numbers (c ∷ d ∷ []) = cond (run c.bytes && run d.bytes) (p_line c d) other_line
-by_numbers (c ∷ d ∷ e ∷ ws) = other_line
+abbrev pub opening_held : Opening → Option Numbers
+opening_held (p_line c d) = Some (numbers_of c d)
+opening_held other_line = None

@@ -1,4 +1,5 @@
 pub mod Convert
+pub mod InnerPiece
 pub mod InnerReader
 pub mod InnerScan
 pub mod InnerWriter

@@ -2,6 +2,7 @@
 #![tactic(auto)]
 
 mod opening;
+mod piece;
 mod reader;
 mod scan;
 mod writer;

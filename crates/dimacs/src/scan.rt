@@ -1,11 +1,27 @@
 // Lines, words and numbers of a text (S15.1, S15.2).
-ghost use Rattle.std.specs.Prelude.{◌≡◌, ◌+◌, ◌-◌, ◌*◌, ◌≤◌, length, drop};
+ghost use Rattle.std.specs.Prelude.{◌≡◌, ◌+◌, ◌-◌, ◌*◌, ◌≤◌};
+ghost use Rattle.std.specs.Iterator.{YieldsFirstBy, item_count};
 ghost use Rattle.writing.specs.Text.{digit_zero};
-ghost use Rattle.dimacs.specs.Text.{ends_line, parts_words, comment, is_digit, run, value, signed, unsigned, token, same};
-ghost use Rattle.dimacs.specs.InnerScan.{until, in_word, cap, capped, token_held, OpensAt};
+ghost use Rattle.dimacs.specs.Text.{lines, parts_words, words, others, token};
+ghost use Rattle.dimacs.specs.InnerPiece.{piece_of};
+ghost use Rattle.dimacs.specs.InnerScan.{lines_left, words_left, cap, capped, number_held, token_held};
+
+use crate::piece::Piece;
 
 // Numbers above this one are taken for it: it is above every number that a formula has.
 const CAP: usize = 1000;
+
+// The lines of a text that are no comments; of those before `rest` all are taken.
+#[derive(Clone, Copy)]
+pub struct Lines<'a> {
+    rest: Option<Piece<'a>>,
+}
+
+// The words of a line; of those before `rest` all are taken.
+#[derive(Clone, Copy)]
+pub struct Words<'a> {
+    rest: Piece<'a>,
+}
 
 // A word after the p line: it ends a clause, or names a variable (from 1) as true or as false, or neither.
 #[derive(Clone, Copy)]
@@ -15,200 +31,110 @@ pub enum Token {
     Bad,
 }
 
-fn parts_words(x: u8) -> bool
-    ensures { result ≡ parts_words x }
-{
-    if x == b' ' {
-        return true;
-    }
-    if x == b'\t' {
-        return true;
-    }
-    if x == b'\r' {
-        return true;
-    }
-    x == b'\n'
-}
-
-// Where the line that starts at `from` ends: at its line feed, or with the text.
-pub fn line_end(text: &[u8], from: usize) -> usize
-    requires { from ≤ length text.now }
-    ensures { result ≡ from + until ends_line (drop from text.now) }
-{
-    let mut i = from;
-    while i < text.len() {
-        if text[i] == b'\n' {
-            return i;
+impl<'a> Lines<'a> {
+    // Those of a text.
+    pub fn new(text: &'a [u8]) -> Self
+        ensures { lines_left result ≡ others (lines text.now) }
+    {
+        Lines {
+            rest: Some(Piece { at: 0, bytes: text }),
         }
-        i += 1;
     }
-    i
 }
 
-// Where the next word starts, or the line's length.
-pub fn word_start(line: &[u8], from: usize) -> usize
-    requires { from ≤ length line.now }
-    ensures { result ≡ from + until in_word (drop from line.now) }
-{
-    let mut i = from;
-    while i < line.len() {
-        if !parts_words(line[i]) {
-            return i;
+impl<'a> Iterator for Lines<'a> {
+    type Item = Piece<'a>;
+
+    ghost next_gives = { YieldsFirstBy piece_of lines_left };
+
+    ghost remaining = { item_count lines_left };
+
+    // S15.1: a line ends at its line feed, or with the text. One that starts with c is a comment.
+    fn next(&mut self) -> Option<Piece<'a>> {
+        while let Some(rest) = self.rest {
+            let (line, behind) = rest.split_where(|x| *x == b'\n');
+            self.rest = behind.behind_first();
+            if !line.bytes.starts_with(b"c") {
+                return Some(line);
+            }
         }
-        i += 1;
+        None
     }
-    i
 }
 
-// Where the word at `from` ends.
-pub fn word_end(line: &[u8], from: usize) -> usize
-    requires { from ≤ length line.now }
-    ensures { result ≡ from + until parts_words (drop from line.now) }
-{
-    let mut i = from;
-    while i < line.len() {
-        if parts_words(line[i]) {
-            return i;
+impl<'a> Words<'a> {
+    // Those of a line.
+    pub fn new(line: Piece<'a>) -> Self
+        ensures { words_left result ≡ words (piece_of line.entry) }
+    {
+        Words { rest: line }
+    }
+}
+
+impl<'a> Iterator for Words<'a> {
+    type Item = Piece<'a>;
+
+    ghost next_gives = { YieldsFirstBy piece_of words_left };
+
+    ghost remaining = { item_count words_left };
+
+    // From the next byte that does not part words, up to one that does.
+    fn next(&mut self) -> Option<Piece<'a>> {
+        let (_, rest) = self.rest.split_where(|x| !parts_words(x));
+        if rest.bytes.is_empty() {
+            return None;
         }
-        i += 1;
+        let (word, behind) = rest.split_where(parts_words);
+        self.rest = behind;
+        Some(word)
     }
-    i
 }
 
-// Whether the line that starts at `from` is a comment.
-pub fn is_comment(text: &[u8], from: usize) -> bool
-    ensures { result ≡ comment (drop from text.now) }
+// S15.1: a blank, a tab, a carriage return and a line feed part words.
+fn parts_words(x: &u8) -> bool
+    ensures { result ≡ parts_words x.now }
 {
-    if text.len() <= from {
-        return false;
-    }
-    text[from] == b'c'
-}
-
-// Where the first line that is no comment starts; the text's length if there is none.
-pub fn first_other(text: &[u8]) -> usize
-    ensures { OpensAt text.now result }
-{
-    let mut from: usize = 0;
-    while is_comment(text, from) {
-        let end = line_end(text, from);
-        if end == text.len() {
-            return end;
-        }
-        from = end + 1;
-    }
-    from
-}
-
-// Whether two words are the same.
-pub fn same(word: &[u8], other: &[u8]) -> bool
-    ensures { result ≡ same word.now other.now }
-{
-    if word.len() != other.len() {
-        return false;
-    }
-    let mut i: usize = 0;
-    while i < word.len() {
-        if word[i] != other[i] {
-            return false;
-        }
-        i += 1;
-    }
-    true
-}
-
-fn is_digit(x: u8) -> bool
-    ensures { result ≡ is_digit x }
-{
-    b'0' <= x && x <= b'9'
-}
-
-// Whether a word is a run of digits.
-pub fn is_run(word: &[u8]) -> bool
-    ensures { result ≡ run word.now }
-{
-    if word.len() == 0 {
-        return false;
-    }
-    let mut i: usize = 0;
-    while i < word.len() {
-        if !is_digit(word[i]) {
-            return false;
-        }
-        i += 1;
-    }
-    true
-}
-
-// What a digit counts.
-fn digit_value(x: u8) -> usize
-    ensures { result ≡ x - digit_zero }
-{
-    if x < b'0' {
-        return 0;
-    }
-    (x - b'0') as usize
+    matches!(*x, b' ' | b'\t' | b'\r' | b'\n')
 }
 
 // The number behind a with one digit more, at most the cap.
 fn push_digit(a: usize, x: u8) -> usize
-    requires { a ≤ cap }
+    requires { (a ≤ cap) × (digit_zero ≤ x) }
     ensures { result ≡ capped (10 * a + (x - digit_zero)) }
 {
-    let b = 10 * a + digit_value(x);
-    if b < CAP { b } else { CAP }
+    (10 * a + usize::from(x - b'0')).min(CAP)
 }
 
-// The number that digits write, at most the cap.
-pub fn capped_value(word: &[u8]) -> usize
-    ensures { result ≡ capped (value word.now) }
+// The number that a run of digits writes, at most the cap.
+pub fn number(word: &[u8]) -> Option<usize>
+    ensures { result ≡ number_held word.now }
 {
-    let mut a: usize = 0;
-    let mut i: usize = 0;
-    while i < word.len() {
-        a = push_digit(a, word[i]);
-        i += 1;
+    if word.is_empty() {
+        return None;
     }
-    a
+    let mut a = 0;
+    for x in word {
+        if !x.is_ascii_digit() {
+            return None;
+        }
+        a = push_digit(a, *x);
+    }
+    Some(a)
 }
 
-// Digits: zero ends a clause.
-fn read_unsigned(word: &[u8]) -> Token
-    ensures { result ≡ token_held (unsigned word.now) }
-{
-    if !is_run(word) {
-        return Token::Bad;
-    }
-    let k = capped_value(word);
-    if k == 0 {
-        return Token::Ends;
-    }
-    Token::Literal(true, k)
-}
-
-// What stands behind a minus: digits that are not zero.
-fn read_signed(word: &[u8]) -> Token
-    ensures { result ≡ token_held (signed word.now) }
-{
-    if !is_run(word) {
-        return Token::Bad;
-    }
-    let k = capped_value(word);
-    if k == 0 {
-        return Token::Bad;
-    }
-    Token::Literal(false, k)
-}
-
-// A word after the p line.
+// A word after the p line: digits, of which zero ends a clause, or a minus before digits that are not zero.
 pub fn read_token(word: &[u8]) -> Token
     ensures { result ≡ token_held (token word.now) }
 {
-    if word.len() == 0 {
-        return Token::Bad;
+    if let [b'-', digits @ ..] = word {
+        return match number(digits) {
+            None | Some(0) => Token::Bad,
+            Some(k) => Token::Literal(false, k),
+        };
     }
-    if word[0] == b'-' {
-        return read_signed(&word[1..]);
+    match number(word) {
+        None => Token::Bad,
+        Some(0) => Token::Ends,
+        Some(k) => Token::Literal(true, k),
     }
-    read_unsigned(word)
 }

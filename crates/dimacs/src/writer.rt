@@ -10,7 +10,7 @@ ghost use Rattle.dimacs.specs.Written.{opening_line, text_of};
 ghost use Rattle.dimacs.specs.Convert.{converted_values, to_text};
 ghost use Rattle.dimacs.specs.InnerWriter.{sign_bytes, literal_text, literal_once, ClauseAt, ClausesAt, AfterClause, Lined, Readable};
 
-use formula::{Outcome, Refusal};
+use formula::Refusal;
 use limits::{MAX_CLAUSES, MAX_VARIABLES};
 
 // Room for any text that is written: the longest p line, and for each clause four bytes for each variable, 0 and the line feed.
@@ -47,44 +47,42 @@ fn put_literal(sign: bool, k: u8, buffer: &mut [u8], at: usize) -> usize
     ensures { Wrote (literal_text sign k) at buffer.old buffer.new result }
 {
     let digits = put_sign(sign, buffer, at);
-    let blank = writing::put_decimal(k as u64, buffer, digits);
+    let blank = writing::put_decimal(u64::from(k), buffer, digits);
     writing::put_byte(b' ', buffer, blank)
 }
 
 // The literal, unless the line has its variable.
-fn put_once(sign: bool, k: u8, seen: u64, buffer: &mut [u8], at: usize) -> Line
-    requires { (1 ≤ k) × (k ≤ max_variables) × Room at (literal_once seen sign (k - 1)) buffer.old }
-    ensures { Wrote (literal_once seen sign (k - 1)) at buffer.old buffer.new result.at × (result.seen ≡ with seen (k - 1)) }
+fn put_once(sign: bool, k: u8, line: Line, buffer: &mut [u8]) -> Line
+    requires { (1 ≤ k) × (k ≤ max_variables) × Room line.at (literal_once line.seen sign (k - 1)) buffer.old }
+    ensures { Wrote (literal_once line.seen sign (k - 1)) line.at buffer.old buffer.new result.at × (result.seen ≡ with line.seen (k - 1)) }
 {
-    let v = (k - 1) as usize;
-    if masks::member(seen, v) {
-        return Line { seen, at };
+    let v = usize::from(k - 1);
+    if masks::member(line.seen, v) {
+        return line;
     }
-    let behind = put_literal(sign, k, buffer, at);
     Line {
-        seen: masks::with(seen, v),
-        at: behind,
+        seen: masks::with(line.seen, v),
+        at: put_literal(sign, k, buffer, line.at),
     }
 }
 
-// The line of the clause that starts at `from`.
-fn put_clause(input: &[u8], from: usize, buffer: &mut [u8], at: usize) -> Offsets
-    requires { ClauseAt input.now from buffer.old at }
-    ensures { AfterClause input.now from buffer.old at buffer.new result }
+// The line of the clause that starts there.
+fn put_clause(input: &[u8], place: Offsets, buffer: &mut [u8]) -> Offsets
+    requires { ClauseAt input.now place.from buffer.old place.at }
+    ensures { AfterClause input.now place.from buffer.old place.at buffer.new result }
 {
-    let mut seen: u64 = 0;
-    let mut i = from;
-    let mut next = at;
+    let mut line = Line {
+        seen: 0,
+        at: place.at,
+    };
+    let mut i = place.from;
     while input[i] != 4 {
-        let line = put_once(input[i] == 2, input[i + 1], seen, buffer, next);
-        seen = line.seen;
-        next = line.at;
+        line = put_once(input[i] == 2, input[i + 1], line, buffer);
         i += 2;
     }
-    let behind = writing::put_word(b"0\n", buffer, next);
     Offsets {
         from: i + 1,
-        at: behind,
+        at: writing::put_word(b"0\n", buffer, line.at),
     }
 }
 
@@ -93,16 +91,11 @@ fn put_clauses(input: &[u8], count: usize, buffer: &mut [u8], at: usize) -> usiz
     requires { ClausesAt input.now count buffer.old at }
     ensures { Lined input.now count at buffer.old buffer.new result }
 {
-    let mut from: usize = 2;
-    let mut next = at;
-    let mut i: usize = 0;
-    while i < count {
-        let place = put_clause(input, from, buffer, next);
-        from = place.from;
-        next = place.at;
-        i += 1;
+    let mut place = Offsets { from: 2, at };
+    for _ in 0..count {
+        place = put_clause(input, place, buffer);
     }
-    next
+    place.at
 }
 
 // The p line.
@@ -130,11 +123,6 @@ pub fn write(input: &[u8], buffer: &mut [u8]) -> Result<usize, Refusal>
     if buffer.len() < TEXT_ROOM {
         return Err(Refusal::ShortBuffer(0));
     }
-    let d = formula::decode(input);
-    let outcome = d.outcome;
-    let f = d.formula;
-    match outcome {
-        Outcome::Refused(refusal) => Err(refusal),
-        Outcome::Accepted => Ok(put_text(input, f.variables, f.count, buffer)),
-    }
+    let f = formula::decode(input)?;
+    Ok(put_text(input, f.variables, f.count, buffer))
 }

@@ -2,10 +2,10 @@
 use Prim.Native.Nat.{ℕ, ◌≤◌}
 use mathlib.Core.Bool.{true, false}
 use mathlib.Core.List.{List}
-use mathlib.Core.Path.{◌≡◌, sym, ap, ap₂, ◌∙◌, subst}
+use mathlib.Core.Path.{◌≡◌, refl, sym, ap, ap₂, ◌∙◌, subst}
 use native.Mathlib.Omega.{arith}
 use lib.ListN.{length}
-use Rattle.std.specs.Prelude.{Ok, Err}
+use Rattle.std.specs.Prelude.{Option, Some, None, ok_or, Ok, Err}
 use Rattle.limits.specs.Limits.{max_variables, max_clauses}
 use Rattle.formula.specs.declared.assignment.Assignment.{Assignment}
 use Rattle.formula.specs.declared.Formula.{Formula}
@@ -30,7 +30,8 @@ use Rattle.enumeration.specs.declared.scope.Scope.{Scope}
 use Rattle.enumeration.specs.declared.state.State.{State}
 use Rattle.enumeration.specs.InnerScope.{scope_under, visible_in, task_scope}
 use Rattle.enumeration.specs.InnerState.{position_in, Follows, Holds}
-use Rattle.enumeration.specs.InnerEnter.{WalkedAs, Begun}
+use Rattle.enumeration.specs.InnerEnter.{WalkedAs, Begun, Enters}
+use Rattle.enumeration.specs.InnerRead.{PlaceTaken}
 use Rattle.enumeration.proofs.FollowsLaws.{follows}
 use Rattle.enumeration.proofs.ScopeLaws.{under_task, visible_task}
 use Rattle.enumeration.proofs.ListLaws.{brought_resumed, brought_from}
@@ -50,8 +51,8 @@ module _ (s : List ℕ) (us : List Assumption) (f : Formula) (z : Scope) (w : Wa
 
   module _ (c : Checkpoint) (whole_bytes : length c.bytes ≡ max_variables) where
     -- the checkpoint passes the test
-    pub entered_begun : (q : State) → accepts (tree w.task) c ≡ true → Holds (tree w.task) q
-        → position_in q ≡ position_of (tree w.task).size c.mode (read c) → Begun s us f z c q
+    entered_begun : (q : State) → accepts (tree w.task) c ≡ true → Holds (tree w.task) q → position_in q ≡ position_of (tree w.task).size c.mode (read c)
+        → Begun s us f z c q
     entered_begun q a h p = record {
       tree = tree T;
       fits = w.fits;
@@ -66,8 +67,19 @@ module _ (s : List ℕ) (us : List Assumption) (f : Formula) (z : Scope) (w : Wa
     }
 
     -- it does not: 11
-    pub entered_foreign : accepts (tree w.task) c ≡ false → (b : ℕ) → walk_call s us c b ≡ refusing (ForeignCheckpoint 0) c
+    entered_foreign : accepts (tree w.task) c ≡ false → (b : ℕ) → walk_call s us c b ≡ refusing (ForeignCheckpoint 0) c
     entered_foreign a b = call_tested s us T w.posed w.calls c b whole_bytes ∙ rw a
+
+    -- so the test says where calls begin
+    pub entered : (r : Option State) → PlaceTaken (tree w.task) c.mode (read c) (accepts (tree w.task) c) r → Enters s us f z c (ok_or r (ForeignCheckpoint 0))
+    entered (Some q) P = record {
+      begun = λ u e. let x : q ≡ u = cc in rw (← x) (entered_begun q (sym P.known) (P.holds q refl) (P.position q refl));
+      refused = λ e x. cc;
+    }
+    entered None P = record {
+      begun = λ u e. cc;
+      refused = λ e x b. let y : ForeignCheckpoint 0 ≡ e = cc in rw (← y) (entered_foreign (sym P.known) b);
+    }
 
 -- ---- an accepted input is walked as its formula's task under the assumptions
 
@@ -103,6 +115,7 @@ module _ (s : List ℕ) (us : List Assumption) (f : Formula) (w : Takes s us f) 
 
   -- and the code's choices make its tree
   pub tree_follows : Follows f (scope_under f a) (tree_of s us f w)
+  unfolding takes_walked
   tree_follows = walked_follows s us f (scope_under f a) takes_walked
 
 -- so what comes of an input is what its walk asks: it is walked as a task, or every call is refused

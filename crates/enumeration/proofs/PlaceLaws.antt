@@ -1,6 +1,6 @@
 -- The place of a checkpoint's mode at the node of its trail.
 use Prim.Native.Nat.{ℕ, zero, suc, ◌-◌, ◌≤◌}
-use mathlib.Core.Bool.{Bool, true, false, not, ◌&&◌, ◌||◌, false≢true, and-true, and-false}
+use mathlib.Core.Bool.{Bool, true, false, cond, not, ◌&&◌, ◌||◌, false≢true, and-true, and-false}
 use mathlib.Core.Logic.{◌⊎◌, inl, inr}
 use mathlib.Core.Path.{◌≡◌, refl, sym, ap, ◌∙◌, subst}
 use native.Mathlib.Omega.{arith}
@@ -164,27 +164,27 @@ module _ (f : Formula) (z : Scope) (K : Tree) (F : Follows f z K) (s : State) (n
 
   module _ (m : ℕ) where
     -- mode 0: nothing is assigned
-    pub taken_start : m ≡ 0 → s.length ≡ 0 → PlaceTaken K m (stack_in s) (fits K m (stack_in s)) (Some s)
+    pub taken_start : m ≡ 0 → PlaceTaken K m (stack_in s) (fits K m (stack_in s)) (cond (eqb s.length 0) (Some s) None)
     unfolding fits
-    taken_start e l =
-        rw e
-        (taken_some K 0 (stack_in s) _ s (sym is_empty_length ∙ eq-eqb s.length 0 l) h (ap (λ (p : Place). position_at p (stack_in s)) n.place))
+    taken_start e = rw e (at (eqb s.length 0) is_empty_length)
+      where
+        at : (x : Bool) → x ≡ is_empty (stack_in s) → PlaceTaken K 0 (stack_in s) (is_empty (stack_in s)) (cond x (Some s) None)
+        at true q = taken_some K 0 (stack_in s) _ s (sym q) h (ap (λ (p : Place). position_at p (stack_in s)) n.place)
+        at false q = taken_none K 0 (stack_in s) _ (sym q)
 
     -- mode 4: the same
-    pub taken_end : 4 ≤ m → s.length ≡ 0 → PlaceTaken K m (stack_in s) (fits K m (stack_in s)) (Some (at_place s Over))
+    pub taken_end : 4 ≤ m → PlaceTaken K m (stack_in s) (fits K m (stack_in s)) (cond (eqb s.length 0) (Some (at_place s Over)) None)
     unfolding fits
-    taken_end g l =
+    taken_end l =
         let e : m ≡ suc (suc (suc (suc (m - 4)))) = omega arith in
-        rw e
-        (taken_some K _ (stack_in s) _ (at_place s Over) (sym is_empty_length ∙ eq-eqb s.length 0 l)
-        (holds_place K s (stack_in s) Over h (λ y. cc) (λ y. cc) (λ y. l)) refl)
-
-    pub taken_assigned_none : (m ≡ 0) ⊎ (4 ≤ m) → (s.length ≡ 0 → ⊥) → PlaceTaken K m (stack_in s) (fits K m (stack_in s)) None
-    unfolding fits
-    taken_assigned_none (inl e) l = rw e (taken_none K 0 (stack_in s) _ (sym is_empty_length ∙ ne_eqb s.length 0 l))
-    taken_assigned_none (inr g) l =
-        let e : m ≡ suc (suc (suc (suc (m - 4)))) = omega arith in
-        rw e (taken_none K _ (stack_in s) _ (sym is_empty_length ∙ ne_eqb s.length 0 l))
+        rw e (at (eqb s.length 0) refl)
+      where
+        at : (x : Bool) → eqb s.length 0 ≡ x
+            → PlaceTaken K (suc (suc (suc (suc (m - 4))))) (stack_in s) (is_empty (stack_in s)) (cond x (Some (at_place s Over)) None)
+        at true q =
+            taken_some K _ (stack_in s) _ (at_place s Over) (sym is_empty_length ∙ q)
+            (holds_place K s (stack_in s) Over h (λ y. cc) (λ y. cc) (λ y. eqb-true s.length 0 q)) refl
+        at false q = taken_none K _ (stack_in s) _ (sym is_empty_length ∙ q)
 
     -- mode 1 at full length: the model is handed out
     pub taken_model : m ≡ 1 → s.length ≡ z.size → PlaceTaken K m (stack_in s) (fits K m (stack_in s)) (Some (at_place s Full))

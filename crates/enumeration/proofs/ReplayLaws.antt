@@ -1,5 +1,5 @@
 -- A checkpoint's variables are assigned again, one by one.
-use Prim.Native.Nat.{ℕ, ◌+◌, ◌-◌, ◌≤◌, ◌<◌}
+use Prim.Native.Nat.{ℕ, ◌+◌, ◌-◌, ◌<◌}
 use mathlib.Core.Bool.{Bool, true, false}
 use mathlib.Core.List.{List}
 use mathlib.Core.Path.{◌≡◌, refl, sym, ap, ◌∙◌, subst}
@@ -9,7 +9,6 @@ use lib.Dec.{eqb, ltb}
 use lib.ListN.{length, take, get_or}
 use borrow.Author.Tests.{eq-eqb, ne_eqb, lt-ltb, le-ltb}
 use Rattle.std.specs.Prelude.{Option, Some, None}
-use Rattle.limits.specs.Limits.{max_variables}
 use Rattle.formula.specs.declared.Formula.{Formula}
 use Rattle.splitting.specs.declared.Choice.{Choice}
 use Rattle.splitting.specs.InnerChoose.{mask_choice}
@@ -20,7 +19,7 @@ use Rattle.walk.specs.InnerTest.{pushed, replays}
 use Rattle.walk.proofs.ReplayLaws.{read_next}
 use Rattle.enumeration.specs.declared.scope.Scope.{Scope}
 use Rattle.enumeration.specs.declared.state.State.{State}
-use Rattle.enumeration.specs.InnerState.{stack_in, Follows, Free, Holds, Valid, pushing}
+use Rattle.enumeration.specs.InnerState.{stack_in, Follows, Free, Holds, pushing}
 use Rattle.enumeration.specs.InnerRead.{Node, Replayed, noted}
 use Rattle.enumeration.proofs.ClearLaws.{clears_note}
 use Rattle.enumeration.proofs.StateLaws.{holds_stack, holds_own, holds_push, holds-noted, opens_next}
@@ -56,9 +55,6 @@ module _ (f : Formula) (z : Scope) (K : Tree) (F : Follows f z K) (s : State) (h
     choice_is c x = x ∙ choice_at f z K F s h not_full
 
     module _ (c : Choice) (e : c ≡ K.choose (stack_in s)) where
-      choice_low : c.variable < max_variables
-      choice_low = rw e (F.low (stack_in s) h.replayed within)
-
       -- another variable than the chosen one
       replays_other : (v : ℕ) (b : Bool) → (v ≡ c.variable → ⊥) → replays K (push v b (stack_in s)) ≡ false
       unfolding replays
@@ -107,23 +103,9 @@ module _ (f : Formula) (z : Scope) (K : Tree) (F : Follows f z K) (s : State) (h
             node = λ w x. let e : pushing (noted s c.true_open free) c.variable b ≡ w = cc in rw (← e) (node_more b free g o);
           }
 
--- what the next call needs
-module _ (f : Formula) (z : Scope) (s : State) (w : Valid f z s) (ne : s.length ≡ z.size → ⊥) where
-  -- a variable is left to assign
-  pub valid_short : s.length < z.size
-  valid_short = not_full f z w.tree w.follows s w.holds ne
-
-  -- the chosen variable is below 48
-  pub valid_low : (c : Choice) → c ≡ mask_choice f z.mask s.assignment → c.variable < max_variables
-  valid_low c x = choice_low f z w.tree w.follows s w.holds ne c (choice_is f z w.tree w.follows s w.holds ne c x)
-
 -- ---- the trail, byte by byte
 
 module _ (K : Tree) where
-  -- a node's trail replays
-  pub node_replayed : (t : Stack) (s : State) → Node K t s → Replayed K t (Some s)
-  node_replayed t s n = record { known = sym (ap (replays K) (sym n.stack) ∙ n.holds.replayed); node = λ u e. let q : s ≡ u = cc in rw (← q) n }
-
   module _ (l : List ℕ) (r : Option State) where
     -- one byte more
     pub replayed_next : (i : ℕ) (s : State) → i < length l → Node K (pushed empty (take i l)) s
@@ -132,5 +114,5 @@ module _ (K : Tree) where
         subst (λ (t : Stack). Replayed K t r) (ap (push (byte_number (get_or l i 0) - 1) (byte_value (get_or l i 0))) n.stack ∙ sym (rw (add-one i) (read_next l i h))) w
 
   -- a byte that does not replay
-  pub replayed_stops : (l : List ℕ) (i k : ℕ) → i ≤ k → Replayed K (pushed empty (take i l)) None → Replayed K (pushed empty (take k l)) None
-  replayed_stops l i k h w = record { known = sym (replays_stops K l i k h (sym w.known)); node = λ u x. cc }
+  pub replayed_stops : (l : List ℕ) (i : ℕ) → Replayed K (pushed empty (take i l)) None → Replayed K (pushed empty l) None
+  replayed_stops l i w = record { known = sym (replays_stops K l i (sym w.known)); node = λ u x. cc }

@@ -1,5 +1,5 @@
 -- Reading a checkpoint: its trail is assigned again, then its mode's place is taken.
-use Rattle.std.specs.Prelude.{ℕ, ◌≡◌, Bool, true, is_some, Option, Some}
+use Rattle.std.specs.Prelude.{ℕ, ◌≡◌, Bool, is_some, Option, Some}
 use Rattle.formula.specs.declared.Formula.{Formula}
 use Rattle.walk.specs.InnerStack.{Stack, Tree}
 use Rattle.walk.specs.InnerTest.{replays, position_of}

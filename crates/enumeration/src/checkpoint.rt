@@ -1,5 +1,6 @@
 // S7.2: checkpoints: the one of the start, the bytes of assigned variables, and the form that a checkpoint has.
-ghost use Rattle.std.specs.Prelude.{◌≡◌, ◌<◌};
+ghost use Rattle.std.specs.Prelude.{◌≡◌, ◌<◌, not, eqb};
+ghost use Rattle.std.specs.List.{list_all};
 ghost use Rattle.limits.specs.Limits.{max_variables};
 ghost use Rattle.walk.specs.Checkpoints.{byte, byte_number, start};
 ghost use Rattle.walk.specs.InnerTest.{formed};
@@ -49,16 +50,29 @@ pub fn number_of(b: u8) -> usize
     }
 }
 
+// No byte has the number 0.
+fn has_numbers(bytes: &[u8]) -> bool
+    ensures { result ≡ list_all (λ x. not (eqb (byte_number x) 0)) bytes.now }
+{
+    bytes.iter().all(|b| number_of(*b) != 0)
+}
+
+// All bytes are 0.
+fn has_zeros(bytes: &[u8]) -> bool
+    ensures { result ≡ list_all (λ x. eqb x 0) bytes.now }
+{
+    bytes.iter().all(|b| *b == 0)
+}
+
 impl Checkpoint {
-    // The checkpoint's mode, length and bytes have the form of one: no byte before the end has the number 0, and every byte from the end
-    // on is 0.
+    // The checkpoint's mode, length and bytes have the form of one: a number in each byte before the end, and 0 in each from the end on.
     pub fn is_well_formed(self) -> bool
         ensures { result ≡ formed (checkpoint_values self) }
     {
         let length = usize::from(self.length);
-        self.mode <= 4
-            && length <= MAX_VARIABLES
-            && self.bytes[..length].iter().all(|b| number_of(*b) != 0)
-            && self.bytes[length..].iter().all(|b| *b == 0)
+        if 4 < self.mode || MAX_VARIABLES < length {
+            return false;
+        }
+        has_numbers(&self.bytes[..length]) && has_zeros(&self.bytes[length..])
     }
 }

@@ -16,7 +16,6 @@ impl Task {
         ensures { (s : List ℕ) (us : List Assumption) → WalkedAs s us self.now.formula self.now.scope
             → Enters s us self.now.formula self.now.scope (checkpoint_values c) result }
     {
-        self.read_checkpoint(c)
-            .ok_or(Refusal::ForeignCheckpoint(0))
+        self.read_checkpoint(c).ok_or(Refusal::ForeignCheckpoint(0))
     }
 }

@@ -1,5 +1,5 @@
 // S7.4: the test of a checkpoint, for refusal 11: its trail is assigned again, then its mode's place is taken.
-ghost use Rattle.std.specs.Prelude.{◌≡◌, ◌-◌, ◌≤◌, true};
+ghost use Rattle.std.specs.Prelude.{◌≡◌, ◌-◌, ◌≤◌, true, cond, eqb, Some, None};
 ghost use Rattle.formula.specs.InnerFits.{FormulaFits};
 ghost use Rattle.splitting.specs.Terms.{opened};
 ghost use Rattle.walk.specs.Checkpoints.{byte_number, byte_value, undone_mode};
@@ -19,6 +19,13 @@ fn is_open(c: Choice, value: bool) -> bool
     ensures { result ≡ opened c value }
 {
     if value { c.true_open } else { c.false_open }
+}
+
+// The state, if nothing is assigned.
+fn at_root(s: State) -> Option<State>
+    ensures { result ≡ cond (eqb s.length 0) (Some s) None }
+{
+    if s.length == 0 { Some(s) } else { None }
 }
 
 impl Task {
@@ -89,19 +96,25 @@ impl Task {
         ensures { (K : Tree) → Follows self.now.formula self.now.scope K → Node K (stack_in s) s → PlaceTaken K mode (stack_in s) (fits K mode (stack_in s)) result }
     {
         match mode {
-            0 if s.length == 0 => Some(s),
-            1 if s.length == self.scope.size => Some(State {
-                place: Place::Full,
-                ..s
-            }),
-            1 if s.length != 0 => Some(s),
+            0 => at_root(s),
+            1 => {
+                if s.length == self.scope.size {
+                    Some(State {
+                        place: Place::Full,
+                        ..s
+                    })
+                } else if s.length != 0 {
+                    Some(s)
+                } else {
+                    None
+                }
+            }
             2 => self.take_undone(s, false),
             3 => self.take_undone(s, true),
-            4.. if s.length == 0 => Some(State {
+            _ => at_root(State {
                 place: Place::Over,
                 ..s
             }),
-            _ => None,
         }
     }
 

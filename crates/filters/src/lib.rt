@@ -4,30 +4,20 @@
 ghost use Rattle.std.specs.Prelude.{◌≤◌, length};
 ghost use Rattle.dimacs.specs.Convert.{converted_values};
 
-use dimacs::Converted;
+use formula::Refusal;
 use std::io;
-
-// Room for a refusal's line: its word and two numbers of 20 digits, blanks between them, and the line feed. A number and a place are known
-// to be 64 bits and no more here.
-const MAX_LINE: usize = 50;
 
 // The first bytes of the buffer, as many as were written into it, on the output, or the refusal's line on the other one.
 pub fn put_converted(
     output: &impl Print,
     errors: &impl Print,
-    c: Converted,
+    converted: Result<usize, Refusal>,
     buffer: &[u8],
 ) -> io::Result<()>
-    requires { (converted_values c).count ≤ length buffer.now }
+    requires { (converted_values converted).count ≤ length buffer.now }
 {
-    match c {
-        Converted::Written(count) => output.write_all(&buffer[..count]),
-        Converted::Refused(refusal) => {
-            let number = formula::number_of(refusal);
-            let place = formula::place_of(refusal) as u64;
-            let mut line = [0u8; MAX_LINE];
-            let count = printing::put_refused_line(number, place, &mut line, 0);
-            errors.write_all(&line[..count])
-        }
+    match converted {
+        Ok(count) => output.write_all(&buffer[..count]),
+        Err(refusal) => println!(errors; "{refusal}"),
     }
 }

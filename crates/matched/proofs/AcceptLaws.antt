@@ -46,6 +46,7 @@ use Rattle.splitting.specs.declared.Stripping.{Stripping}
 use Rattle.splitting.specs.Nodes.{remaining, satisfied_by}
 use Rattle.splitting.specs.Stripping.{stripped}
 use Rattle.splitting.specs.InnerChoose.{node, matching_at, noted_from, reduced, stripping_at, assign_all, assignment_of}
+use Rattle.splitting.proofs.MaskClauseLaws.{sets_variables}
 use Rattle.splitting.proofs.MaskChoiceLaws.{StripsTo, strips_to}
 use Rattle.splitting.proofs.MaskNodeLaws.{node_masks}
 use Rattle.splitting.proofs.NodeMatchingLaws.{small_of, Word, node_words}
@@ -59,7 +60,8 @@ use Rattle.matched.specs.Acceptance.{Acceptance, accepted, declined, Dropped, by
 use Rattle.matched.specs.InnerAccept.{raised, row_held, refused_row, held_row, held_acceptance, Takes}
 use Rattle.matched.specs.InnerSpread.{bytes_at, NotesFit, first_in, told_byte, told_bytes}
 use Rattle.matched.specs.Pairing.{noted_of, left_of}
-use Rattle.matched.proofs.AcceptanceLaws.{FormulaComes, paired, strips, unpaired, accepted_is, read_acceptance, formula_case, bad_declined, unreadable_declined}
+use Rattle.matched.proofs.AcceptanceLaws as comes
+use Rattle.matched.proofs.AcceptanceLaws.{FormulaComes, accepted_is, read_acceptance, formula_case, bad_declined, unreadable_declined}
 use Rattle.matched.proofs.PairingLaws.{masks_words}
 use Rattle.matched.proofs.DroppedLaws.{drops, first_dropped, same_asks, whole-zeros, trail_drops, stripped_zeros}
 use Rattle.matched.proofs.SizedLaws.{remaining_sized}
@@ -203,13 +205,6 @@ module _ {n : ℕ} {cs : List (List Literal)} {f : Formula} {u : List Literal} {
   abbrev rs : List (List Literal)
   rs = remaining u cs
 
-  sets_are : map clause_variables (map clause_of rs) ≡ map variables rs
-  sets_are = all rs
-    where
-      all : (l : List (List Literal)) → map clause_variables (map clause_of l) ≡ map variables l
-      all [] = refl
-      all (c ∷ l) = ap₂ (λ (x : ℕ) (y : List ℕ). x ∷ y) (sym (variables-named c)) (all l)
-
   node_is : node f b ≡ map clause_of rs
   node_is = ap₂ node M.masks M.assigned ∙ node_masks n cs u M.once
 
@@ -218,7 +213,7 @@ module _ {n : ℕ} {cs : List (List Literal)} {f : Formula} {u : List Literal} {
   of_clauses =
       M.matches
       ∙ ap (λ (l : List Clause). packed (length l) (outcome (map clause_variables l))) node_is
-      ∙ ap₂ (λ (k : ℕ) (l : List ℕ). packed k (outcome l)) (length-map rs clause_of) sets_are
+      ∙ ap₂ (λ (k : ℕ) (l : List ℕ). packed k (outcome l)) (length-map rs clause_of) (sets_variables rs)
 
   -- all clauses are matched: their variables are found
   matched_found : (l : List ℕ) → m.found ≡ Ok l → (vs : List ℕ) × (e : ℕ) × (outcome (map variables rs) ≡ success vs e) × (length vs ≡ length rs) × (l ≡ padded max_clauses 0 vs)
@@ -390,16 +385,16 @@ module _ (s : List ℕ) (us : List Assumption) where
     accepted_held row w = rw (read_acceptance s us n t cs reads assumes) (by (formula_case s us n t cs reads assumes) w)
       where
         by : {a : Acceptance} → FormulaComes n t cs a → Ok row ≡ held_row a → Ok (record { formula = formula_of n cs; assignment = assignment_of t; row = row }) ≡ held_acceptance a
-        by (paired vs p) q = cc
-        by (strips vs none p) q = cc
-        by (unpaired ms v none) q = absurd cc
+        by (comes.paired vs p) q = cc
+        by (comes.strips vs none p) q = cc
+        by (comes.unpaired ms v none) q = absurd cc
 
     pub declined_held : (d : Declined) → Err d ≡ held_row (formula_acceptance n t cs) → Err d ≡ held_acceptance (acceptance s us)
     declined_held d w = rw (read_acceptance s us n t cs reads assumes) (by (formula_acceptance n t cs) w)
       where
         by : (a : Acceptance) → Err d ≡ held_row a → Err d ≡ held_acceptance a
         by (accepted m u ds r) q = absurd cc
-        by (declined r x) q = q
+        by (declined r x) q = cc
 
   -- one with a bad assumption has no bytes
   pub bad_held : (n : ℕ) (cs : List (List Literal)) (i : ℕ) → decode s ≡ readable n cs → assumed n us ≡ bad i

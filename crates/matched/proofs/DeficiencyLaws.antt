@@ -6,14 +6,15 @@ use mathlib.Core.Path.{◌≡◌, refl, sym, ap, ◌∙◌, subst}
 use native.Mathlib.Decide.{dec_lt}
 use native.Mathlib.Numerals.{add-one}
 use native.Mathlib.Omega.{arith}
-use lib.ListN.{length, get_or, set, take, length-map}
-use lib.Seq.{length-take-le, take-suc}
+use lib.LanesLaws.{map-replicate}
+use lib.ListN.{length, get_or, take, length-map}
+use lib.Seq.{ext_get_or}
 use Rattle.limits.specs.Limits.{max_clauses}
 use Rattle.lists.specs.Padded.{padded}
-use Rattle.lists.proofs.PaddedLaws.{length_padded, get_or_padded, get_or_padded_past, padded_set, take_padded}
+use Rattle.lists.proofs.MapLaws.{get_or-map_in}
+use Rattle.lists.proofs.PaddedLaws.{length_padded, get_or_padded, get_or_padded_past, take_padded}
 use Rattle.lists.proofs.SublistLaws.{sub_length, sub_map}
 use Rattle.masks.specs.Mask.{size}
-use Rattle.formula.specs.declared.Clause.{Clause}
 use Rattle.formula.specs.declared.Formula.{Formula}
 use Rattle.formula.specs.declared.Refusal.{Refusal}
 use Rattle.formula.specs.InnerDecode.{decode}
@@ -21,7 +22,7 @@ use Rattle.formula.specs.Decoding.{Decoding, readable, refused}
 use Rattle.formula.specs.Format.{Literal, Sized, Encodes}
 use Rattle.formula.specs.Masked.{variables}
 use Rattle.formula.specs.InnerFits.{clause_variables}
-use Rattle.formula.specs.InnerMasked.{no_clause}
+use Rattle.formula.specs.InnerMasked.{no_clause, clause_of}
 use Rattle.formula.specs.Refusals.{table_row}
 use Rattle.formula.specs.Table.{Refuses}
 use Rattle.formula.proofs.Demands.{accepted_only, accepted_all, accepted_fits, refused_only, numbers}
@@ -33,6 +34,7 @@ use Rattle.matching.specs.Deficiency.{most, deficiency}
 use Rattle.matching.proofs.SelectedLaws.{selected_map, selected_sub, sub_selected}
 use Rattle.matching.proofs.Theorems.{most_attained, most_bound, excess_attained, excess_bound, one_more, deficiency-none}
 use Rattle.splitting.specs.Nodes.{remaining}
+use Rattle.splitting.proofs.MaskClauseLaws.{sets_variables}
 use Rattle.matched.specs.Deficiency.{MeasuredValues, measured, unmeasured, deficiency_of}
 use Rattle.matched.specs.Judge.{judge}
 use Rattle.matched.specs.Pairing.{Pairs, Pairable}
@@ -41,6 +43,10 @@ use Rattle.matched.proofs.JudgeLaws.{judged_unmatched, unmatched_long, walkable_
 use Rattle.matched.proofs.PairingLaws.{array_masks, masks_words, matches_pairs, pairs_matches}
 
 -- ---- what is counted
+
+map_padded : {A B : Type 0} (f : A → B) (n : ℕ) (d : A) (l : List A) → map f (padded n d l) ≡ padded n (f d) (map f l)
+unfolding padded
+map_padded f n d l = rw (map-append, map-replicate f (n - length l) d, length-map)
 
 padded_words : (n : ℕ) (l : List ℕ) → length l ≤ n → Words l → Words (padded n 0 l)
 padded_words n l few W i h = by (dec_lt i (length l))
@@ -62,13 +68,24 @@ module _ (s : List ℕ) where
   unfolding deficiency
   clauses_less_most n cs e = readable_deficiency n cs e ∙ rw (length-map cs variables)
 
-  -- over the formula f that was read, and the array of its masks
-  module _ (f : Formula) (a : Accepts s f) (sets : List ℕ) (are : sets ≡ map clause_variables f.clauses) where
+  -- over the formula f that was read, and the array of its clauses' masks
+  module _ (f : Formula) (a : Accepts s f) (sets : List ℕ) (long : length sets ≡ max_clauses)
+      (at : (i : ℕ) → i < max_clauses → get_or sets i 0 ≡ clause_variables (get_or f.clauses i no_clause)) where
     abbrev masks : List ℕ
     masks = map variables a.clauses
 
     array_is : sets ≡ padded max_clauses 0 masks
-    array_is = are ∙ rw a.formula (map_padded clause_variables max_clauses no_clause (map clause_of a.clauses) ∙ ?)
+    array_is =
+        let cs = map clause_of a.clauses in
+        let l = padded max_clauses no_clause cs in
+        let few : length cs ≤ max_clauses = omega (arith, length-map a.clauses clause_of, a.sized.few) in
+        let places : length l ≡ max_clauses = length_padded max_clauses no_clause cs few in
+        ext_get_or 0 sets (map clause_variables l) (long ∙ sym (length-map l clause_variables ∙ places))
+        (λ i h.
+        let k : i < max_clauses = rw long at h in
+        at i k ∙ rw a.formula (sym (get_or-map_in clause_variables l i no_clause 0 (rw places k))))
+        ∙ map_padded clause_variables max_clauses no_clause cs
+        ∙ ap (padded max_clauses 0) (sets_variables a.clauses)
 
     count_is : f.count ≡ length masks
     count_is = ap (λ (g : Formula). g.count) a.formula ∙ sym (length-map a.clauses variables)

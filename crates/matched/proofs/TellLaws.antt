@@ -19,36 +19,27 @@ use Rattle.splitting.specs.declared.Stripping.{Stripping}
 use Rattle.matched.specs.InnerSpread.{NotesFit, first_in, first_noted, told_byte, told_bytes}
 use Rattle.matched.proofs.SpreadLaws.{padded_more}
 
--- ---- the noted variables, the first n of an array
+-- ---- the noted variables, from the one at i on
 
-module _ (order : List ℕ) (n mask i : ℕ) (long : n ≤ length order) where
-  -- those from i on
-  abbrev from : List ℕ
-  from = drop i (take n order)
-
-  module _ (inside : i < n) where
-    next_noted : from ≡ get_or order i 0 ∷ drop (i + 1) (take n order)
-    next_noted =
-        let h : i < length (take n order) = rw (length-take-le n order long) inside in
-        let e : i + 1 ≡ suc i = add-one i in
-        rw e (drop-cons (take n order) i 0 h ∙ ap (λ (x : ℕ). x ∷ drop (suc i) (take n order)) (get_or-take n order i 0 inside))
+module _ (noted : List ℕ) (mask i : ℕ) where
+  module _ (inside : i < length noted) where
+    next_noted : drop i noted ≡ get_or noted i 0 ∷ drop (i + 1) noted
+    next_noted = rw add-one (drop-cons noted i 0 inside)
 
     -- the mask has it
-    pub noted_here : bit mask (get_or order i 0) ≡ true → first_in from mask ≡ get_or order i 0
+    pub noted_here : bit mask (get_or noted i 0) ≡ true → first_in (drop i noted) mask ≡ get_or noted i 0
     unfolding first_in
-    noted_here e = ap (λ (l : List ℕ). first_in l mask) next_noted ∙ rw e
+    noted_here e = rw (next_noted, e)
 
     -- it has not
-    pub noted_later : bit mask (get_or order i 0) ≡ false → first_in from mask ≡ first_in (drop (i + 1) (take n order)) mask
+    pub noted_later : bit mask (get_or noted i 0) ≡ false → first_in (drop i noted) mask ≡ first_in (drop (i + 1) noted) mask
     unfolding first_in
-    noted_later e = ap (λ (l : List ℕ). first_in l mask) next_noted ∙ rw e
+    noted_later e = rw (next_noted, e)
 
   -- there is no further one
-  pub noted_none : i ≡ n → first_in from mask ≡ 0
+  pub noted_none : i ≡ length noted → first_in (drop i noted) mask ≡ 0
   unfolding first_in
-  noted_none e =
-      let k : i ≡ length (take n order) = e ∙ sym (length-take-le n order long) in
-      ap (λ (j : ℕ). first_in (drop j (take n order)) mask) k ∙ ap (λ (l : List ℕ). first_in l mask) (drop-length (take n order))
+  noted_none e = rw (e, drop-length noted)
 
 -- it fits a mask
 first_small : (l : List ℕ) (m : ℕ) → ((i : ℕ) → i < length l → get_or l i 0 < 64) → first_in l m < 64

@@ -1,21 +1,25 @@
 -- What is weighed, by cases, that it is what the loops of `weigh_marks` count and gather, and what it has of judge.
-use Prim.Native.Nat.{ℕ, ◌+◌, ◌-◌, ◌≤◌, ◌<◌}
-use mathlib.Core.Bool.{true, false, cond}
+use Prim.Native.Nat.{ℕ, suc, ◌+◌, ◌-◌, ◌≤◌, ◌<◌}
+use mathlib.Core.Bool.{Bool, true, false, cond, not, or_assoc}
 use mathlib.Core.List.{List, [], ◌∷◌, ◌++◌, map, append-nil, map-append}
+use mathlib.Core.Logic.{◌⊎◌, ⊎_elim}
 use mathlib.Core.Path.{◌≡◌, refl, sym, ap, ◌∙◌}
 use native.Mathlib.Decide.{dec_lt}
 use native.Mathlib.Numerals.{add-one}
 use native.Mathlib.Omega.{arith}
-use lib.Bits.{bit_or}
+use lib.Bits.{bit_or, or_zero_r}
 use lib.Dec.{eqb}
 use lib.ListN.{length, get_or, take, drop, length-append}
 use lib.Seq.{length-take-le, take-suc}
 use borrow.Author.Tests.{le-ltb, lt-ltb, eq-eqb, ne_eqb}
 use Rattle.std.specs.Prelude.{Result, Ok, Err, count_by}
+use Rattle.std.proofs.lemmas.List.Sums.{sum_by-cons}
 use Rattle.limits.specs.Limits.{max_clauses}
 use Rattle.lists.specs.Over.{over}
 use Rattle.lists.proofs.OverLaws.{over_length}
-use Rattle.masks.specs.Mask.{minus, size}
+use Rattle.masks.specs.Mask.{bit, minus, size}
+use Rattle.masks.proofs.BitLaws.{bit-or}
+use Rattle.masks.proofs.MembersLaws.{mask_same}
 use Rattle.formula.specs.declared.assignment.Assignment.{Assignment}
 use Rattle.formula.specs.declared.Clause.{Clause}
 use Rattle.formula.specs.declared.Formula.{Formula}
@@ -33,8 +37,7 @@ use Rattle.assumptions.specs.declared.Assumption.{Assumption}
 use Rattle.assumptions.specs.Assumed.{literals, bad, assumed}
 use Rattle.assumptions.specs.InnerAssumed.{MasksOf}
 use Rattle.matching.specs.Sets.{union, selected}
-use Rattle.matching.proofs.MatchedLaws.{union_more}
-use Rattle.matching.proofs.SelectedLaws.{selected_more, selected_front, selected_map, selected_size}
+use Rattle.matching.proofs.SelectedLaws.{selected_empty, selected_front, selected_map}
 use Rattle.splitting.proofs.MaskNodeLaws.{assigned-variables}
 use Rattle.matched.specs.Acceptance.{Acceptance, accepted, declined, acceptance}
 use Rattle.matched.specs.Judge.{Judged, judge}
@@ -50,23 +53,41 @@ use Rattle.matched.proofs.PairingLaws.{array_masks}
 abbrev pub gathers : ℕ → List ℕ → List Clause → ℕ
 gathers m marks cs = bit_or m (union (selected marks (map clause_variables cs)))
 
-module _ (m mark : ℕ) (marks : List ℕ) (c : Clause) (cs : List Clause) where
-  -- the next one is marked
-  pub gathers_marked : (mark ≡ 0 → ⊥) → gathers (bit_or m (clause_variables c)) marks cs ≡ gathers m (mark ∷ marks) (c ∷ cs)
+-- the next mark and the next clause
+module _ (m : ℕ) {mark : ℕ} {marks ms : List ℕ} {c : Clause} {cs ds : List Clause} (a : ds ≡ c ∷ cs) (b : ms ≡ mark ∷ marks) where
+  pub gathers_marked : (mark ≡ 0 → ⊥) → (x : ℕ) → x ≡ clause_variables c → gathers (bit_or m x) marks cs ≡ gathers m ms ds
   unfolding union selected
-  gathers_marked ne = ?
+  gathers_marked ne x e =
+      let r = union (selected marks (map clause_variables cs)) in
+      rw (a, b, ne_eqb mark 0 ne, ← e)
+      (mask_same (bit_or (bit_or m x) r) (bit_or m (bit_or x r)) (λ i. simp bit-or (or_assoc (bit m i) (bit x i) (bit r i))))
 
-  -- it is not
-  pub gathers_unmarked : mark ≡ 0 → gathers m marks cs ≡ gathers m (mark ∷ marks) (c ∷ cs)
+  pub gathers_unmarked : mark ≡ 0 → gathers m marks cs ≡ gathers m ms ds
   unfolding selected
-  gathers_unmarked z = rw (eq-eqb mark 0 z)
+  gathers_unmarked z = rw (a, b, eq-eqb mark 0 z)
+
+-- no clause is left, or no mark
+pub gathers_all : (m : ℕ) (marks : List ℕ) (cs : List Clause) → (length cs ≡ 0) ⊎ (length marks ≡ 0) → gathers m marks cs ≡ m
+unfolding union selected
+gathers_all m marks [] h = rw (selected_empty marks) (or_zero_r m)
+gathers_all m [] (c ∷ cs) h = or_zero_r m
+gathers_all m (x ∷ marks) (c ∷ cs) h = absurd (⊎_elim (λ (e : suc (length cs) ≡ 0). omega (arith, e)) (λ (e : suc (length marks) ≡ 0). omega (arith, e)) h)
 
 -- ---- the marks that are counted
 
--- a list's first n marks mark as many of themselves
-marked_count : (marks : List ℕ) (n : ℕ) → n ≤ length marks → count_by (λ x. not (eqb x 0)) (take n marks) ≡ length (selected marks (take n marks))
+-- as many are not 0 as clauses are marked
+marked_count : {A : Type 0} (marks : List ℕ) (l : List A) → length l ≤ length marks → count_by (λ x. not (eqb x 0)) (take (length l) marks) ≡ length (selected marks l)
 unfolding selected
-marked_count marks n h = ?
+marked_count [] [] h = refl
+marked_count [] (x ∷ l) h = absurd (omega arith)
+marked_count (m ∷ marks) [] h = refl
+marked_count (m ∷ marks) (x ∷ l) h =
+    sum_by-cons (λ y. cond (not (eqb y 0)) 1 0) m (take (length l) marks) ∙ by (eqb m 0) (marked_count marks l (omega arith))
+  where
+    by : (b : Bool) → count_by (λ x. not (eqb x 0)) (take (length l) marks) ≡ length (selected marks l)
+        → cond (not b) 1 0 + count_by (λ x. not (eqb x 0)) (take (length l) marks) ≡ length (cond b (selected marks l) (x ∷ selected marks l))
+    by true e = omega (arith, e)
+    by false e = omega (arith, e)
 
 -- ---- what is weighed, by the cases of its definition
 
@@ -105,9 +126,7 @@ module _ (s : List ℕ) (us : List Assumption) (b : List ℕ) (l : max_clauses �
     counted : count_by (λ x. not (eqb x 0)) (take f.count b) ≡ length (marked b cs)
     counted =
         let e : f.count ≡ length cs = ap (λ (g : Formula). g.count) a.formula in
-        let k : f.count ≤ length b = omega (arith, a.fits.few) in
-        marked_count b f.count k
-        ∙ selected_size b (take f.count b) cs (length-take-le f.count b k ∙ e)
+        ap (λ (k : ℕ). count_by (λ x. not (eqb x 0)) (take k b)) e ∙ marked_count b cs (omega (arith, e, a.fits.few))
 
     -- the masks of the marked clauses
     gathered : selected b (map clause_variables (take f.count f.clauses)) ≡ map variables (marked b cs)

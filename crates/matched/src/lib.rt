@@ -240,11 +240,7 @@ pub fn find_matching_under(
 }
 
 // S5.7, S17.2: the act judge.
-pub fn find_matching(
-    input: &[u8],
-    list: &[Assumption],
-    buffer: &mut [u8],
-) -> Result<Sizes, Refusal>
+pub fn find_matching(input: &[u8], list: &[Assumption], buffer: &mut [u8]) -> Result<Sizes, Refusal>
     ensures { (judgement_values result ≡ (judge input.now list.now buffer.old).answer)
         × (buffer.new ≡ (judge input.now list.now buffer.old).buffer) }
 {

@@ -9,7 +9,7 @@ use lib.ListN.{length, take}
 use lib.Seq.{get_or-take, length-take-le}
 use lib.Dec.{eqb}
 use borrow.Author.Tests.{eqb-true, eqb-false}
-use Rattle.lists.proofs.TestLaws.{bool_cases}
+use Rattle.std.proofs.lemmas.Bool.{cases_Bool}
 use Rattle.matching.specs.Sets.{Words}
 use Rattle.matching.specs.InnerMatched.{Matches}
 use Rattle.matching.specs.Search.{owner, Search, begin, expand, search_from, search_bound, rematch_from, rematch, next_search}
@@ -45,7 +45,7 @@ search_larger (suc k) (suc n) sets own s l d =
     (λ (f : eqb s.free 64 ≡ false).
     let ne = eqb-false s.free 64 f in
     stopped_stays (suc n) sets own s (inl ne) ∙ sym (stopped_stays (suc k) sets own s (inl ne)))
-    (bool_cases (eqb s.free 64))
+    (cases_Bool (eqb s.free 64))
 
 -- a matching of the first clauses, with their number and without
 partial_of : (sets m : List ℕ) → length m ≤ length sets → Matches (take (length m) sets) m → Partial sets m

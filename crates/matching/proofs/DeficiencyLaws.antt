@@ -13,9 +13,10 @@ use lib.Dec.{eqb}
 use lib.ListN.{length, length-append, length-map, get_or-append}
 use lib.Seq.{get_or-append_seam}
 use borrow.Author.Tests.{eqb-true, eq-eqb}
-use Rattle.lists.proofs.MapLaws.{get_or-map_in}
+use Rattle.std.proofs.lemmas.List.{get_or-map}
 use Rattle.lists.proofs.SublistLaws.{get_or_element, element_place, sub_within}
-use Rattle.lists.proofs.TestLaws.{bool_cases, bool_clash, or_cases, or_left, or_right}
+use Rattle.std.proofs.lemmas.Bool.{cases_Bool}
+use Rattle.lists.proofs.TestLaws.{bool_clash, or_cases, or_left, or_right}
 use Rattle.masks.specs.Mask.{bit, minus, size}
 use Rattle.masks.proofs.BitLaws.{bit-or, bit-none, bit-minus}
 use Rattle.masks.proofs.MembersLaws.{mask_same}
@@ -140,7 +141,7 @@ module _ (w : ℕ) where
       (λ (u : bit w x ≡ true). u)
       (λ (u : bit w x ≡ false).
       bool_clash (bit-minus s w x ∙ rw (t, u)) (ap (λ (m : ℕ). bit m x) (eqb-true (minus s w) 0 e) ∙ bit-none x))
-      (bool_cases (bit w x))
+      (cases_Bool (bit w x))
 
   true_included : (s : ℕ) → Includes w s → included s ≡ true
   unfolding included
@@ -161,11 +162,11 @@ module _ (w : ℕ) where
   mark_included l i h ne =
       ⊎_elim
       (λ t. t)
-      (λ (f : included (at l i) ≡ false). absurd (ne (get_or-map_in (λ s. one_if (included s)) l i 0 0 h ∙ rw f)))
-      (bool_cases (included (at l i)))
+      (λ (f : included (at l i) ≡ false). absurd (ne (get_or-map (λ s. one_if (included s)) l i 0 0 h ∙ rw f)))
+      (cases_Bool (included (at l i)))
 
   included_mark : (l : List ℕ) (i : ℕ) → i < length l → included (at l i) ≡ true → at (included_marks l) i ≡ 0 → ⊥
-  included_mark l i h t z = let e : ◌≡◌ {A = ℕ} 1 0 = sym (ap one_if t) ∙ sym (get_or-map_in (λ s. one_if (included s)) l i 0 0 h) ∙ z in omega arith
+  included_mark l i h t z = let e : ◌≡◌ {A = ℕ} 1 0 = sym (ap one_if t) ∙ sym (get_or-map (λ s. one_if (included s)) l i 0 0 h) ∙ z in omega arith
 
   -- the mask includes what they name
   included_union : (l : List ℕ) → Includes w (union (all_included l))

@@ -9,7 +9,7 @@ use lib.ListN.{length, set, length-set}
 use lib.Seq.{get_or-set_other}
 use lib.Dec.{eqb}
 use borrow.Author.Tests.{eqb-true, eqb-false, eq-eqb, ne_eqb, lt-ltb, le-ltb}
-use Rattle.lists.proofs.TestLaws.{bool_cases}
+use Rattle.std.proofs.lemmas.Bool.{cases_Bool}
 use Rattle.matching.specs.Search.{rematch_from}
 use Rattle.matching.specs.Inner.{at, distance}
 use Rattle.matching.proofs.Counting.{lt_or_le}
@@ -38,7 +38,7 @@ distance_cases k links m v h =
     (λ (f : eqb (at links v) (length m) ≡ false).
     let ne = eqb-false (at links v) (length m) f in
     let d = distance_off k links m v (omega (arith, ne)) in absurd (omega arith))
-    (bool_cases (eqb (at links v) (length m))))
+    (cases_Bool (eqb (at links v) (length m))))
     (lt_or_le (at links v) (length m))
 
 -- the distance does not depend on the bound
@@ -89,7 +89,7 @@ distance_set links m c v d lc same (suc j) x a b =
     distance_on j links (set m c v) x (omega arith)
     ∙ ap suc (ap (distance j links (set m c v)) q ∙ distance_set links m c v d lc same j (at m (at links x)) (omega arith) (omega arith))
     ∙ sym p)
-    (bool_cases (eqb (at links x) c)))
+    (cases_Bool (eqb (at links x) c)))
     (distance_cases j links m x a)
 
 -- one link less

@@ -9,14 +9,16 @@ use lib.ListN.{length, set, length-set, length-append, length-replicate, get_or-
 use lib.Seq.{get_or-set_same, get_or-set_other, get_or-append_seam}
 use lib.Dec.{eqb}
 use borrow.Author.Tests.{eqb-true, eqb-false, eq-eqb, ne_eqb}
-use Rattle.lists.proofs.TestLaws.{bool_cases, bool_clash}
+use Rattle.std.proofs.lemmas.Bool.{cases_Bool}
+use Rattle.lists.proofs.TestLaws.{bool_clash}
 use Rattle.masks.specs.Mask.{bit, with, size}
 use Rattle.masks.proofs.BitLaws.{bit-none, bit-with-same, bit-with_other, with_lt}
 use Rattle.masks.proofs.MembersLaws.{members_le}
 use Rattle.masks.proofs.SizeLaws.{with_count, size_none}
 use Rattle.matching.specs.Search.{Search, no_links, begin, take_front, search_bound}
 use Rattle.matching.specs.Inner.{at, Free, EachOnce}
-use Rattle.matching.proofs.Counting.{below_cases, zero_or_pos, pigeon, count_all}
+use native.Mathlib.Nat.{eq-zero-or-pos}
+use Rattle.matching.proofs.Counting.{below_cases, pigeon, count_all}
 use Rattle.matching.proofs.Augmenting.{Path}
 
 -- ── Masks and tables ──────────────────────────────────────────────────────────────────────────────────────────────────
@@ -24,12 +26,12 @@ use Rattle.matching.proofs.Augmenting.{Path}
 -- what is seen stays seen
 pub seen_stays : (seen v y : ℕ) → bit seen y ≡ true → bit (with seen v) y ≡ true
 seen_stays seen v y u =
-    ⊎_elim (λ (q : eqb y v ≡ true). rw (eqb-true y v q) (bit-with-same seen v)) (λ f. bit-with_other seen v y (eqb-false y v f) ∙ u) (bool_cases (eqb y v))
+    ⊎_elim (λ (q : eqb y v ≡ true). rw (eqb-true y v q) (bit-with-same seen v)) (λ f. bit-with_other seen v y (eqb-false y v f) ∙ u) (cases_Bool (eqb y v))
 
 -- what is seen once v is: v, or what was seen before
 seen_cases : (seen v y : ℕ) → bit (with seen v) y ≡ true → (y ≡ v) ⊎ ((y ≡ v → ⊥) × (bit seen y ≡ true))
 seen_cases seen v y u =
-    ⊎_elim (λ q. inl (eqb-true y v q)) (λ f. inr (eqb-false y v f, sym (bit-with_other seen v y (eqb-false y v f)) ∙ u)) (bool_cases (eqb y v))
+    ⊎_elim (λ q. inl (eqb-true y v q)) (λ f. inr (eqb-false y v f, sym (bit-with_other seen v y (eqb-false y v f)) ∙ u)) (cases_Bool (eqb y v))
 
 -- a table with another entry for x
 unfoldable updated : (ℕ → ℕ) → ℕ → ℕ → ℕ → ℕ
@@ -112,12 +114,12 @@ module _ (sets m : List ℕ) (h : ℕ) (s : Search) (I : Invariant sets m h s) w
       (λ (p : i ≡ 0). ⊎_elim
       (λ (q : j ≡ 0). p ∙ sym q)
       (λ q. let r : at s.queue i ≡ length m = rw p I.root in absurd (omega (arith, (I.each j q k).0)))
-      (zero_or_pos j))
+      (eq-zero-or-pos j))
       (λ p. ⊎_elim
       (λ (q : j ≡ 0). let r : at s.queue j ≡ length m = rw q I.root in absurd (omega (arith, (I.each i p l).0)))
       (λ q. sym (I.each i p l).2 ∙ ap (λ c. I.place_of (at m c)) e ∙ (I.each j q k).2)
-      (zero_or_pos j))
-      (zero_or_pos i)
+      (eq-zero-or-pos j))
+      (eq-zero-or-pos i)
 
   -- taking a clause off changes nothing of it
   pub invariant_taken : Invariant sets m h (take_front s)
@@ -260,7 +262,7 @@ module _ (sets m : List ℕ) (h : ℕ) (s : Search) (I : Invariant sets m h s) w
           let w = I.each k p (omega arith) in
           let ne : at m (at s.queue k) ≡ v → ⊥ = free (at s.queue k) w.0 in
           inr (w.0, bit-with_other s.seen v (at m (at s.queue k)) ne ∙ w.1, rw (place_old (at m (at s.queue k)) ne, w.2) l))
-          (zero_or_pos k)
+          (eq-zero-or-pos k)
 
       -- so the links lead from v back to the new clause
       link_earlier : (y : ℕ) → bit (with s.seen v) y ≡ true

@@ -11,7 +11,7 @@ use native.Mathlib.Omega.{arith}
 use lib.Dec.{ltb, eqb}
 use lib.ListN.{length, length-append}
 use borrow.Author.Tests.{ltb-true, ltb-false, eqb-true, eqb-false}
-use Rattle.lists.proofs.TestLaws.{bool_cases}
+use Rattle.std.proofs.lemmas.Bool.{cases_Bool}
 use Rattle.lists.proofs.SublistLaws.{sub_within, sub_whole, sub_front}
 use Rattle.masks.specs.Mask.{size}
 use Rattle.matching.specs.Sets.{Words, union}
@@ -120,7 +120,7 @@ keep_rest (s ∷ rest) done W K =
     (⊎_elim
     (λ (t : eqb free 64 ≡ true). (K.0, K.1, keeping_leave done K.0 K.1 s U K.2 (eqb-true free 64 t)))
     (λ (f : eqb free 64 ≡ false). (_, _, keeping_more done K.0 K.1 s U K.2 (eqb-false free 64 f)))
-    (bool_cases (eqb free 64))))
+    (cases_Bool (eqb free 64))))
 
 keep : (sets : List ℕ) → Words sets → SomeKept sets
 keep sets W = keep_rest sets [] W ([], [], keeping_begin)
@@ -181,7 +181,7 @@ largest_bound (y ∷ l) x m =
     (λ (f : ltb y (largest l) ≡ false).
     let h = ltb-false y (largest l) f in
     rw f (⊎_elim (λ (e : x ≡ y). omega arith) (λ n. let k = largest_bound l x n in omega arith) (Memᴰ.cases_cons m)))
-    (bool_cases (ltb y (largest l)))
+    (cases_Bool (ltb y (largest l)))
 
 -- and a bound of all is one of the largest
 largest_least : (l : List ℕ) (b : ℕ) → ((x : ℕ) → Memᴰ x l → x ≤ b) → largest l ≤ b

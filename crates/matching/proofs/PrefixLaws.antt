@@ -9,7 +9,7 @@ use lib.ListN.{length, set, take, length-set, length-append}
 use lib.Seq.{get_or-take, length-take-le}
 use lib.Dec.{eqb}
 use borrow.Author.Tests.{eqb-true, eqb-false}
-use Rattle.lists.proofs.TestLaws.{bool_cases}
+use Rattle.std.proofs.lemmas.Bool.{cases_Bool}
 use Rattle.masks.specs.Mask.{bit, members}
 use Rattle.matching.specs.Search.{owner, Search, begin, see, scan, take_front, front, expand, search_from, rematch_from, search_bound, next_search, failure, match_rest, outcome}
 use Rattle.matching.specs.Inner.{at}
@@ -41,9 +41,9 @@ scan_low n own o c (v ∷ vs) s L =
     ⊎_elim
     (λ (b : bit s.seen v ≡ true). subst (λ (r : Search). Low n r) (sym (scan_old own c v vs s e b)) (scan_low n own o c vs s L))
     (λ (b : bit s.seen v ≡ false). subst (λ (r : Search). Low n r) (sym (scan_new own c v vs s e b)) (scan_low n own o c vs (see own c v s) (see_low n own c v s (o v) L)))
-    (bool_cases (bit s.seen v)))
+    (cases_Bool (bit s.seen v)))
     (λ (f : eqb s.free 64 ≡ false). subst (λ (r : Search). Low n r) (sym (scan_stop own c (v ∷ vs) s (eqb-false s.free 64 f))) L)
-    (bool_cases (eqb s.free 64))
+    (cases_Bool (eqb s.free 64))
 
 expand_low : (n : ℕ) (sets : List ℕ) (own : ℕ → ℕ) → ((v : ℕ) → own v ≤ n) → (s : Search) → Low n s → Low n (expand sets own s)
 unfolding expand take_front
@@ -72,7 +72,7 @@ search_take n sets own o (suc k) s L =
     (λ (f : eqb s.free 64 ≡ false).
     let ne = eqb-false s.free 64 f in
     search_found (suc k) (take n sets) own s ne ∙ sym (search_found (suc k) sets own s ne))
-    (bool_cases (eqb s.free 64))
+    (cases_Bool (eqb s.free 64))
 
 -- the search for the next clause looks at no clause behind it
 pub next_take : (n : ℕ) (sets m : List ℕ) → length m < n → next_search (take n sets) m ≡ next_search sets m
@@ -89,7 +89,7 @@ rematch_short (suc k) links m v =
     (λ (t : eqb (at links v) (length m) ≡ true). rw t (let e = length-append m (v ∷ []) in omega arith))
     (λ (f : eqb (at links v) (length m) ≡ false).
     rw f (let e = length-set m (at links v) v in let r = rematch_short k links (set m (at links v) v) (at m (at links v)) in omega arith))
-    (bool_cases (eqb (at links v) (length m)))
+    (cases_Bool (eqb (at links v) (length m)))
 
 match_take : (n : ℕ) (sets : List ℕ) (k : ℕ) (m : List ℕ) (e : ℕ) → length m + k ≤ n → match_rest k (take n sets) m e ≡ match_rest k sets m e
 match_take n sets zero m e l = match_none (take n sets) m e ∙ sym (match_none sets m e)
@@ -108,7 +108,7 @@ match_take n sets (suc k) m e l =
     ∙ ap (λ (r : Search). match_rest k (take n sets) (rematch_from search_bound r.links m r.free) (e + r.taken)) q
     ∙ match_take n sets k (rematch_from search_bound s.links m s.free) (e + s.taken) (let r = rematch_short search_bound s.links m s.free in omega arith)
     ∙ sym (match_on k sets m e ne))
-    (bool_cases (eqb s.free 64))
+    (cases_Bool (eqb s.free 64))
 
 pub outcome-take : (n : ℕ) (sets : List ℕ) → n ≤ length sets → outcome (take n sets) ≡ match_rest n sets [] 0
 unfolding outcome

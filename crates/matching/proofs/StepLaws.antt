@@ -8,7 +8,7 @@ use native.Mathlib.Omega.{arith}
 use lib.ListN.{length, set}
 use lib.Dec.{eqb}
 use borrow.Author.Tests.{eqb-true, eqb-false, eq-eqb, ne_eqb, lt-ltb, le-ltb}
-use Rattle.lists.proofs.TestLaws.{bool_cases}
+use Rattle.std.proofs.lemmas.Bool.{cases_Bool}
 use Rattle.masks.specs.Mask.{bit, with, members}
 use Rattle.matching.specs.Search.{Search, see, scan, take_front, front, expand, search_from}
 use Rattle.matching.specs.Inner.{at}
@@ -78,9 +78,9 @@ scan-taken own c (v ∷ vs) s =
     ⊎_elim
     (λ (b : bit s.seen v ≡ true). rw (scan_old own c v vs s e b) (scan-taken own c vs s))
     (λ (b : bit s.seen v ≡ false). rw (scan_new own c v vs s e b) (scan-taken own c vs (see own c v s) ∙ see_taken own c v s))
-    (bool_cases (bit s.seen v)))
+    (cases_Bool (bit s.seen v)))
     (λ (f : eqb s.free 64 ≡ false). rw (scan_stop own c (v ∷ vs) s (eqb-false s.free 64 f)))
-    (bool_cases (eqb s.free 64))
+    (cases_Bool (eqb s.free 64))
 
 pub expand-taken : (sets : List ℕ) (own : ℕ → ℕ) (s : Search) → (expand sets own s).taken ≡ suc s.taken
 unfolding expand take_front

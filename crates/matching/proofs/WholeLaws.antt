@@ -2,17 +2,18 @@
 use mathlib.Core.Path.{◌≡◌, refl, sym, ◌∙◌, ap, subst}
 use mathlib.Core.Bool.{true, false}
 use mathlib.Core.Logic.{⊎_elim}
-use mathlib.Core.List.{List, [], ◌∷◌, ◌++◌}
+use mathlib.Core.List.{List, [], ◌∷◌, ◌++◌, map}
 use Prim.Native.Nat.{ℕ, suc, ◌+◌, ◌-◌, ◌*◌, ◌≤◌, ◌<◌}
 use native.Mathlib.Numerals.{add-one}
 use native.Mathlib.Omega.{arith}
 use lib.ListN.{length, set, take, replicate, length-replicate, replicate-append-replicate, get_or-replicate}
-use Rattle.std.proofs.Common.{Ok, Err}
-use lib.Seq.{get_or-take, take-suc, take-length, length-take-le, set-get_or, set_comm}
+use Rattle.std.proofs.Common.{None, Some, Ok, Err}
+use lib.Seq.{take-suc, take-length, length-take-le, set-get_or, set_comm}
 use lib.Dec.{eqb}
 use borrow.Author.Tests.{eqb-true, eqb-false, eq-eqb, ne_eqb}
+use Rattle.std.specs.Option.{is_some}
 use Rattle.limits.specs.Limits.{max_clauses}
-use Rattle.lists.proofs.TestLaws.{bool_cases}
+use Rattle.std.proofs.lemmas.Bool.{cases_Bool}
 use Rattle.lists.specs.Padded.{padded}
 use Rattle.lists.proofs.PaddedLaws.{padded_none, take_padded}
 use Rattle.lists.proofs.StoreLaws.{padded_store, held_length}
@@ -20,15 +21,16 @@ use Rattle.masks.proofs.BitLaws.{bit_below}
 use Rattle.matching.specs.Sets.{Words}
 use Rattle.matching.specs.Search.{owner, Search, begin, search_from, rematch_from, search_bound, next_search, success, failure, match_rest, outcome, marks}
 use Rattle.lists.proofs.TabulatedLaws.{tabulated_of}
-use Rattle.matching.specs.Inner.{at, owners_of, Partial, Tables, search_of, SearchSound, Owned, Augments, augmented, Augmented}
+use Rattle.matching.specs.Inner.{at, owners_of, Partial, Tables, Stored, number_of, variable_of, search_of, Augments, augmented, Augmented}
 use Rattle.matching.specs.Result.{Clauses, packed}
 use Rattle.matching.specs.declared.Front.{Front}
-use Rattle.matching.proofs.Counting.{zero_or_pos}
-use Rattle.matching.proofs.OwnerLaws.{owner_le, free_owner}
+use Rattle.matching.specs.declared.Queue.{Queue}
+use native.Mathlib.Nat.{eq-zero-or-pos}
+use Rattle.matching.proofs.OwnerLaws.{free_owner}
 use Rattle.matching.proofs.Augmenting.{rematch_partial}
 use Rattle.matching.proofs.SearchLaws.{Stuck, Reached, Ended, search_next, word_all}
 use Rattle.matching.proofs.OutcomeLaws.{match_none, match_fails, match_on}
-use Rattle.matching.proofs.FrontLaws.{sound_tail}
+use Rattle.matching.proofs.FrontLaws.{none_is, some_is, counted_tail}
 use Rattle.matching.proofs.DistanceLaws.{path_distance}
 use Rattle.matching.proofs.RematchLaws.{owners_fun, augments_of}
 use Rattle.matching.proofs.PrefixLaws.{outcome-take}
@@ -36,7 +38,7 @@ use Rattle.matching.proofs.MatchedLaws.{length-marks}
 
 -- ── One clause ────────────────────────────────────────────────────────────────────────────────────────────────────────
 
-module _ (sets : List ℕ) (n : ℕ) (table owners : List ℕ) (T : Tables sets n table owners) (W : Words sets) where
+module _ {sets : List ℕ} {n : ℕ} {table owners : List ℕ} (T : Tables sets n table owners) (W : Words sets) where
   pub table_long : (length table ≡ max_clauses) × (length (take n table) ≡ n)
   table_long = held_length max_clauses 0 table n T.room T.held
 
@@ -45,9 +47,6 @@ module _ (sets : List ℕ) (n : ℕ) (table owners : List ℕ) (T : Tables sets 
 
   owners_at : at owners ≡ owner (take n table)
   owners_at = ap at T.owned ∙ owners_fun (take n table) variables_low
-
-  pub owners_few : Owned owners
-  owners_few v = let e = ap (λ (f : ℕ → ℕ). f v) owners_at in let l = owner_le (take n table) v in omega (arith, table_long.1, T.room)
 
   -- the search in arrays is the next clause's
   pub search_is : search_from search_bound sets (at owners) (begin n) ≡ next_search sets (take n table)
@@ -58,76 +57,83 @@ module _ (sets : List ℕ) (n : ℕ) (table owners : List ℕ) (T : Tables sets 
   pub next_ended : Ended sets (take n table) (next_search sets (take n table))
   next_ended = search_next sets (take n table) W
 
-  module _ (front : Front) (queue links : List ℕ) (e : search_of front queue links ≡ next_search sets (take n table)) where
-    free_is : front.free ≡ (next_search sets (take n table)).free
+  module _ (front : Front) (queue : Queue) (e : search_of front queue ≡ next_search sets (take n table)) where
+    free_is : variable_of front.free ≡ (next_search sets (take n table)).free
     free_is = ap (λ (s : Search). s.free) e
 
-    links_are : links ≡ (next_search sets (take n table)).links
+    links_are : queue.links ≡ (next_search sets (take n table)).links
     links_are = ap (λ (s : Search). s.links) e
 
-    -- after a search that found a path
-    pub path_ready : n < max_clauses → (front.free ≡ 64 → ⊥) → Augments n table owners links front.free
-    path_ready l ne =
-        let s = next_search sets (take n table) in
-        let R : Reached sets (take n table) s = ⊎_elim (λ S. absurd (ne (free_is ∙ S.none))) (λ R. R) next_ended.0 in
-        let owner_none : at owners s.free ≡ 0 = ap (λ (f : ℕ → ℕ). f s.free) owners_at ∙ free_owner (take n table) s.free R.1.0.free in
-        rw (free_is, links_are)
-        (augments_of n table owners s.links s.free (take n table) refl l T.held variables_low
-        (ap (set owners s.free) (sym owner_none) ∙ set-get_or owners s.free 0 ∙ T.owned)
-        T.partial.distinct R.1.0.free R.0
-        (path_distance sets s.links (take n table) s.free R.1.0 search_bound R.1.1))
+    -- after a search that found a path to v
+    module _ {v : ℕ} (fv : front.free ≡ Some v) where
+      found_is : (next_search sets (take n table)).free ≡ v
+      found_is = sym free_is ∙ ap variable_of fv
 
-    pub augmented_path : (table' owners' : List ℕ) → (front.free ≡ 64 → ⊥) → length queue ≡ max_clauses
-        → table' ≡ padded max_clauses 0 (rematch_from search_bound links (take n table) front.free) → owners' ≡ owners_of (rematch_from search_bound links (take n table) front.free)
-        → Augmented sets (take n table) front queue table' owners'
-    unfolding augmented
-    augmented_path table' owners' ne l et eo =
-        let s = next_search sets (take n table) in
-        let f : eqb s.free 64 ≡ false = ne_eqb s.free 64 (λ q. ne (free_is ∙ q)) in
-        let r : rematch_from search_bound links (take n table) front.free ≡ rematch_from search_bound s.links (take n table) s.free =
-        rw (free_is, links_are) in
-        record {
-          head = ap (λ (s : Search). s.taken) e;
-          free = free_is;
-          taken = λ z. absurd (ne z);
-          long = l;
-          table_is = rw f (et ∙ ap (padded max_clauses 0) r);
-          owners_are = rw f (eo ∙ ap owners_of r);
-        }
+      found_some : (next_search sets (take n table)).free ≡ 64 → ⊥
+      found_some z = omega (arith, found_is, front.variable v fv)
+
+      pub path_ready : n < max_clauses → Augments n table owners queue.links v
+      path_ready l =
+          let s = next_search sets (take n table) in
+          let R : Reached sets (take n table) s = ⊎_elim (λ S. absurd (found_some S.none)) (λ R. R) next_ended.0 in
+          let owner_none : at owners s.free ≡ 0 = ap (λ (f : ℕ → ℕ). f s.free) owners_at ∙ free_owner (take n table) s.free R.1.0.free in
+          rw (← found_is, links_are)
+          (augments_of n table owners s.links s.free (take n table) refl l T.held variables_low
+          (ap (set owners s.free) (sym owner_none) ∙ set-get_or owners s.free 0 ∙ T.owned)
+          T.partial.distinct R.1.0.free R.0
+          (path_distance sets s.links (take n table) s.free R.1.0 search_bound R.1.1))
+
+      pub augmented_path : (table' owners' : List ℕ) → Stored (rematch_from search_bound queue.links (take n table) v) table' owners'
+          → Augmented sets (take n table) front queue.clauses table' owners'
+      unfolding augmented
+      augmented_path table' owners' R =
+          let s = next_search sets (take n table) in
+          let f : eqb s.free 64 ≡ false = ne_eqb s.free 64 found_some in
+          let r : rematch_from search_bound queue.links (take n table) v ≡ rematch_from search_bound s.links (take n table) s.free =
+          rw (links_are, found_is) in
+          record {
+            head = ap (λ (s : Search). s.taken) e;
+            free = free_is;
+            taken = λ z. absurd (found_some (sym free_is ∙ ap variable_of z));
+            table_is = rw f (R.table_is ∙ ap (padded max_clauses 0) r);
+            owners_are = rw f (R.owners_are ∙ ap owners_of r);
+          }
 
     -- after a search that failed
-    pub augmented_none : front.free ≡ 64 → SearchSound front queue → Augmented sets (take n table) front queue table owners
+    pub augmented_none : front.free ≡ None → Augmented sets (take n table) front queue.clauses table owners
     unfolding augmented
-    augmented_none z S =
+    augmented_none z =
         let s = next_search sets (take n table) in
-        let f : eqb s.free 64 ≡ true = eq-eqb s.free 64 (sym free_is ∙ z) in
-        let stuck : Stuck sets (take n table) s = ⊎_elim (λ S. S) (λ R. absurd (omega (arith, R.0, free_is))) next_ended.0 in
-        let q : take front.tail queue ≡ s.queue = ap (λ (s : Search). s.queue) e in
+        let f : eqb s.free 64 ≡ true = eq-eqb s.free 64 (sym free_is ∙ ap variable_of z) in
+        let stuck : Stuck sets (take n table) s = ⊎_elim (λ S. S) (λ R. absurd (let u = sym free_is ∙ ap variable_of z in omega (arith, R.0))) next_ended.0 in
+        let q : take front.tail queue.clauses ≡ s.queue = ap (λ (s : Search). s.queue) e in
         let h : front.head ≡ s.taken = ap (λ (s : Search). s.taken) e in
-        let t : length (take front.tail queue) ≡ front.tail = length-take-le front.tail queue (omega (arith, S.long, sound_tail front queue S)) in
+        let t : length (take front.tail queue.clauses) ≡ front.tail = length-take-le front.tail queue.clauses (omega (arith, queue.long, counted_tail front.seen front.tail front.counted)) in
         let b : front.head ≡ front.tail = h ∙ stuck.all_taken ∙ ap length (sym q) ∙ t in
         record {
           head = h;
           free = free_is;
-          taken = λ _. ap (λ (k : ℕ). take k queue) b ∙ q ∙ sym (take-length s.queue) ∙ ap (λ (k : ℕ). take k s.queue) (sym stuck.all_taken);
-          long = S.long;
+          taken = λ _. ap (λ (k : ℕ). take k queue.clauses) b ∙ q ∙ sym (take-length s.queue) ∙ ap (λ (k : ℕ). take k s.queue) (sym stuck.all_taken);
           table_is = rw f T.held;
           owners_are = rw f T.owned;
         }
 
   -- what the arrays hold after a path: the matching that it gives, with the next clause
-  module _ (front : Front) (queue table' owners' : List ℕ) (A : Augmented sets (take n table) front queue table' owners') (ne : front.free ≡ 64 → ⊥) where
+  module _ {front : Front} {queue table' owners' : List ℕ} (A : Augmented sets (take n table) front queue table' owners') (found : is_some front.free ≡ true) where
+    path : (next_search sets (take n table)).free ≡ 64 → ⊥
+    path z = some_is front.free front.variable found (A.free ∙ z)
+
     abbrev rematched : List ℕ
     rematched = let s = next_search sets (take n table) in rematch_from search_bound s.links (take n table) s.free
 
     augmented_is : augmented sets (take n table) ≡ rematched
     unfolding augmented
-    augmented_is = rw (ne_eqb (next_search sets (take n table)).free 64 (λ q. ne (A.free ∙ q)))
+    augmented_is = rw (ne_eqb (next_search sets (take n table)).free 64 path)
 
     rematched_partial : Partial sets rematched × (length rematched ≡ suc (length (take n table)))
     rematched_partial =
         let s = next_search sets (take n table) in
-        let R : Reached sets (take n table) s = ⊎_elim (λ S. absurd (ne (A.free ∙ S.none))) (λ R. R) next_ended.0 in
+        let R : Reached sets (take n table) s = ⊎_elim (λ S. absurd (path S.none)) (λ R. R) next_ended.0 in
         rematch_partial sets s.links search_bound (take n table) s.free T.partial R.1.0 R.1.1
 
     pub table_rematched : take (n + 1) table' ≡ rematched
@@ -153,7 +159,7 @@ marks_more n (d ∷ l) c =
     ∙ ⊎_elim
     (λ (t : eqb c d ≡ true). rw (eqb-true c d t))
     (λ (f : eqb c d ≡ false). set_comm (marks n l) c d 1 1 (eqb-false c d f))
-    (bool_cases (eqb c d))
+    (cases_Bool (eqb c d))
 
 -- one clause more of the queue is marked
 pub marks_next : (n : ℕ) (queue : List ℕ) (i : ℕ) → i < length queue → set (marks n (take i queue)) (at queue i) 1 ≡ marks n (take (i + 1) queue)
@@ -171,53 +177,61 @@ marks_padded n k (c ∷ l) h low =
 -- ── All clauses ───────────────────────────────────────────────────────────────────────────────────────────────────────
 
 -- what is still to be done from here gives the outcome
-pub record Running (sets : List ℕ) (count i : ℕ) (table owners queue : List ℕ) (e : ℕ) : Type 0 where
+pub record Running (sets : List ℕ) (count i : ℕ) (table owners : List ℕ) (e : ℕ) : Type 0 where
   pub tables : Tables sets i table owners
-  pub long : length queue ≡ max_clauses
   pub small : e ≤ i * max_clauses
   pub same : match_rest (count - i) sets (take i table) e ≡ match_rest count sets [] 0
 
-pub running_begin : (sets : List ℕ) (count : ℕ) → Running sets count 0 (replicate max_clauses 0) (replicate 64 0) (replicate max_clauses 0) 0
+-- no clause is matched yet
+pub stored_none : Stored [] (replicate max_clauses 0) (map number_of (replicate 64 None))
 unfolding owner
-running_begin sets count = record {
+stored_none = record {
+  table_is = sym (padded_none max_clauses 0);
+  owners_are = tabulated_of (owner []) 64 (replicate 64 0) 0 (length-replicate {A = ℕ} 64 0) (λ i h. get_or-replicate {A = ℕ} 64 i 0 0 h);
+}
+
+pub running_begin : (sets : List ℕ) (count : ℕ) (table owners : List ℕ) → Stored [] table owners → Running sets count 0 table owners 0
+running_begin sets count table owners S = record {
   tables = record {
     room = omega arith;
-    held = sym (padded_none max_clauses 0);
-    owned = tabulated_of (owner []) 64 (replicate 64 0) 0 (length-replicate {A = ℕ} 64 0) (λ i h. get_or-replicate {A = ℕ} 64 i 0 0 h);
+    held = S.table_is;
+    owned = S.owners_are;
     partial = record { named = λ i h. absurd (omega arith); distinct = λ i j h. absurd (omega arith) };
   };
-  long = length-replicate {A = ℕ} max_clauses 0;
   small = omega arith;
   same = let z : count - 0 ≡ count = omega arith in rw z;
 }
 
-module _ (sets : List ℕ) (count i : ℕ) (table owners queue : List ℕ) (e : ℕ) (R : Running sets count i table owners queue e) (K : Clauses sets count) (l : i < count) where
+module _ {sets : List ℕ} {count i : ℕ} {table owners : List ℕ} {e : ℕ} (R : Running sets count i table owners e) (K : Clauses sets count) (l : i < count) where
   matching_long : length (take i table) ≡ i
-  matching_long = (table_long sets i table owners R.tables K.words).1
+  matching_long = (table_long R.tables K.words).1
 
-  module _ (front : Front) (queue' table' owners' : List ℕ) (A : Augmented sets (take i table) front queue' table' owners') where
+  module _ {front : Front} {queue' table' owners' : List ℕ} (A : Augmented sets (take i table) front queue' table' owners') where
     -- the i-th clause costs at most i expansions
     pub head_le : front.head ≤ i + 1
-    head_le = let E = next_ended sets i table owners R.tables K.words in omega (arith, A.head, E.1, matching_long)
+    head_le = let E = next_ended R.tables K.words in omega (arith, A.head, E.1, matching_long)
 
     steps : count - i ≡ suc (count - (i + 1))
     steps = omega arith
 
     -- a path was found
-    pub running_on : (front.free ≡ 64 → ⊥) → Running sets count (i + 1) table' owners' queue' (e + front.head)
-    running_on ne =
+    pub running_on : is_some front.free ≡ true → Running sets count (i + 1) table' owners' (e + front.head)
+    running_on found =
         let m = take i table in
         record {
-          tables = tables_more sets i table owners R.tables K.words front queue' table' owners' A ne (omega (arith, K.few));
-          long = A.long;
+          tables = tables_more R.tables K.words A found (omega (arith, K.few));
           small = omega (arith, R.small, head_le, K.few);
-          same = rw (table_rematched sets i table owners R.tables K.words front queue' table' owners' A ne, A.head) (sym (match_on (count - (i + 1)) sets m e (λ q. ne (A.free ∙ q))) ∙ ap (λ (k : ℕ). match_rest k sets m e) (sym steps) ∙ R.same);
+          same = rw (table_rematched R.tables K.words A found, A.head)
+              (sym (match_on (count - (i + 1)) sets m e (path R.tables K.words A found)) ∙ ap (λ (k : ℕ). match_rest k sets m e) (sym steps) ∙ R.same);
         }
 
     -- the search failed
-    module _ (z : front.free ≡ 64) where
+    module _ (none : is_some front.free ≡ false) where
+      z : front.free ≡ None
+      z = none_is front.free none
+
       stuck : Stuck sets (take i table) (next_search sets (take i table))
-      stuck = ⊎_elim (λ S. S) (λ F. absurd (omega (arith, F.0, A.free))) (next_ended sets i table owners R.tables K.words).0
+      stuck = ⊎_elim (λ S. S) (λ F. absurd (let u = sym A.free ∙ ap variable_of z in omega (arith, F.0))) (next_ended R.tables K.words).0
 
       taken_is : take front.head queue' ≡ (next_search sets (take i table)).queue
       taken_is = let s = next_search sets (take i table) in A.taken z ∙ ap (λ (k : ℕ). take k s.queue) stuck.all_taken ∙ take-length s.queue
@@ -232,28 +246,22 @@ module _ (sets : List ℕ) (count i : ℕ) (table owners queue : List ℕ) (e : 
           rw taken_is (⊎_elim
           (λ (q : k ≡ 0). rw (q, I.root) (omega (arith, matching_long)))
           (λ p. omega (arith, (I.each k p (subst (λ (l : List ℕ). k < length l) taken_is h)).0, matching_long))
-          (zero_or_pos k))
-
-      pub queue_low : (k : ℕ) → k < front.head → at queue' k < max_clauses
-      queue_low k h =
-          let a = taken_low k (omega (arith, taken_length)) in
-          let b : at (take front.head queue') k < max_clauses = omega (arith, K.few) in
-          rw (get_or-take front.head queue' k 0 h) at b
+          (eq-zero-or-pos k))
 
       pub failed : (record { expansions = e + front.head; found = Err (record { size = front.head; marks = marks max_clauses (take front.head queue') }) }) ≡ packed count (outcome (take count sets))
       unfolding packed
       failed =
           let s = next_search sets (take i table) in
           let q : match_rest count sets [] 0 ≡ failure (take front.head queue') (e + front.head) =
-          sym R.same ∙ ap (λ (k : ℕ). match_rest k sets (take i table) e) steps ∙ match_fails (count - (i + 1)) sets (take i table) e (sym A.free ∙ z)
+          sym R.same ∙ ap (λ (k : ℕ). match_rest k sets (take i table) e) steps ∙ match_fails (count - (i + 1)) sets (take i table) e (sym A.free ∙ ap variable_of z)
           ∙ rw (A.taken z, A.head) in
           rw (outcome-take count sets K.present, q, taken_length, marks_padded max_clauses count (take front.head queue') K.few taken_low)
 
 -- all clauses are matched
-pub finished : (sets : List ℕ) (count i : ℕ) (table owners queue : List ℕ) (e : ℕ) → Running sets count i table owners queue e → Clauses sets count → count ≤ i
+pub finished : {sets : List ℕ} {count i : ℕ} {table owners : List ℕ} {e : ℕ} → Running sets count i table owners e → Clauses sets count → count ≤ i
     → (record { expansions = e; found = Ok table }) ≡ packed count (outcome (take count sets))
 unfolding packed
-finished sets count i table owners queue e R K l =
+finished {sets} {count} {i} {table} {owners} {e} R K l =
     let z : count - i ≡ 0 = omega arith in
     let q : match_rest count sets [] 0 ≡ success (take i table) e = sym R.same ∙ ap (λ (k : ℕ). match_rest k sets (take i table) e) z ∙ match_none sets (take i table) e in
     rw (outcome-take count sets K.present, q, ← R.tables.held)

@@ -3,14 +3,13 @@
 // It knows no signs and no bytes: a clause is the mask of its variables, and clauses and variables count from 0.
 #![tactic(auto)]
 
-ghost use Rattle.std.specs.Prelude.{◌≡◌, false, ℕ, ◌<◌, ◌≤◌, length, take};
+ghost use Rattle.std.specs.Prelude.{◌≡◌, suc, ◌<◌, ◌≤◌, length, take, All};
+ghost use Rattle.std.specs.Option.{ForSome};
 ghost use Rattle.limits.specs.Limits.{max_clauses};
-ghost use Rattle.masks.specs.Mask.{bit, members};
-ghost use Rattle.matching.specs.Search.{see, scan, expand, search_from, begin, rematch, search_bound, no_links, outcome, marks};
-ghost use Rattle.matching.specs.Inner.{at, search_of, SearchSound, Holds, Owned, Apart, Augments, Tables, Stored, Augmented};
+ghost use Rattle.masks.specs.Mask.{size};
+ghost use Rattle.matching.specs.Search.{outcome};
 ghost use Rattle.matching.specs.Result.{Clauses, packed};
 ghost use Rattle.matching.specs.Deficiency.{most};
-ghost use Rattle.matching.specs.Sets.{Words};
 
 use limits::MAX_CLAUSES;
 
@@ -28,195 +27,188 @@ pub struct Matching {
     pub found: Result<[u8; MAX_CLAUSES], Violator>,
 }
 
+// A matching of the first clauses: the variable of each of them, zeros behind, and the clause of each variable that is matched.
+#[derive(Clone, Copy)]
+struct Pairs {
+    table: [u8; MAX_CLAUSES],
+    owners: [Option<u8>; 64],
+    ghost owned: { All (λ owner. ForSome owner (λ clause. clause < max_clauses)) owners },
+}
+
+// The clauses that joined a search's queue, and for each seen variable the clause that it remembers.
+#[derive(Clone, Copy)]
+struct Queue {
+    clauses: [u8; MAX_CLAUSES],
+    links: [u8; 64],
+    ghost long: { length clauses ≡ max_clauses },
+    ghost low: { All (λ clause. clause < max_clauses) clauses },
+}
+
 // Where a search stands: the seen variables, how many clauses are taken off the queue and how many joined it, and the unmatched
-// variable that was found (64: none).
+// variable that was found. Each clause but the first joined with a variable of its own, so that the queue has room.
 #[derive(Clone, Copy)]
 struct Front {
     seen: u64,
     head: usize,
     tail: usize,
-    free: usize,
+    free: Option<usize>,
+    ghost counted: { tail ≤ suc (size seen) },
+    ghost variable: { ForSome free (λ v. v < 64) },
 }
 
-// The clause goes through its unseen variable v.
-fn see(
-    front: Front,
-    owners: &[u8; 64],
-    clause: u8,
-    v: usize,
-    queue: &mut [u8; MAX_CLAUSES],
-    links: &mut [u8; 64],
-) -> Front
-    requires { SearchSound front queue.old × Owned owners.now × (v < 64) × (bit front.seen v ≡ false) }
-    ensures { Holds (see (at owners.now) clause v (search_of front queue.old links.old)) result queue.new links.new }
-{
-    links[v] = clause;
-    let seen = masks::with(front.seen, v);
-    let owner = owners[v];
-    if owner == 0 {
-        return Front {
-            seen,
-            head: front.head,
-            tail: front.tail,
-            free: v,
+impl Front {
+    ghost use Rattle.std.specs.Prelude.{false};
+    ghost use Rattle.masks.specs.Mask.{bit, members};
+    ghost use Rattle.matching.specs.Search.{see, scan, expand};
+    ghost use Rattle.matching.specs.Inner.{owner_in, search_of, Apart};
+
+    // The clause goes through its unseen variable v.
+    fn see(mut self, pairs: &Pairs, clause: u8, v: usize, queue: &mut Queue) -> Self
+        requires { (v < 64) × (bit self.seen v ≡ false) }
+        ensures { search_of result queue.new ≡ see (owner_in pairs.now) clause v (search_of self queue.old) }
+    {
+        queue.links[v] = clause;
+        self.seen = masks::with(self.seen, v);
+        self.free = match pairs.owners[v] {
+            None => Some(v),
+            Some(owner) => {
+                queue.clauses[self.tail] = owner;
+                self.tail += 1;
+                None
+            }
         };
+        self
     }
-    let tail = front.tail;
-    queue[tail] = owner - 1;
-    Front {
-        seen,
-        head: front.head,
-        tail: tail + 1,
-        free: 64,
+
+    // The clause goes through its unseen variables upward, until one is unmatched.
+    fn scan(self, pairs: &Pairs, clause: u8, unseen: u64, queue: &mut Queue) -> Self
+        requires { (self.free ≡ None) × Apart unseen self.seen }
+        ensures { search_of result queue.new ≡ scan (owner_in pairs.now) clause (members unseen 64) (search_of self queue.old) }
+    {
+        let mut front = self;
+        let mut rest = unseen;
+        while rest != 0 {
+            let v = masks::lowest(rest);
+            rest = masks::without(rest, v);
+            front = front.see(pairs, clause, v, queue);
+            if front.free.is_some() {
+                return front;
+            }
+        }
+        front
+    }
+
+    // The front clause is taken off the queue and goes through its variables: one expansion.
+    fn expand(mut self, sets: &[u64; MAX_CLAUSES], pairs: &Pairs, queue: &mut Queue) -> Self
+        requires { (self.free ≡ None) × (self.head < self.tail) }
+        ensures { search_of result queue.new ≡ expand sets.now (owner_in pairs.now) (search_of self queue.old) }
+    {
+        let clause = queue.clauses[self.head];
+        let unseen = masks::minus(sets[usize::from(clause)], self.seen);
+        self.head += 1;
+        self.scan(pairs, clause, unseen, queue)
     }
 }
 
-// The clause goes through its unseen variables upward, until one is unmatched.
-fn scan(
-    front: Front,
-    owners: &[u8; 64],
-    clause: u8,
-    unseen: u64,
-    queue: &mut [u8; MAX_CLAUSES],
-    links: &mut [u8; 64],
-) -> Front
-    requires { SearchSound front queue.old × Owned owners.now × (front.free ≡ 64) × Apart unseen front.seen }
-    ensures { Holds (scan (at owners.now) clause (members unseen 64) (search_of front queue.old links.old)) result queue.new links.new }
-{
-    let mut state = front;
-    let mut rest = unseen;
-    while rest != 0 {
-        let v = masks::lowest(rest);
-        rest = masks::without(rest, v);
-        state = see(state, owners, clause, v, queue, links);
-        if state.free != 64 {
-            return state;
+impl Queue {
+    ghost use Rattle.matching.specs.Search.{search_from, begin, search_bound, marks};
+    ghost use Rattle.matching.specs.Inner.{owner_in, search_of};
+
+    // Nothing has joined.
+    fn new() -> Self {
+        Queue {
+            clauses: [0; MAX_CLAUSES],
+            links: [0; 64],
         }
     }
-    state
-}
 
-// A byte as an index.
-fn wide(x: u8) -> usize
-    ensures { result ≡ x }
-{
-    x as usize
-}
-
-// The front clause is taken off the queue and goes through its variables: one expansion.
-fn expand(
-    front: Front,
-    sets: &[u64; MAX_CLAUSES],
-    owners: &[u8; 64],
-    queue: &mut [u8; MAX_CLAUSES],
-    links: &mut [u8; 64],
-) -> Front
-    requires { SearchSound front queue.old × Owned owners.now × (front.free ≡ 64) × (front.head < front.tail) }
-    ensures { Holds (expand sets.now (at owners.now) (search_of front queue.old links.old)) result queue.new links.new }
-{
-    let head = front.head;
-    let clause = queue[head];
-    let set = sets[wide(clause)];
-    let taken = Front {
-        seen: front.seen,
-        head: head + 1,
-        tail: front.tail,
-        free: front.free,
-    };
-    scan(
-        taken,
-        owners,
-        clause,
-        masks::minus(set, front.seen),
-        queue,
-        links,
-    )
-}
-
-// The search for one clause: until an augmenting path is found or the queue is empty.
-fn find_path(
-    sets: &[u64; MAX_CLAUSES],
-    owners: &[u8; 64],
-    clause: u8,
-    queue: &mut [u8; MAX_CLAUSES],
-    links: &mut [u8; 64],
-) -> Front
-    requires { (length queue.old ≡ max_clauses) × Owned owners.now × (clause < max_clauses) × (links.old ≡ no_links) }
-    ensures { Holds (search_from search_bound sets.now (at owners.now) (begin clause)) result queue.new links.new }
-{
-    queue[0] = clause;
-    let mut front = Front {
-        seen: 0,
-        head: 0,
-        tail: 1,
-        free: 64,
-    };
-    while front.head < front.tail {
-        front = expand(front, sets, owners, queue, links);
-        if front.free != 64 {
-            return front;
+    // The clause alone is in the queue, and no variable is seen yet.
+    fn begin(&mut self, clause: u8) -> Front
+        requires { clause < max_clauses }
+        ensures { search_of result self.new ≡ begin clause }
+    {
+        self.clauses[0] = clause;
+        self.links = [0; 64];
+        Front {
+            seen: 0,
+            head: 0,
+            tail: 1,
+            free: None,
         }
     }
-    front
-}
 
-// S5.4: re-matches along the path from v back to the clause, so that the first clauses and this one are matched, a link a turn.
-fn rematch(
-    table: &mut [u8; MAX_CLAUSES],
-    owners: &mut [u8; 64],
-    links: &[u8; 64],
-    clause: usize,
-    v: usize,
-)
-    requires { Augments clause table.old owners.old links.now v }
-    ensures { Stored (rematch links.now (take clause table.old) v) table.new owners.new }
-{
-    let mut u = v;
-    loop {
-        let c = wide(links[u]);
-        let old = wide(table[c]);
-        table[c] = u as u8;
-        owners[u] = (c + 1) as u8;
-        if c == clause {
-            return;
+    // The search for one clause: until an augmenting path is found or the queue is empty.
+    fn find_path(&mut self, sets: &[u64; MAX_CLAUSES], pairs: &Pairs, clause: u8) -> Front
+        requires { clause < max_clauses }
+        ensures { search_of result self.new ≡ search_from search_bound sets.now (owner_in pairs.now) (begin clause) }
+    {
+        let mut front = self.begin(clause);
+        while front.head < front.tail {
+            front = front.expand(sets, pairs, self);
+            if front.free.is_some() {
+                return front;
+            }
         }
-        u = old;
+        front
+    }
+
+    // The first n clauses of the queue as a violator.
+    fn violator(&self, n: usize) -> Violator
+        requires { n ≤ max_clauses }
+        ensures { result ≡ record { size = n; marks = marks max_clauses (take n self.now.clauses) } }
+    {
+        let mut marks = [0; MAX_CLAUSES];
+        for clause in &self.clauses[..n] {
+            marks[usize::from(*clause)] = 1;
+        }
+        Violator { size: n, marks }
     }
 }
 
-// The next clause is matched too, unless its search fails.
-fn augment(
-    sets: &[u64; MAX_CLAUSES],
-    clause: usize,
-    table: &mut [u8; MAX_CLAUSES],
-    owners: &mut [u8; 64],
-    queue: &mut [u8; MAX_CLAUSES],
-) -> Front
-    requires { Tables sets.now clause table.old owners.old × Words sets.now × (clause < max_clauses) × (length queue.old ≡ max_clauses) }
-    ensures { Augmented sets.now (take clause table.old) result queue.new table.new owners.new }
-{
-    let mut links = [0u8; 64];
-    let front = find_path(sets, owners, clause as u8, queue, &mut links);
-    let free = front.free;
-    if free != 64 {
-        rematch(table, owners, &links, clause, free);
-    }
-    front
-}
+impl Pairs {
+    ghost use Rattle.std.specs.Prelude.{[]};
+    ghost use Rattle.matching.specs.Search.{rematch};
+    ghost use Rattle.matching.specs.Inner.{numbers_in, Tables, Augments, Stored, Augmented};
 
-// One mark for each clause that there can be: 1 for the first n clauses of the queue, 0 for the others.
-fn mark(queue: &[u8; MAX_CLAUSES], n: usize) -> [u8; MAX_CLAUSES]
-    requires { (n ≤ max_clauses) × (length queue.now ≡ max_clauses) × ((i : ℕ) → i < n → at queue.now i < max_clauses) }
-    ensures { result ≡ marks max_clauses (take n queue.now) }
-{
-    let mut table = [0u8; MAX_CLAUSES];
-    let mut i: usize = 0;
-    while i < n {
-        let clause = wide(queue[i]);
-        table[clause] = 1;
-        i += 1;
+    // No clause is matched.
+    fn new() -> Self
+        ensures { Stored [] result.table (numbers_in result) }
+    {
+        Pairs {
+            table: [0; MAX_CLAUSES],
+            owners: [None; 64],
+        }
     }
-    table
+
+    // S5.4: re-matches along the path from v back to the clause, so that the first clauses and this one are matched, a link a turn.
+    fn rematch(&mut self, links: &[u8; 64], clause: usize, v: usize)
+        requires { Augments clause self.old.table (numbers_in self.old) links.now v }
+        ensures { Stored (rematch links.now (take clause self.old.table) v) self.new.table (numbers_in self.new) }
+    {
+        let mut u = v;
+        loop {
+            let c = usize::from(links[u]);
+            let old = usize::from(self.table[c]);
+            self.table[c] = u as u8;
+            self.owners[u] = Some(c as u8);
+            if c == clause {
+                return;
+            }
+            u = old;
+        }
+    }
+
+    // The next clause is matched too, unless its search fails.
+    fn augment(&mut self, sets: &[u64; MAX_CLAUSES], clause: usize, queue: &mut Queue) -> Front
+        requires { Tables sets.now clause self.old.table (numbers_in self.old) × (clause < max_clauses) }
+        ensures { Augmented sets.now (take clause self.old.table) result queue.new.clauses self.new.table (numbers_in self.new) }
+    {
+        let front = queue.find_path(sets, self, clause as u8);
+        if let Some(v) = front.free {
+            self.rematch(&queue.links, clause, v);
+        }
+        front
+    }
 }
 
 // Matches the first `count` clauses in order, each by its search, until all are matched or a search fails.
@@ -224,27 +216,22 @@ pub fn match_sets(sets: &[u64; MAX_CLAUSES], count: usize) -> Matching
     requires { Clauses sets.now count }
     ensures { result ≡ packed count (outcome (take count sets.now)) }
 {
-    let mut table = [0u8; MAX_CLAUSES];
-    let mut owners = [0u8; 64];
-    let mut queue = [0u8; MAX_CLAUSES];
+    let mut pairs = Pairs::new();
+    let mut queue = Queue::new();
     let mut expansions: u64 = 0;
-    let mut i: usize = 0;
-    while i < count {
-        let front = augment(sets, i, &mut table, &mut owners, &mut queue);
-        let head = front.head;
-        expansions += head as u64;
-        if front.free == 64 {
-            let marks = mark(&queue, head);
+    for clause in 0..count {
+        let front = pairs.augment(sets, clause, &mut queue);
+        expansions += front.head as u64;
+        if front.free.is_none() {
             return Matching {
                 expansions,
-                found: Err(Violator { size: head, marks }),
+                found: Err(queue.violator(front.head)),
             };
         }
-        i += 1;
     }
     Matching {
         expansions,
-        found: Ok(table),
+        found: Ok(pairs.table),
     }
 }
 
@@ -254,19 +241,15 @@ pub fn match_most(sets: &[u64; MAX_CLAUSES], count: usize) -> usize
     requires { Clauses sets.now count }
     ensures { result ≡ most (take count sets.now) }
 {
-    let mut kept = [0u64; MAX_CLAUSES];
-    let mut table = [0u8; MAX_CLAUSES];
-    let mut owners = [0u8; 64];
-    let mut queue = [0u8; MAX_CLAUSES];
+    let mut kept = [0; MAX_CLAUSES];
+    let mut pairs = Pairs::new();
+    let mut queue = Queue::new();
     let mut k: usize = 0;
-    let mut i: usize = 0;
-    while i < count {
+    for i in 0..count {
         kept[k] = sets[i];
-        let front = augment(&kept, k, &mut table, &mut owners, &mut queue);
-        if front.free != 64 {
+        if pairs.augment(&kept, k, &mut queue).free.is_some() {
             k += 1;
         }
-        i += 1;
     }
     k
 }

@@ -3,6 +3,7 @@ use Prim.Native.Nat.{ℕ, zero, suc, ◌≤◌, ◌<◌}
 use mathlib.Core.List.{List}
 use mathlib.Core.Path.{◌≡◌, refl, sym, ap, ap₂, ◌∙◌, subst}
 use native.Mathlib.Omega.{arith}
+use Rattle.std.specs.Prelude.{Ok}
 use lib.ListN.{length}
 use Rattle.lists.specs.Over.{over}
 use Rattle.formula.specs.declared.Formula.{Formula}
@@ -21,8 +22,8 @@ use Rattle.walk.specs.WalkCall.{walk_call, walk_calls, last_checkpoint}
 use Rattle.walk.proofs.RestLaws.{Stops, Reachable}
 use Rattle.walk.proofs.AcceptLaws.{shown_bytes}
 use Rattle.walk.proofs.TaskLaws.{answer_unrefused}
-use Rattle.enumeration.specs.declared.entering.Entered.{Entered}
 use Rattle.enumeration.specs.declared.scope.Scope.{Scope}
+use Rattle.enumeration.specs.declared.state.State.{State}
 use Rattle.enumeration.specs.InnerScope.{visible_in}
 use Rattle.enumeration.specs.InnerState.{position_in}
 use Rattle.enumeration.specs.InnerEnter.{Begun}
@@ -69,7 +70,7 @@ module _ (s : List ℕ) (us : List Assumption) (K : Tree) where
       stop spent q = absurd (a.unspent q)
       stop ended q = let o = a.ended_over q in ap (stopped_from K k) o ∙ over_stopped K k ∙ sym o
 
-module _ (s : List ℕ) (us : List Assumption) (f : Formula) (z : Scope) (c : Checkpoint) (r : Entered) (B : Begun s us f z c r) where
+module _ (s : List ℕ) (us : List Assumption) (f : Formula) (z : Scope) (c : Checkpoint) (q : State) (B : Begun s us f z c q) where
   -- calls from where a call stopped
   runs_shown : (k : ℕ) (p : Position) → Reachable B.tree p → Stops B.tree p → Runs s us B.tree (shown p) p k
   unfolding ample_budgets walk_calls last_checkpoint with_models found_from stopped_from
@@ -82,29 +83,29 @@ module _ (s : List ℕ) (us : List Assumption) (f : Formula) (z : Scope) (c : Ch
       a (runs_shown k (resume K ample_budget p).position a.fine a.stops)
 
   -- and from the checkpoint that was entered
-  runs_entered : (k : ℕ) → 0 < k → Runs s us B.tree c (position_in r.state) k
+  runs_entered : (k : ℕ) → 0 < k → Runs s us B.tree c (position_in q) k
   runs_entered zero l = absurd (omega arith)
   runs_entered (suc k) l =
       let K = B.tree in
-      let p = position_in r.state in
+      let p = position_in q in
       let a = arrives f z K B.follows p (subst (Reachable K) (sym B.position) (position_fine f z K B.follows c B.passes)) in
       runs_next s us K c p k (B.calls ample_budget) a (runs_shown k (resume K ample_budget p).position a.fine a.stops)
 
   -- a call from there is not refused
   unrefused : (walk_call s us c ample_budget).kind ≡ says_refused → ⊥
-  unrefused e = answer_unrefused (resume B.tree ample_budget (position_in r.state)).answer (sym (ap (λ (y : Result). y.kind) (B.calls ample_budget)) ∙ e)
+  unrefused e = answer_unrefused (resume B.tree ample_budget (position_in q)).answer (sym (ap (λ (y : Result). y.kind) (B.calls ample_budget)) ∙ e)
 
   module _ (serial : ℕ) (before : List ℕ) (room : page_size ≤ length before) (some : 0 < serial) (most : serial ≤ max_serial) where
     -- the page of the entered checkpoint is that of the runs from its state
-    pub page_entered : (t : Paged) (after : List ℕ) → PageFilled B.tree f.variables (visible_in z) serial (position_in r.state) before after t
-        → page_call s us c serial before ≡ page_told t after
+    pub page_entered : (t : Paged) (after : List ℕ) → PageFilled B.tree f.variables (visible_in z) serial (position_in q) before after t
+        → page_call s us c serial before ≡ page_told c (Ok t) after
     page_entered t after F =
         let w = runs_entered page_lines (omega arith) in
-        let a = ap (λ (rs : List Result). filled_values (length rs)) w.results ∙ sym F.answer in
+        let a = ap filled_values (ap length w.results ∙ sym F.lines) in
         let d = w.checkpoint ∙ sym F.checkpoint in
         let l =
         ap₂ (λ (x : Acceptance) (rs : List Result). over (joined (line_at (accepted_variables x) (accepted_visible x) serial rs) page_lines) before) B.accepted.accepts w.results
-        ∙ ap (λ (m : ℕ). over (joined (line_at f.variables m serial (found_from B.tree page_lines (position_in r.state))) page_lines) before) (sym B.accepted.shows)
+        ∙ ap (λ (m : ℕ). over (joined (line_at f.variables m serial (found_from B.tree page_lines (position_in q))) page_lines) before) (sym B.accepted.shows)
         ∙ sym F.written in
         unrefused_filled s us c serial before room some most unrefused ∙ (λ i. record { answer = a i; checkpoint = d i; page = l i })
 

@@ -12,7 +12,7 @@ use Rattle.walk.specs.InnerStack.{Tree}
 use Rattle.walk.specs.InnerMachine.{Position, resume}
 use Rattle.walk.specs.InnerCall.{resumed_result}
 use Rattle.walk.specs.Results.{Result}
-use Rattle.enumeration.specs.declared.steps.Ending.TheVariants.{Model}
+use Rattle.enumeration.specs.declared.steps.Answer.TheVariants.{Model}
 use Rattle.enumeration.specs.declared.steps.Run.{Run}
 use Rattle.enumeration.specs.declared.state.State.{State}
 use Rattle.enumeration.specs.InnerState.{position_in, Holds, Ran}
@@ -46,14 +46,14 @@ pub going_first : (K : Tree) (n mask serial : ℕ) (before : List ℕ) (s : Stat
 unfolding joined
 going_first K n mask serial before s h = record { holds = h; found = []; many = refl; results = refl; stops = refl; written = refl }
 
-module _ (K : Tree) (n mask serial : ℕ) (p : Position) (before now : List ℕ) (s : State) (i : ℕ) (g : Going K n mask serial p before now s i) where
+module _ {K : Tree} {n mask serial : ℕ} {p : Position} {before now : List ℕ} {s : State} {i : ℕ} (g : Going K n mask serial p before now s i) where
   module _ (r : Run) (R : Ran K r (resume K ample_budget (position_in s))) (l : i < page_lines) where
     -- so many runs are left
     left : page_lines - i ≡ suc (page_lines - (i + 1))
     left = omega arith
 
     -- a line more
-    module _ (m : ℕ) (e : r.ending ≡ Model m) where
+    module _ (m : ℕ) (e : r.answer ≡ Model m) where
       -- the run's result
       abbrev result : Result
       result = resumed_result (resume K ample_budget (position_in s))
@@ -84,7 +84,7 @@ module _ (K : Tree) (n mask serial : ℕ) (p : Position) (before now : List ℕ)
           }
 
     -- the run brought no model
-    pub going_none : ((m : ℕ) → r.ending ≡ Model m → ⊥) → LinesFilled K n mask serial p before now (record { count = i; state = r.state })
+    pub going_none : ((m : ℕ) → r.answer ≡ Model m → ⊥) → LinesFilled K n mask serial p before now (record { count = i; state = r.state })
     going_none h =
         let x = run_last K (position_in s) r R h (page_lines - (i + 1)) in
         record {
@@ -95,13 +95,13 @@ module _ (K : Tree) (n mask serial : ℕ) (p : Position) (before now : List ℕ)
         }
 
   -- the page is full
-  pub going_full : i ≡ page_lines → LinesFilled K n mask serial p before now (record { count = i; state = s })
+  pub going_full : i ≡ page_lines → LinesFilled K n mask serial p before now (record { count = page_lines; state = s })
   unfolding found_from stopped_from
   going_full e =
       let z : page_lines - i ≡ 0 = omega arith in
       record {
-        count = sym (ap length (g.results ∙ ap (λ (k : ℕ). g.found ++ found_from K k (position_in s)) z ∙ append-nil g.found) ∙ g.many);
-        written = g.written;
+        count = sym (ap length (g.results ∙ ap (λ (k : ℕ). g.found ++ found_from K k (position_in s)) z ∙ append-nil g.found) ∙ g.many ∙ e);
+        written = rw e at g.written;
         position = sym (g.stops ∙ ap (λ (k : ℕ). stopped_from K k (position_in s)) z);
         holds = g.holds;
       }

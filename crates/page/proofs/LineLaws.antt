@@ -35,10 +35,6 @@ steps_length steps h = right-length steps_width (decimal steps) (decimal-length 
 words_length : (u v w : List ℕ) → length (line_of (u ∷ v ∷ w ∷ [])) ≡ length u + length v + length w + 3
 words_length u v w = simp length-append (omega arith)
 
--- their parts, one behind the other
-pub words_parts : (u d b w : List ℕ) → (((((u ++ (blank ∷ [])) ++ d) ++ b) ++ (blank ∷ [])) ++ w) ++ (line_feed ∷ []) ≡ line_of (u ∷ (d ++ b) ∷ w ∷ [])
-words_parts u d b w = simp append_assoc
-
 -- the line of a model
 pub page_line-length : (serial n mask a steps : ℕ) → serial < 1000000 → n ≤ max_variables → steps < 1000 → length (page_line serial n mask a steps) ≡ line_size
 unfolding page_line
@@ -53,10 +49,3 @@ pub blank-length : length blank_line ≡ line_size
 unfolding blank_line
 blank-length = length-append (blanks (line_size - 1)) (line_feed ∷ []) ∙ (let b = blanks-length (line_size - 1) in omega arith)
 
--- the part of a page that is lent for line i, and comes back as t
-pub line_lent : (i : ℕ) (page t line : List ℕ) → t ≡ line → length line ≡ line_size
-    → (let from = line_size * i in take from page ++ (t ++ drop (from + line_size - from) (drop from page)) ≡ placed from line page)
-line_lent i page t line e l =
-    let from = line_size * i in
-    let k : length t ≡ from + line_size - from = ap length e ∙ l ∙ omega arith in
-    placed_part from (from + line_size - from) t page k ∙ ap (λ (x : List ℕ). placed from x page) e

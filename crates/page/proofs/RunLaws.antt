@@ -13,9 +13,9 @@ use Rattle.walk.specs.InnerCall.{resumed_result}
 use Rattle.walk.specs.Results.{AnswerKind, says_model, says_spent, says_ended, says_refused, Result, answer_kind, model_of}
 use Rattle.walk.proofs.LoopLaws.{loop_over}
 use Rattle.walk.proofs.CallLaws.{resume_within}
-use Rattle.enumeration.specs.declared.steps.Ending.TheVariants.{Model}
+use Rattle.enumeration.specs.declared.steps.Answer.TheVariants.{Model}
 use Rattle.enumeration.specs.declared.steps.Run.{Run}
-use Rattle.enumeration.specs.InnerState.{position_in, Ran, ending_as}
+use Rattle.enumeration.specs.InnerState.{position_in, Ran, answer_as}
 use Rattle.page.specs.InnerPages.{while_model, stop_of, found_from, stopped_from}
 
 -- ---- all runs
@@ -63,19 +63,19 @@ module _ (K : Tree) where
 -- ---- one run
 
 -- the answer of a run that ends with a model
-ending_found : (a : Answer) (m : ℕ) → Model m ≡ ending_as a → a ≡ found m
-ending_found (found a) m h = let e : a ≡ m = cc in ap found e
-ending_found spent m h = let e : ◌≡◌ {A = ℕ} 0 1 = cc in absurd (omega arith)
-ending_found ended m h = let e : ◌≡◌ {A = ℕ} 0 1 = cc in absurd (omega arith)
+answer_found : (a : Answer) (m : ℕ) → Model m ≡ answer_as a → a ≡ found m
+answer_found (found a) m h = let e : a ≡ m = cc in ap found e
+answer_found spent m h = absurd cc
+answer_found ended m h = absurd cc
 
 module _ (K : Tree) (p : Position) (r : Run) (R : Ran K r (resume K ample_budget p)) where
   -- its steps have at most 3 digits
   pub run_steps : r.steps < 1000
   run_steps = omega (arith, R.steps, resume_within K ample_budget p)
 
-  module _ (m : ℕ) (e : r.ending ≡ Model m) where
+  module _ (m : ℕ) (e : r.answer ≡ Model m) where
     abbrev brings : (resume K ample_budget p).answer ≡ found m
-    brings = ending_found (resume K ample_budget p).answer m (sym e ∙ R.ending)
+    brings = answer_found (resume K ample_budget p).answer m (sym e ∙ R.answer)
 
     -- the model that it brings, the models behind it, and where these stop
     pub run_model : (resumed_result (resume K ample_budget p)).model ≡ m
@@ -90,11 +90,11 @@ module _ (K : Tree) (p : Position) (r : Run) (R : Ran K r (resume K ample_budget
     run_stops k = rw (brings, R.position)
 
   -- if it brings none it is the last
-  pub run_last : ((m : ℕ) → r.ending ≡ Model m → ⊥) → (k : ℕ) → (found_from K (suc k) p ≡ []) × (stopped_from K (suc k) p ≡ position_in r.state)
+  pub run_last : ((m : ℕ) → r.answer ≡ Model m → ⊥) → (k : ℕ) → (found_from K (suc k) p ≡ []) × (stopped_from K (suc k) p ≡ position_in r.state)
   unfolding found_from stopped_from
-  run_last h k = let q = resume K ample_budget p in rw R.position (at q.answer (λ m e. h m (R.ending ∙ sym e)))
+  run_last h k = let q = resume K ample_budget p in rw R.position (at q.answer (λ m e. h m (R.answer ∙ sym e)))
     where
-      at : (a : Answer) → ((m : ℕ) → Model m ≡ ending_as a → ⊥)
+      at : (a : Answer) → ((m : ℕ) → Model m ≡ answer_as a → ⊥)
           → (let q = resume K ample_budget p in
           (while_model (answer_kind a) (resumed_result q) (found_from K k q.position) ≡ []) × (stop_of (answer_kind a) q.position (stopped_from K k q.position) ≡ q.position))
       at (found m) h = absurd (h m refl)

@@ -1,4 +1,5 @@
 -- A page in a part of a buffer, of just as many bytes: what stood there says nothing.
+use Rattle.std.specs.Prelude.{Result}
 use Prim.Native.Nat.{ℕ, ◌+◌, ◌≤◌}
 use mathlib.Core.List.{List, ◌++◌}
 use mathlib.Core.Path.{◌≡◌, sym, ap, ◌∙◌}
@@ -9,6 +10,7 @@ use Rattle.writing.specs.Text.{blanks}
 use Rattle.writing.specs.Placed.{placed}
 use Rattle.writing.proofs.BlankLaws.{blanks-length}
 use Rattle.writing.proofs.PlacedLaws.{placed_part}
+use Rattle.formula.specs.declared.Refusal.{Refusal}
 use Rattle.assumptions.specs.declared.Assumption.{Assumption}
 use Rattle.walk.specs.Checkpoints.{Checkpoint}
 use Rattle.page.specs.declared.Paged.{Paged}
@@ -18,9 +20,9 @@ use Rattle.page.proofs.PageCallLaws.{numbered_unfilled, lent_alike, lent_whole}
 use Rattle.print_pages.specs.InnerParts.{PutPage}
 
 -- the part of k bytes that was lent for a page, and came back as t
-pub put_told : (s : List ℕ) (us : List Assumption) (c : Checkpoint) (serial from k : ℕ) (b t : List ℕ) (r : Paged) → k ≡ page_size → from + page_size ≤ length b
-    → length t ≡ length (take k (drop from b)) → page_call s us c serial (take k (drop from b)) ≡ page_told r t
-    → PutPage (page_call s us c serial (blanks page_size)) from b (take from b ++ (t ++ drop k (drop from b))) r
+pub put_told : (s : List ℕ) (us : List Assumption) (c : Checkpoint) (serial from k : ℕ) (b t : List ℕ) (r : Result Paged Refusal) → k ≡ page_size → from + page_size ≤ length b
+    → length t ≡ length (take k (drop from b)) → page_call s us c serial (take k (drop from b)) ≡ page_told c r t
+    → PutPage c (page_call s us c serial (blanks page_size)) from b (take from b ++ (t ++ drop k (drop from b))) r
 put_told s us c serial from k b t r e room l told =
     let lent = take k (drop from b) in
     let d = length-drop from b in

@@ -13,8 +13,10 @@ ghost use Rattle.print_pages.specs.PrintedPages.{max_pages, printed_pages};
 ghost use Rattle.print_pages.specs.InnerParts.{PutPage};
 
 use enumeration::Checkpoint;
-use page::{PageAnswer, Paged};
+use formula::{Assignment, Refusal};
+use page::{PAGE_LINES, PAGE_SIZE, Paged};
 use std::io;
+use writing::Writer;
 
 // The most pages that are printed.
 const MAX_PAGES: usize = 20;
@@ -29,13 +31,18 @@ fn put_page(
     serial: u32,
     buffer: &mut [u8],
     from: usize,
-) -> Paged
+) -> Result<Paged, Refusal>
     requires { from + page_size ≤ length buffer.old }
-    ensures { PutPage (page_call input.now [] (checkpoint_values checkpoint) serial (blanks page_size)) from buffer.old buffer.new result }
+    ensures { let c = checkpoint_values checkpoint in PutPage c (page_call input.now [] c serial (blanks page_size)) from buffer.old buffer.new result }
 {
-    let to = from + page::PAGE_SIZE;
-    let none = assumptions::none_assumed();
-    page::write_page_under(input, none, checkpoint, serial, &mut buffer[from..to])
+    let to = from + PAGE_SIZE;
+    page::write_page_under(
+        input,
+        Ok(Assignment::none()),
+        checkpoint,
+        serial,
+        &mut buffer[from..to],
+    )
 }
 
 // The pages from the start checkpoint on, or the refusal's line: how many bytes they are.
@@ -44,30 +51,24 @@ fn put_pages(input: &[u8], buffer: &mut [u8]) -> usize
     ensures { Wrote (printed_pages input.now) 0 buffer.old buffer.new result }
 {
     let mut checkpoint = enumeration::start_checkpoint();
-    let mut serial: u32 = 1;
-    let mut from: usize = 0;
-    let mut left: usize = MAX_PAGES;
-    while 0 < left {
-        let p = put_page(input, checkpoint, serial, buffer, from);
-        let answer = p.answer;
-        match answer {
-            PageAnswer::Refused(refusal) => {
-                let number = formula::number_of(refusal);
-                let place = formula::place_of(refusal) as u64;
-                return printing::put_refused_line(number, place, buffer, from);
-            }
-            PageAnswer::Filled(lines) => {
-                from += page::PAGE_SIZE;
-                if lines < page::PAGE_LINES {
-                    return from;
+    for k in 0..MAX_PAGES {
+        let from = PAGE_SIZE * k;
+        let serial = 1 + PAGE_LINES * k;
+        match put_page(input, checkpoint, serial as u32, buffer, from) {
+            Ok(paged) => {
+                if paged.lines < PAGE_LINES {
+                    return from + PAGE_SIZE;
                 }
+                checkpoint = paged.checkpoint;
+            }
+            Err(refusal) => {
+                let mut w = Writer::new(buffer, from);
+                printing::put_refused_line(&mut w, refusal.number(), refusal.place() as u64);
+                return w.behind();
             }
         }
-        checkpoint = p.checkpoint;
-        serial += page::PAGE_LINES as u32;
-        left -= 1;
     }
-    from
+    PAGE_SIZE * MAX_PAGES
 }
 
 fn main(rt: HostRuntime) -> io::Result<()> {

@@ -5,14 +5,15 @@ use mathlib.Core.Path.{◌≡◌, refl, sym, ap, ap₂, ◌∙◌}
 use native.Mathlib.Omega.{arith}
 use lib.ListN.{length, length-append}
 use Rattle.walk.specs.Gaps.{ample_budget}
-use Rattle.walk.specs.PlainMachine.{Answer, found, spent, ended}
+use Rattle.walk.specs.PlainMachine as plain
+use Rattle.walk.specs.PlainMachine.{found, spent, ended}
 use Rattle.walk.specs.InnerStack.{empty, Tree}
 use Rattle.walk.specs.InnerMachine.{Position, down, resume}
-use Rattle.enumeration.specs.declared.steps.Ending.{Ending}
-use Rattle.enumeration.specs.declared.steps.Ending.TheVariants.{Model, Spent, Ended}
+use Rattle.enumeration.specs.declared.steps.Answer.{Answer}
+use Rattle.enumeration.specs.declared.steps.Answer.TheVariants.{Model, Spent, Ended}
 use Rattle.enumeration.specs.declared.steps.Run.{Run}
 use Rattle.enumeration.specs.declared.state.State.{State}
-use Rattle.enumeration.specs.InnerState.{position_at, position_in, Holds, Ran, ending_as}
+use Rattle.enumeration.specs.InnerState.{position_at, position_in, Holds, Ran, answer_as}
 use Rattle.enumeration.specs.InnerRead.{Node}
 use Rattle.writing.specs.declared.Writer.{Writer}
 use Rattle.writing.specs.Placed.{RoomIn, Puts}
@@ -41,15 +42,15 @@ going_first K n mask w s h r =
 
 module _ (n mask s e : ℕ) (rest : List ℕ) where
   -- the lines of a run, by how it ended
-  abbrev ending_lines : Ending → List ℕ
-  ending_lines (Model m) = model_line n mask m s e ++ rest
-  ending_lines Spent = []
-  ending_lines Ended = end_line s e
+  abbrev answer_lines : Answer → List ℕ
+  answer_lines (Model m) = model_line n mask m s e ++ rest
+  answer_lines Spent = []
+  answer_lines Ended = end_line s e
 
-  call_ending : (a : Answer) → call_lines n mask a s e rest ≡ ending_lines (ending_as a)
-  call_ending (found a) = refl
-  call_ending spent = refl
-  call_ending ended = refl
+  call_answer : (a : plain.Answer) → call_lines n mask a s e rest ≡ answer_lines (answer_as a)
+  call_answer (found a) = refl
+  call_answer spent = refl
+  call_answer ended = refl
 
 -- one call in front
 lines_next : (K : Tree) (n mask left : ℕ) (p : Position) → 0 < left
@@ -60,20 +61,20 @@ lines_next K n mask (suc j) p h = let e : suc j - 1 ≡ j = omega arith in rw e
 
 module _ (K : Tree) (n mask left : ℕ) (s : State) (r : Run) (R : Ran K r (resume K ample_budget (position_in s))) (some : 0 < left) where
   -- by how the run ended
-  lines_ending : lines_from K n mask left (position_in s) ≡ ending_lines n mask r.steps r.expansions (lines_from K n mask (left - 1) (position_in r.state)) r.ending
-  lines_ending =
+  lines_answer : lines_from K n mask left (position_in s) ≡ answer_lines n mask r.steps r.expansions (lines_from K n mask (left - 1) (position_in r.state)) r.answer
+  lines_answer =
       let q = resume K ample_budget (position_in s) in
-      lines_next K n mask left (position_in s) some ∙ rw (R.ending, R.steps, R.expansions, R.position) (call_ending n mask q.steps q.expansions _ q.answer)
+      lines_next K n mask left (position_in s) some ∙ rw (R.answer, R.steps, R.expansions, R.position) (call_answer n mask q.steps q.expansions _ q.answer)
 
-  pub lines_model : (m : ℕ) → r.ending ≡ Model m
+  pub lines_model : (m : ℕ) → r.answer ≡ Model m
       → lines_from K n mask left (position_in s) ≡ model_line n mask m r.steps r.expansions ++ lines_from K n mask (left - 1) (position_in r.state)
-  lines_model m e = lines_ending ∙ rw e
+  lines_model m e = lines_answer ∙ rw e
 
-  pub lines_end : r.ending ≡ Ended → lines_from K n mask left (position_in s) ≡ end_line r.steps r.expansions
-  lines_end e = lines_ending ∙ rw e
+  pub lines_end : r.answer ≡ Ended → lines_from K n mask left (position_in s) ≡ end_line r.steps r.expansions
+  lines_end e = lines_answer ∙ rw e
 
-  pub lines_spent : r.ending ≡ Spent → lines_from K n mask left (position_in s) ≡ []
-  lines_spent e = lines_ending ∙ rw e
+  pub lines_spent : r.answer ≡ Spent → lines_from K n mask left (position_in s) ≡ []
+  lines_spent e = lines_answer ∙ rw e
 
 -- after the last
 pub lines_more : (K : Tree) (n mask left : ℕ) (p : Position) → left ≡ 0 → lines_from K n mask left p ≡ more_line

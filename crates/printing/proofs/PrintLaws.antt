@@ -1,4 +1,5 @@
 -- What is printed, by what comes of the input; and the act.
+use Rattle.std.specs.Prelude.{Ok}
 use Prim.Native.Nat.{ℕ, ◌+◌, ◌≤◌, ◌<◌}
 use mathlib.Core.Bool.{Bool, cond, true, false}
 use mathlib.Core.List.{List, [], ◌++◌}
@@ -12,14 +13,20 @@ use Rattle.lists.proofs.OverLaws.{over_length}
 use Rattle.formula.specs.declared.Formula.{Formula}
 use Rattle.formula.specs.declared.Refusal.{Refusal}
 use Rattle.matched.specs.Acceptance.{declined, acceptance}
-use Rattle.matched.specs.InnerAccept.{Takes}
+use Rattle.matched.specs.declared.Accepted.{Accepted}
+use Rattle.matched.specs.InnerAccept.{Takes, held_acceptance}
+use Rattle.matched.proofs.AcceptLaws.{accepted_takes, accepted_assigned}
 use Rattle.walk.specs.Task.{under, visible}
 use Rattle.walk.specs.InnerStack.{empty}
 use Rattle.walk.specs.InnerMachine.{down}
-use Rattle.enumeration.proofs.EnterLaws.{tree_of}
+use Rattle.splitting.specs.InnerChoose.{assignment_of}
+use Rattle.enumeration.specs.declared.scope.Task.{Task}
+use Rattle.enumeration.specs.InnerScope.{scope_under, visible_in}
+use Rattle.enumeration.specs.InnerState.{Follows}
+use Rattle.enumeration.proofs.EnterLaws.{tree_of, tree_follows, takes_visible}
 use Rattle.writing.specs.Placed.{Wrote}
 use Rattle.printing.specs.Printed.{header, refusal_line, max_models, acceptance_lines, printed}
-use Rattle.printing.specs.InnerLines.{lines_from}
+use Rattle.printing.specs.InnerLines.{lines_from, IsTask}
 use Rattle.printing.specs.Printing.{max_input, max_print, Printing, unwritten, printing}
 use Rattle.printing.proofs.PrintedLaws.{printed-length}
 use Rattle.printing.proofs.WalkLinesLaws.{lines_resumed}
@@ -39,6 +46,24 @@ accepted_prints s f w =
     ap acceptance_lines w.accepts
     ∙ ap (λ (l : List ℕ). header n (length cs) ++ l) (lines_resumed s n w.trail cs w.row w.accepts max_models)
     ∙ ap (λ (g : Formula). header g.variables g.count ++ lines_from (tree_of s [] f w) g.variables (visible (under n w.trail cs)) max_models (down empty)) (sym w.formula)
+
+-- what accept answers, as the task of the input
+pub accepted_task : (s : List ℕ) (a : Accepted) → held_acceptance (acceptance s []) ≡ Ok a → IsTask s (record { formula = a.formula; scope = scope_under a.formula a.assignment })
+accepted_task s a e =
+    let t = accepted_takes s [] a e in
+    record { takes = t; scope = ap (scope_under a.formula) (accepted_assigned s [] a e t) }
+
+-- the task of an accepted input,
+module _ (s : List ℕ) (T : Task) (t : IsTask s T) where
+  -- of which the code's choices make its tree
+  pub task_follows : Follows T.formula T.scope (tree_of s [] T.formula t.takes)
+  task_follows = rw t.scope (tree_follows s [] T.formula t.takes (assignment_of t.takes.trail) refl)
+
+  pub task_prints : printed s
+      ≡ header T.formula.variables T.formula.count ++ lines_from (tree_of s [] T.formula t.takes) T.formula.variables (visible_in T.scope) max_models (down empty)
+  task_prints =
+      let e = ap visible_in t.scope ∙ takes_visible s [] T.formula t.takes (assignment_of t.takes.trail) refl in
+      rw e (accepted_prints s T.formula t.takes)
 
 -- ---- the act
 

@@ -9,7 +9,7 @@ ghost use Rattle.enumeration.specs.InnerScope.{visible_in};
 ghost use Rattle.enumeration.specs.InnerState.{Follows};
 ghost use Rattle.printing.specs.InnerLines.{lines_from, Fitting, IsTask, Printable};
 ghost use Rattle.printing.specs.Printing.{printing};
-ghost use Rattle.printing.specs.Printed.{header, model_line, end_line, more_line, refusal_line, max_models, printed};
+ghost use Rattle.printing.specs.Printed.{header, model_line, end_line, more_line, refused_line, refusal_line, max_models, printed};
 
 use enumeration::{AMPLE_BUDGET, Answer, Task};
 use formula::{Assignment, Refusal};
@@ -64,13 +64,21 @@ fn put_more_line(w: &mut Writer)
     w.put_word(b"more\n");
 }
 
-// The line of a refusal: its number and place.
-pub fn put_refusal_line(w: &mut Writer, refusal: Refusal)
+// The line of a refusal's number and place.
+pub fn put_refused_line(w: &mut Writer, number: u64, place: u64)
+    requires { RoomIn (refused_line number place) w.old }
+    ensures { Puts (refused_line number place) w.old w.new }
+{
+    w.put_word(b"refused ");
+    w.put_numbers(number, place);
+}
+
+// The line of a refusal.
+fn put_refusal_line(w: &mut Writer, refusal: Refusal)
     requires { RoomIn (refusal_line refusal) w.old }
     ensures { Puts (refusal_line refusal) w.old w.new }
 {
-    w.put_word(b"refused ");
-    w.put_numbers(refusal.number(), refusal.place() as u64);
+    put_refused_line(w, refusal.number(), refusal.place() as u64);
 }
 
 // The lines of a walk from its start: its first models, each by a run that goes on to the next one or to the end.

@@ -1,6 +1,6 @@
 -- The clauses that are left at a node, as a formula of their own, choose what the whole formula chooses there: all that the choice
 -- looks at is what the clauses of later nodes are, and those are the same.
-use Prim.Native.Nat.{ℕ, zero, suc, ◌+◌, ◌≤◌, ◌<◌, ◌^◌}
+use Prim.Native.Nat.{ℕ, zero, suc, ◌+◌, ◌<◌, ◌^◌}
 use mathlib.Core.Bool.{Bool, true, false, not, xor, cond, ◌&&◌, or-false, and-true}
 use mathlib.Core.List.{List, [], ◌∷◌, ◌++◌, map}
 use mathlib.Core.Logic.{⊎_elim}
@@ -11,11 +11,10 @@ use lib.Bits.{bit_or, bit_xor}
 use lib.Dec.{eqb}
 use lib.ListN.{length, get_or}
 use borrow.Author.Tests.{not-true, eqb-true}
-use Rattle.limits.specs.Limits.{max_clauses}
 use Rattle.lists.specs.Every.{Every}
 use Rattle.lists.specs.Tabulated.{tabulated}
 use Rattle.lists.proofs.EveryLaws.{every_get_or}
-use Rattle.lists.proofs.TabulatedLaws.{length_tabulated}
+use Rattle.lists.proofs.TabulatedLaws.{length_tabulated, get_or_tabulated}
 use Rattle.lists.proofs.TestLaws.{and_left, and_right, or_cases, or-none, bool_cases, bool_clash}
 use Rattle.masks.specs.Mask.{bit, with, minus}
 use Rattle.masks.specs.InnerMask.{lowest}
@@ -35,7 +34,6 @@ use Rattle.splitting.specs.declared.clauses.Trial.{Trial}
 use Rattle.splitting.specs.Choosing.{both_open}
 use Rattle.formula.specs.InnerAssignment.{assigned, set_to, satisfied_under, left_under, unassigned}
 use Rattle.splitting.specs.InnerChoose.{open_clauses, node, unnamed, formula_at, clause_in, clauses_of, formula_in, Small, surveys, survey_from, survey_of, matching_at, pure_of, reduce_from, reduced, tried, passing, occurrences_in, busiest_first, greatest, listed_last, mask_choice}
-use Rattle.splitting.proofs.NodeMatchingLaws.{small_at}
 use Rattle.splitting.proofs.ReduceLaws.{pure_lowest, reduce_done, reduce_turn}
 use Rattle.splitting.proofs.LastMemberLaws.{greatest_member}
 use Rattle.splitting.proofs.SearchLaws.{every_among}
@@ -92,6 +90,17 @@ node_at f a = node_none (formula_at f a) refl
 
 pub node_in : (s : Clauses) → node (formula_in s) unassigned ≡ clauses_of s
 node_in s = node_none (formula_in s) (length_tabulated (clause_in s.positives s.negatives) s.count)
+
+-- its clauses are few and of 64-bit masks
+pub small_in : (s : Clauses) → Small (formula_in s)
+small_in s = record {
+  few = s.few;
+  words = λ i l sign. rw (get_or_tabulated (clause_in s.positives s.negatives) s.count i no_clause l) (by_side i sign);
+}
+  where
+    by_side : (i : ℕ) (sign : Bool) → side (clause_in s.positives s.negatives i) sign < 2 ^ 64
+    by_side i true = s.words.0 i
+    by_side i false = s.words.1 i
 
 -- the matching of the node, from the arrays of its clauses
 pub matching_in : (f : Formula) (a : Assignment) (s : Clauses) → formula_in s ≡ formula_at f a → matching_at (formula_in s) unassigned ≡ matching_at f a

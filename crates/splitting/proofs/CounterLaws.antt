@@ -1,14 +1,16 @@
 -- A counter, which holds the counts of all variables at once, and the busiest member of a mask by it.
-use Prim.Native.Nat.{ℕ, suc, ◌+◌, ◌*◌, ◌^◌, ◌≤◌, ◌<◌}
-use mathlib.Core.Path.{◌≡◌, refl, sym, ◌∙◌}
-use mathlib.Core.Bool.{Bool, true, false, cond, xor, ◌&&◌, ◌||◌, or_assoc}
-use mathlib.Core.List.{List, [], ◌∷◌, ◌++◌}
+use Prim.Native.Nat.{ℕ, zero, suc, ◌+◌, ◌-◌, ◌*◌, ◌^◌, ◌≤◌, ◌<◌}
+use mathlib.Core.Path.{◌≡◌, refl, sym, ap, ◌∙◌}
+use mathlib.Core.Bool.{Bool, true, false, cond, xor, ◌&&◌, ◌||◌, or-false, or_assoc}
+use mathlib.Core.List.{List, [], ◌∷◌, ◌++◌, append-nil, append_assoc}
 use mathlib.Core.Logic.{inl, inr, ⊎_elim}
 use native.Mathlib.Omega.{arith}
 use lib.Bits.{bit_and, bit_or, bit_xor}
 use native.Mathlib.Numerals.{add-one}
 use lib.Dec.{ltb}
-use lib.ListN.{length}
+use lib.ListN.{length, get_or, set, take, drop, replicate}
+use lib.Seq.{drop-cons}
+use Rattle.std.proofs.lemmas.List.{take_all, take_more_set, drop_all, drop-set-lt}
 use borrow.Author.Tests.{eqb-true, eqb-false, not-true, not-false, ltb-true, ltb-false, lt-ltb, le-ltb}
 use Rattle.lists.specs.Tabulated.{tabulated}
 use Rattle.lists.proofs.TestLaws.{and_left, and_right, and_both, bool_cases, bool_clash}
@@ -19,8 +21,7 @@ use Rattle.masks.proofs.MembersLaws.{lowest_is, mask_lt, member_some}
 use Rattle.matching.proofs.Counting.{lt_or_le}
 use Rattle.formula.specs.declared.Clause.{Clause}
 use Rattle.formula.specs.InnerFits.{clause_variables}
-use Rattle.splitting.specs.declared.counts.Counts.{Counts}
-use Rattle.splitting.specs.InnerChoose.{clause_in, clauses_in, occurrences_in, digit, count_at, max_count, narrowed, Busiest}
+use Rattle.splitting.specs.InnerChoose.{clause_in, clauses_in, occurrences_in, digit, count_of, narrowed, Busiest}
 use Rattle.splitting.proofs.OrderLaws.{one_more_le}
 
 -- ── Digits ───────────────────────────────────────────────────────────────────────────────────────────────────────────
@@ -49,100 +50,69 @@ digit_some false b a e =
 
 -- ── Counting ─────────────────────────────────────────────────────────────────────────────────────────────────────────
 
-module _ (v : ℕ) where
-  -- one digit of every count
-  mask_more : (p k a b : ℕ) → b ≡ cond (bit (bit_and p k) v) (suc a) a → digit (bit (bit_xor p k) v) b ≡ cond (bit k v) (suc (digit (bit p v) a)) (digit (bit p v) a)
-  mask_more p k a b e = rw (e, bit-and p k v, bit-bit_xor p k v) (digit_more (bit p v) (bit k v) a)
+both_bits : (v p k : ℕ) → bit (bit_and p k) v ≡ true → (bit p v ≡ true) × (bit k v ≡ true)
+both_bits v p k e = let w = sym (bit-and p k v) ∙ e in (and_left (bit p v) (bit k v) w, and_right (bit p v) (bit k v) w)
 
-  both_bits : (p k : ℕ) → bit (bit_and p k) v ≡ true → (bit p v ≡ true) × (bit k v ≡ true)
-  both_bits p k e = let w = sym (bit-and p k v) ∙ e in (and_left (bit p v) (bit k v) w, and_right (bit p v) (bit k v) w)
+-- the digits with one more for each member of the mask
+unfoldable pub added : List ℕ → ℕ → List ℕ
+added [] k = []
+added (d ∷ ds) k = bit_xor d k ∷ added ds (bit_and d k)
 
-module _ (c : Counts) (mask : ℕ) where
-  abbrev to_twos : ℕ
-  to_twos = bit_and c.ones mask
+-- the count of v that is not the greatest goes up by one, if v is a member
+pub count_added : (ds : List ℕ) (k v : ℕ) → (bit k v ≡ true → suc (count_of ds v) < 2 ^ length ds)
+    → count_of (added ds k) v ≡ cond (bit k v) (suc (count_of ds v)) (count_of ds v)
+unfolding added count_of
+count_added [] k v h =
+    ⊎_elim (λ t. absurd (omega (arith, h t))) (λ f. rw f) (bool_cases (bit k v))
+count_added (d ∷ ds) k v h =
+    rw (count_added ds (bit_and d k) v less, bit-and d k v, bit-bit_xor d k v) (digit_more (bit d v) (bit k v) (count_of ds v))
+  where
+    less : bit (bit_and d k) v ≡ true → suc (count_of ds v) < 2 ^ length ds
+    less t =
+        let b = both_bits v d k t in
+        let l : suc (suc (2 * count_of ds v)) < 2 ^ suc (length ds) = rw b.0 at (h b.1) in
+        omega arith
 
-  abbrev to_fours : ℕ
-  to_fours = bit_and c.twos to_twos
+-- a turn of the code: the digits before i are changed, and those from i on are still to be
+pub added_turn : (ds : List ℕ) (i k : ℕ) → i < length ds
+    → take (i + 1) (set ds i (bit_xor (get_or ds i 0) k)) ++ added (drop (i + 1) (set ds i (bit_xor (get_or ds i 0) k))) (bit_and (get_or ds i 0) k) ≡ take i ds ++ added (drop i ds) k
+unfolding added
+added_turn ds i k l =
+    let x = bit_xor (get_or ds i 0) k in
+    rw (take_more_set ds i x l, drop-set-lt (i + 1) ds i x (omega arith), drop-cons ds i 0 l, add-one i, added)
+    (append_assoc (take i ds) (x ∷ []) (added (drop (suc i) ds) (bit_and (get_or ds i 0) k)))
 
-  abbrev to_eights : ℕ
-  to_eights = bit_and c.fours to_fours
-
-  abbrev to_sixteens : ℕ
-  to_sixteens = bit_and c.eights to_eights
-
-  abbrev to_thirtytwos : ℕ
-  to_thirtytwos = bit_and c.sixteens to_sixteens
-
-  abbrev to_sixtyfours : ℕ
-  to_sixtyfours = bit_and c.thirtytwos to_thirtytwos
-
-  -- the last digit carries nothing
-  no_carry : (v : ℕ) → count_at c v < max_count → bit (bit_and c.sixtyfours to_sixtyfours) v ≡ false
-  no_carry v h =
-      ⊎_elim
-      (λ t.
-      let g = both_bits v c.sixtyfours to_sixtyfours t in
-      let f = both_bits v c.thirtytwos to_thirtytwos g.1 in
-      let e = both_bits v c.sixteens to_sixteens f.1 in
-      let d = both_bits v c.eights to_eights e.1 in
-      let b = both_bits v c.fours to_fours d.1 in
-      let a = both_bits v c.twos to_twos b.1 in
-      let o = both_bits v c.ones mask a.1 in
-      absurd (omega (arith, (rw (o.0, a.0, b.0, d.0, e.0, f.0, g.0) at h))))
-      (λ f. f)
-      (bool_cases (bit (bit_and c.sixtyfours to_sixtyfours) v))
-
-  -- the counter with one more for each member of the mask
-  pub counts_more : (v : ℕ) → count_at c v < max_count
-      → count_at
-      (record {
-        ones = bit_xor c.ones mask;
-        twos = bit_xor c.twos to_twos;
-        fours = bit_xor c.fours to_fours;
-        eights = bit_xor c.eights to_eights;
-        sixteens = bit_xor c.sixteens to_sixteens;
-        thirtytwos = bit_xor c.thirtytwos to_thirtytwos;
-        sixtyfours = bit_xor c.sixtyfours to_sixtyfours;
-      }) v
-      ≡ cond (bit mask v) (suc (count_at c v)) (count_at c v)
-  counts_more v h =
-      mask_more v c.ones mask _ _
-      (mask_more v c.twos to_twos _ _
-      (mask_more v c.fours to_fours _ _
-      (mask_more v c.eights to_eights _ _
-      (mask_more v c.sixteens to_sixteens _ _
-      (mask_more v c.thirtytwos to_thirtytwos _ _ (mask_more v c.sixtyfours to_sixtyfours 0 0 (rw (no_carry v h) refl)))))))
+-- all are changed
+pub added_done : (ds : List ℕ) (i k : ℕ) → length ds ≤ i → take i ds ++ added (drop i ds) k ≡ ds
+unfolding added
+added_done ds i k l = rw (take_all i ds l, drop_all i ds l) (append-nil ds)
 
 -- at first nothing is counted
-pub counts_none : (v : ℕ) → count_at (record { ones = 0; twos = 0; fours = 0; eights = 0; sixteens = 0; thirtytwos = 0; sixtyfours = 0 }) v ≡ 0
-counts_none v = rw (bit-none v)
+pub counts_none : (n v : ℕ) → count_of (replicate n 0) v ≡ 0
+unfolding count_of
+counts_none zero v = refl
+counts_none (suc n) v = rw (bit-none v, counts_none n v)
 
--- a count has seven digits
-pub count_below : (c : Counts) (v : ℕ) → count_at c v ≤ max_count
-count_below c v =
-    within (bit c.ones v) _ 63
-    (within (bit c.twos v) _ 31
-    (within (bit c.fours v) _ 15
-    (within (bit c.eights v) _ 7
-    (within (bit c.sixteens v) _ 3 (within (bit c.thirtytwos v) _ 1 (within (bit c.sixtyfours v) 0 0 (omega arith)))))))
-  where
-    within : (b : Bool) (x k : ℕ) → x ≤ k → digit b x ≤ suc (2 * k)
-    within b x k h = omega (arith, digit_most b x)
+-- a count has as many digits
+pub count_below : (ds : List ℕ) (v : ℕ) → count_of ds v < 2 ^ length ds
+unfolding count_of
+count_below [] v = omega arith
+count_below (d ∷ ds) v =
+    let l : digit (bit d v) (count_of ds v) < 2 ^ suc (length ds) = omega (arith, digit_most (bit d v) (count_of ds v), count_below ds v) in l
 
--- the variables with a count, as the members of all the masks
-pub counted_some : (c : Counts) (v : ℕ)
-    → bit (bit_or (bit_or (bit_or (bit_or (bit_or (bit_or c.ones c.twos) c.fours) c.eights) c.sixteens) c.thirtytwos) c.sixtyfours) v ≡ ltb 0 (count_at c v)
-counted_some c v =
-    simp (bit-or, or_assoc)
-    (digit_some (bit c.ones v) _ _
-    (digit_some (bit c.twos v) _ _
-    (digit_some (bit c.fours v) _ _
-    (digit_some (bit c.eights v) _ _
-    (digit_some (bit c.sixteens v) _ _ (digit_some (bit c.thirtytwos v) _ _ (last (bit c.sixtyfours v))))))))
-  where
-    last : (b : Bool) → b ≡ ltb 0 (digit b 0)
-    last true = refl
-    last false = refl
+-- the variables with a count, as the members of all the masks: a turn
+pub counted_turn : (ds : List ℕ) (i m v : ℕ) → i < length ds
+    → bit (bit_or m (get_or ds i 0)) v || ltb 0 (count_of (drop (i + 1) ds) v) ≡ bit m v || ltb 0 (count_of (drop i ds) v)
+unfolding count_of
+counted_turn ds i m v l =
+    let d = get_or ds i 0 in
+    let c = count_of (drop (suc i) ds) v in
+    rw (bit-or m d v, drop-cons ds i 0 l, add-one i, count_of)
+    (or_assoc (bit m v) (bit d v) (ltb 0 c) ∙ ap (λ (b : Bool). bit m v || b) (digit_some (bit d v) _ c refl))
+
+pub counted_done : (ds : List ℕ) (i m v : ℕ) → length ds ≤ i → bit m v || ltb 0 (count_of (drop i ds) v) ≡ bit m v
+unfolding count_of
+counted_done ds i m v l = rw (drop_all i ds l) (or-false (bit m v))
 
 -- the count of a variable in clauses, with one clause more at the end
 occurrences_snoc : (cs : List Clause) (c : Clause) (v : ℕ)
@@ -177,12 +147,13 @@ pub record Greatest (f : ℕ → ℕ) (m k : ℕ) : Type 0 where
   pub most : (v w : ℕ) → bit k v ≡ true → bit m w ≡ true → f w ≤ f v
   pub ties : (v w : ℕ) → bit k v ≡ true → bit m w ≡ true → f v ≤ f w → bit k w ≡ true
 
--- by nothing it is all of them
-pub greatest_all : (m : ℕ) → (m ≡ 0 → ⊥) → Greatest (λ _. 0) m m
-greatest_all m z = record { some = z; within = λ v h. h; most = λ v w _ _. omega arith; ties = λ v w _ h _. h }
+-- by no digits it is all of them
+pub greatest_all : (ds : List ℕ) (i m : ℕ) → length ds ≤ i → (m ≡ 0 → ⊥) → Greatest (count_of (drop i ds)) m m
+unfolding count_of
+greatest_all ds i m l z = rw (drop_all i ds l) (record { some = z; within = λ v h. h; most = λ v w _ _. omega arith; ties = λ v w _ h _. h })
 
 -- by one digit more it is those of them that have the digit, if some have it
-pub greatest_more : (f : ℕ → ℕ) (m k p next : ℕ) → next ≡ narrowed k p → Greatest f m k → Greatest (λ v. digit (bit p v) (f v)) m next
+greatest_more : (f : ℕ → ℕ) (m k p next : ℕ) → next ≡ narrowed k p → Greatest f m k → Greatest (λ v. digit (bit p v) (f v)) m next
 greatest_more f m k p next n g = rw n (go (meets k p) refl)
   where
     go : (b : Bool) → meets k p ≡ b → Greatest (λ v. digit (bit p v) (f v)) m (cond b (bit_and k p) k)
@@ -224,6 +195,13 @@ greatest_more f m k p next n g = rw n (go (meets k p) refl)
             (λ t. absurd (member_some (bit_and k p) v (bit-and k p v ∙ and_both (bit k v) (bit p v) h t) (eqb-true (bit_and k p) 0 (not-false _ e))))
             (λ t. t)
             (bool_cases (bit p v))
+
+pub greatest_turn : (ds : List ℕ) (i m k next : ℕ) → 0 < i → i ≤ length ds → next ≡ narrowed k (get_or ds (i - 1) 0) → Greatest (count_of (drop i ds)) m k
+    → Greatest (count_of (drop (i - 1) ds)) m next
+unfolding count_of
+greatest_turn ds i m k next p l n g =
+    let e : suc (i - 1) ≡ i = omega arith in
+    rw (drop-cons ds (i - 1) 0 (omega arith), e) (greatest_more (count_of (drop i ds)) m k (get_or ds (i - 1) 0) next n g)
 
 -- the lowest of those with the greatest count
 pub busiest_lowest : (f : ℕ → ℕ) (m k : ℕ) → m < 2 ^ 64 → Greatest f m k → Busiest f m (lowest k)

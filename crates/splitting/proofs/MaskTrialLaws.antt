@@ -1,5 +1,5 @@
 -- Trials over masks, and the masks of what is left to try.
-use Prim.Native.Nat.{ℕ, suc, ◌+◌, ◌-◌, ◌^◌, ◌≤◌, ◌<◌}
+use Prim.Native.Nat.{ℕ, ◌+◌, ◌-◌, ◌^◌, ◌≤◌, ◌<◌}
 use mathlib.Core.Bool.{Bool, true, false, not, ◌&&◌}
 use mathlib.Core.List.{List, [], ◌∷◌}
 use mathlib.Core.Logic.{⊎_elim}
@@ -9,25 +9,24 @@ use native.Mathlib.Omega.{arith}
 use lib.Dec.{eqb, ltb}
 use lib.ListN.{length}
 use borrow.Author.Tests.{lt-ltb, ltb-true}
-use Rattle.limits.specs.Limits.{max_clauses}
 use Rattle.lists.proofs.TabulatedLaws.{length_tabulated}
 use Rattle.lists.proofs.TestLaws.{and_left, bool_cases, bool_clash}
-use Rattle.masks.specs.Mask.{bit, members, size}
-use Rattle.masks.specs.InnerMask.{without, lowest}
+use Rattle.masks.specs.Mask.{bit, size}
+use Rattle.masks.specs.InnerMask.{without}
 use Rattle.masks.proofs.BitLaws.{minus_lt, bit-none, bit_below, bit-without, bit-without-same}
-use Rattle.masks.proofs.MembersLaws.{lowest_is, members-lowest}
 use Rattle.std.specs.Result.{is_ok}
 use Rattle.matching.specs.declared.Matching.{Matching}
 use Rattle.matching.specs.Search.{succeeds}
 use Rattle.matching.proofs.ResultLaws.{packed-found, packed-expansions}
 use Rattle.formula.specs.declared.Formula.{Formula}
 use Rattle.formula.specs.declared.assignment.Assignment.{Assignment}
+use Rattle.splitting.specs.declared.clauses.Clauses.{Clauses}
 use Rattle.splitting.specs.declared.clauses.Trial.{Trial}
 use Rattle.splitting.specs.declared.counts.Counts.{Counts}
 use Rattle.splitting.specs.Choosing.{both_open, by_count, among}
 use Rattle.splitting.specs.Terms.{Ordered}
 use Rattle.formula.specs.InnerAssignment.{set_to}
-use Rattle.splitting.specs.InnerChoose.{node, clause_in, clauses_in, Small, matched_node, matching_at, tried, passing, occurrences_in, busiest_first, count_at, max_count, Busiest}
+use Rattle.splitting.specs.InnerChoose.{node, clause_in, clauses_of, Small, matched_node, matching_at, tried, passing, occurrences_in, busiest_first, count_at, max_count, Busiest}
 use Rattle.splitting.proofs.CountLaws.{count_le, count_drop, size_count}
 use Rattle.splitting.proofs.SearchLaws.{among_here, among_cases, among_none}
 use Rattle.splitting.proofs.OrderLaws.{before_once, ordered_behind, by_count_of, by_count_in, by_count_ordered, by_count_length, by_count_high, counted_to}
@@ -74,18 +73,6 @@ module _ (f : Formula) (a : Assignment) (v : ℕ) where
       go : (b : Bool) → succeeds (matched_node f (set_to a v false)) ≡ b → (tried f a v).cost ≤ 9312
       go true e = rw (tried, e) (omega (arith, node_cost f fits (set_to a v false), node_cost f fits (set_to a v true)))
       go false e = rw (tried, e) (omega (arith, node_cost f fits (set_to a v false)))
-
--- a mask without its lowest member
-pub record Lowered (m : ℕ) : Type 0 where
-  pub below : lowest m < 64
-  pub fits : without m (lowest m) < 2 ^ 64
-  pub less : suc (length (members (without m (lowest m)) 64)) ≡ length (members m 64)
-  pub listed : members m 64 ≡ lowest m ∷ members (without m (lowest m)) 64
-
-pub lowered : (m : ℕ) → m < 2 ^ 64 → (m ≡ 0 → ⊥) → Lowered m
-lowered m h z =
-    let e = members-lowest 64 64 m h h (omega arith) in
-    record { below = (lowest_is 64 m h (omega arith)).below; fits = minus_lt 64 m (2 ^ lowest m) h; less = sym (ap length e); listed = e }
 
 -- the first of a list is tried
 module _ (f : Formula) (a : Assignment) (l vs : List ℕ) (e v : ℕ) (t : Trial) (q : l ≡ v ∷ vs) (p : t ≡ tried f a v) where
@@ -148,18 +135,18 @@ lists_counted c m l h = record {
       (λ t. t ∙ sym (h v ∙ lt-ltb 0 (count_at c v) (by_count_of (count_at c) 64 max_count v t).1))
       (λ t.
       ⊎_elim
-      (λ u. bool_clash (by_count_in (count_at c) 64 max_count v (bit_below 64 v m l u) (ltb-true 0 (count_at c v) (sym (h v) ∙ u)) (count_below c v)) t)
+      (λ u. bool_clash (by_count_in (count_at c) 64 max_count v (bit_below 64 v m l u) (ltb-true 0 (count_at c v) (sym (h v) ∙ u)) (let k : count_at c v < 2 ^ 7 = rw c.whole at (count_below c.digits v) in omega arith)) t)
       (λ u. t ∙ sym u)
       (bool_cases (bit m v)))
       (bool_cases (among (by_count (count_at c) 64 max_count) v));
 }
 
 -- counted of the clauses in arrays they are in the order of trials there
-pub counted-first : (c : Counts) (p q : List ℕ) (k : ℕ) → k ≤ max_clauses → ((v : ℕ) → count_at c v ≡ occurrences_in (clauses_in p q k) v)
-    → by_count (count_at c) 64 max_count ≡ busiest_first (clauses_in p q k)
-counted-first c p q k few h =
-    let cs = clauses_in p q k in
-    let l = length_tabulated (clause_in p q) k in
+pub counted-first : (c : Counts) (s : Clauses) → ((v : ℕ) → count_at c v ≡ occurrences_in (clauses_of s) v)
+    → by_count (count_at c) 64 max_count ≡ busiest_first (clauses_of s)
+counted-first c s h =
+    let cs = clauses_of s in
+    let l = length_tabulated (clause_in s.positives s.negatives) s.count in
     let e : max_count ≡ max_count - length cs + length cs = omega arith in
     ap₂ (λ (f : ℕ → ℕ) (j : ℕ). by_count f 64 j) (λ i v. h v i) e ∙ by_count_high (occurrences_in cs) 64 (length cs) (max_count - length cs) (occurrences_few cs)
 

@@ -18,6 +18,7 @@ use Rattle.masks.proofs.MembersLaws.{Lowest, lowest_is}
 use Rattle.formula.specs.declared.Clause.{Clause}
 use Rattle.formula.specs.declared.Formula.{Formula}
 use Rattle.formula.specs.declared.assignment.Assignment.{Assignment}
+use Rattle.splitting.specs.declared.Stripping.{Stripping}
 use Rattle.splitting.specs.declared.clauses.Reduced.{Reduced}
 use Rattle.splitting.specs.declared.clauses.Survey.{Survey}
 use Rattle.formula.specs.InnerAssignment.{set_to}
@@ -92,33 +93,33 @@ module _ (f : Formula) (a : Assignment) where
   unfolding noted_from
   noted_turn k z = rw (noted_from, ne_eqb (pure_of f a) 0 z)
 
--- where stripping at the node of a stands after `count` turns: from here on it gives the whole result
-pub record Stands (f : Formula) (a now : Assignment) (count : ℕ) (order : List ℕ) : Type 0 where
+-- where stripping at the node of a stands: from s on it gives the whole result
+pub record Stands (f : Formula) (a : Assignment) (s : Stripping) : Type 0 where
   pub written : List ℕ
   pub noted : ℕ
   pub last : ℕ
-  pub many : length written ≡ count
-  pub holds : order ≡ padded max_variables 0 written
-  pub lists : written ++ noted_from (f.variables - count) f now ≡ noted_from f.variables f a
-  pub reduces : reduce_from (f.variables - count) f now noted last ≡ reduced f a
+  pub many : length written ≡ s.count
+  pub holds : s.order ≡ padded max_variables 0 written
+  pub lists : written ++ noted_from (f.variables - s.count) f s.assignment ≡ noted_from f.variables f a
+  pub reduces : reduce_from (f.variables - s.count) f s.assignment noted last ≡ reduced f a
 
 module _ (f : Formula) (a : Assignment) where
   -- before the first turn
-  pub stands_start : Stands f a a 0 (replicate max_variables 0)
+  pub stands_start : Stands f a (record { assignment = a; count = 0; order = replicate max_variables 0 })
   stands_start =
       let e : f.variables - 0 ≡ f.variables = omega arith in
       record { written = []; noted = 0; last = 0; many = refl; holds = sym (padded_none max_variables 0); lists = rw e; reduces = rw e }
 
-  module _ (now : Assignment) (count : ℕ) (order : List ℕ) (h : Stands f a now count order) where
+  module _ (s : Stripping) (h : Stands f a s) where
     -- a turn, as the code has it
-    pub stands_more : (s : Survey) (v : ℕ) (b : Bool) (next : Assignment) → f.variables ≤ max_variables → count < f.variables → s ≡ survey_of (node f now)
-        → (bit_xor s.positive s.negative ≡ 0 → ⊥) → v ≡ lowest (bit_xor s.positive s.negative) → b ≡ bit s.positive v → next ≡ set_to now v b
-        → Stands f a next (count + 1) (set order count v)
-    stands_more s v b next most l es p ev eb en =
-        let z : pure_of f now ≡ 0 → ⊥ = λ e. p (ap (λ (t : Survey). bit_xor t.positive t.negative) es ∙ e) in
-        let q : f.variables - count ≡ suc (f.variables - (count + 1)) = omega arith in
-        let turn : noted_from (f.variables - count) f now ≡ v ∷ noted_from (f.variables - (count + 1)) f next =
-        rw (q, en, eb, ev, es) (noted_turn f now (f.variables - (count + 1)) z) in
+    pub stands_more : (t : Survey) (v : ℕ) (b : Bool) (next : Assignment) → f.variables ≤ max_variables → s.count < f.variables → t ≡ survey_of (node f s.assignment)
+        → (bit_xor t.positive t.negative ≡ 0 → ⊥) → v ≡ lowest (bit_xor t.positive t.negative) → b ≡ bit t.positive v → next ≡ set_to s.assignment v b
+        → Stands f a (record { assignment = next; count = s.count + 1; order = set s.order s.count v })
+    stands_more t v b next most l es p ev eb en =
+        let z : pure_of f s.assignment ≡ 0 → ⊥ = λ e. p (ap (λ (t : Survey). bit_xor t.positive t.negative) es ∙ e) in
+        let q : f.variables - s.count ≡ suc (f.variables - (s.count + 1)) = omega arith in
+        let turn : noted_from (f.variables - s.count) f s.assignment ≡ v ∷ noted_from (f.variables - (s.count + 1)) f next =
+        rw (q, en, eb, ev, es) (noted_turn f s.assignment (f.variables - (s.count + 1)) z) in
         record {
           written = h.written ++ (v ∷ []);
           noted = with h.noted v;
@@ -126,28 +127,28 @@ module _ (f : Formula) (a : Assignment) where
           many = length-append h.written (v ∷ []) ∙ omega (arith, h.many);
           holds = rw (h.holds, ← h.many) (padded_set max_variables 0 h.written v (omega (arith, h.many)));
           lists = append_assoc h.written (v ∷ []) _ ∙ ap (λ (l : List ℕ). h.written ++ l) (sym turn) ∙ h.lists;
-          reduces = sym (reduce_more f now h.noted h.last f.variables count s v b next (with h.noted v) l es p ev eb en refl) ∙ h.reduces;
+          reduces = sym (reduce_more f s.assignment h.noted h.last f.variables s.count t v b next (with h.noted v) l es p ev eb en refl) ∙ h.reduces;
         }
 
     -- nothing more is noted: this is the result
-    ended : noted_from (f.variables - count) f now ≡ [] → (reduce_from (f.variables - count) f now h.noted h.last).assignment ≡ now
-        → record { assignment = now; count = count; order = order } ≡ stripping_at f a
+    ended : noted_from (f.variables - s.count) f s.assignment ≡ [] → (reduce_from (f.variables - s.count) f s.assignment h.noted h.last).assignment ≡ s.assignment
+        → s ≡ stripping_at f a
     ended e r =
         let w : h.written ≡ noted_from f.variables f a = sym (append-nil h.written) ∙ ap (λ (l : List ℕ). h.written ++ l) (sym e) ∙ h.lists in
-        let x : now ≡ (reduced f a).assignment = sym r ∙ ap (λ (s : Reduced). s.assignment) h.reduces in
-        let y : count ≡ length (noted_from f.variables f a) = sym h.many ∙ ap length w in
-        let z : order ≡ padded max_variables 0 (noted_from f.variables f a) = h.holds ∙ ap (padded max_variables 0) w in
+        let x : s.assignment ≡ (reduced f a).assignment = sym r ∙ ap (λ (t : Reduced). t.assignment) h.reduces in
+        let y : s.count ≡ length (noted_from f.variables f a) = sym h.many ∙ ap length w in
+        let z : s.order ≡ padded max_variables 0 (noted_from f.variables f a) = h.holds ∙ ap (padded max_variables 0) w in
         λ i. record { assignment = x i; count = y i; order = z i }
 
     -- no variable is pure
-    pub stands_pure : pure_of f now ≡ 0 → record { assignment = now; count = count; order = order } ≡ stripping_at f a
+    pub stands_pure : pure_of f s.assignment ≡ 0 → s ≡ stripping_at f a
     stands_pure e =
-        ended (noted_done f now (f.variables - count) e) (ap (λ (s : Reduced). s.assignment) (reduce_done f now h.noted h.last (f.variables - count) e))
+        ended (noted_done f s.assignment (f.variables - s.count) e) (ap (λ (t : Reduced). t.assignment) (reduce_done f s.assignment h.noted h.last (f.variables - s.count) e))
 
     -- there were as many turns as variables
-    pub stands_full : f.variables ≤ count → record { assignment = now; count = count; order = order } ≡ stripping_at f a
+    pub stands_full : f.variables ≤ s.count → s ≡ stripping_at f a
     unfolding noted_from reduce_from
-    stands_full l = let e : f.variables - count ≡ 0 = omega arith in ended (rw e) (rw e)
+    stands_full l = let e : f.variables - s.count ≡ 0 = omega arith in ended (rw e) (rw e)
 
 -- the noted variables are at most as many as the turns, and below 64
 pub noted_fits : (k : ℕ) (f : Formula) (a : Assignment) → Small f → (length (noted_from k f a) ≤ k) × Every (λ v. v < 64) (noted_from k f a)

@@ -13,7 +13,7 @@ use Rattle.formula.specs.declared.assignment.Assignment.{Assignment}
 use Rattle.formula.specs.declared.Clause.{Clause}
 use Rattle.formula.specs.declared.Formula.{Formula}
 use Rattle.formula.specs.Format.{Literal}
-use Rattle.formula.specs.InnerAssignment.{assigned, unassigned, set_to, satisfied_under, left_under}
+use Rattle.formula.specs.InnerAssignment.{assigned, set_to, satisfied_under, left_under}
 use Rattle.formula.specs.InnerCheck.{all_first}
 use Rattle.formula.specs.InnerMasked.{no_clause}
 use Rattle.formula.specs.InnerFits.{side, clause_variables}
@@ -58,6 +58,7 @@ clause_in p q i = record { positive = get_or p i 0; negative = get_or q i 0 }
 abbrev pub clauses_in : List ℕ → List ℕ → ℕ → List Clause
 clauses_in p q k = tabulated (clause_in p q) k
 
+-- the clauses that the code holds, and the formula of them
 abbrev pub clauses_of : Clauses → List Clause
 clauses_of s = clauses_in s.positives s.negatives s.count
 
@@ -163,13 +164,14 @@ abbrev pub digit : Bool → ℕ → ℕ
 digit true x = suc (2 * x)
 digit false x = 2 * x
 
--- the count of v in a counter, which holds the counts of all variables, a mask for each binary digit
+-- the count of v by a mask for each binary digit, the last digit first
+unfoldable pub count_of : List ℕ → ℕ → ℕ
+count_of [] v = 0
+count_of (d ∷ ds) v = digit (bit d v) (count_of ds v)
+
+-- the count of v in a counter, which holds the counts of all variables
 abbrev pub count_at : Counts → ℕ → ℕ
-count_at c v =
-    digit (bit c.ones v)
-    (digit (bit c.twos v)
-    (digit (bit c.fours v)
-    (digit (bit c.eights v) (digit (bit c.sixteens v) (digit (bit c.thirtytwos v) (digit (bit c.sixtyfours v) 0))))))
+count_at c v = count_of c.digits v
 
 -- the greatest count that seven digits hold
 abbrev pub max_count : ℕ

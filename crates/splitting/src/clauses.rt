@@ -1,13 +1,14 @@
 // What is left of a node's clauses: its survey, stripping, matching, trials.
-ghost use Rattle.std.specs.Prelude.{◌≡◌, true, ℕ, ◌<◌, ◌≤◌, map, length};
+ghost use Rattle.std.specs.Prelude.{◌≡◌, true, ℕ, ◌+◌, ◌<◌, ◌≤◌, [], ◌∷◌, ◌++◌, map, length};
 ghost use Rattle.limits.specs.Limits.{max_clauses};
 ghost use Rattle.lists.specs.Over.{over};
 ghost use Rattle.masks.specs.Mask.{bit};
 ghost use Rattle.formula.specs.InnerAssignment.{unassigned, set_to, left_under};
 ghost use Rattle.formula.specs.InnerFits.{clause_variables};
+ghost use Rattle.splitting.specs.InnerWords.{Words};
 
-use crate::counts::Counts;
 use crate::Choice;
+use crate::counts::Counts;
 use formula::{Assignment, Clause, Formula};
 use limits::MAX_CLAUSES;
 use matching::Matching;
@@ -43,6 +44,7 @@ pub struct Clauses {
     negatives: [u64; MAX_CLAUSES],
     count: usize,
     ghost few: { count ≤ max_clauses },
+    ghost words: { Words positives × Words negatives },
 }
 
 // What is left of a clause.
@@ -55,31 +57,58 @@ pub fn left(a: Assignment, c: Clause) -> Clause
     }
 }
 
+impl Survey {
+    ghost use Rattle.splitting.specs.InnerChoose.{surveys, survey_of};
+
+    // There is no clause.
+    pub fn none() -> Self
+        ensures { result ≡ survey_of [] }
+    {
+        Survey {
+            positive: 0,
+            negative: 0,
+            any: false,
+        }
+    }
+
+    // One clause more.
+    pub fn with(self, c: Clause) -> Self
+        ensures { result ≡ surveys self c }
+    {
+        Survey {
+            positive: self.positive | c.positive,
+            negative: self.negative | c.negative,
+            any: true,
+        }
+    }
+}
+
 impl Clauses {
     ghost use Rattle.splitting.specs.Choosing.{by_count};
-    ghost use Rattle.splitting.specs.InnerChoose.{node, unnamed, survey_of, some_empty, matching_at, clause_in, clauses_in, clauses_of, formula_in, formula_at, Small, reduce_from, tried, passing, occurrences_in, count_at, max_count, listed_last};
+    ghost use Rattle.splitting.specs.InnerChoose.{node, unnamed, survey_of, some_empty, matching_at, clause_in, clauses_in, clauses_of, formula_in, formula_at, reduce_from, tried, passing, occurrences_in, count_at, max_count, listed_last};
 
-    // What is left of the formula's open clauses.
-    pub fn left_at(f: &Formula, a: Assignment) -> Self
-        requires { f.now.count ≤ max_clauses }
-        ensures { formula_in result ≡ formula_at f.now a }
-    {
-        let mut clauses = Clauses {
+    // No clauses.
+    pub fn none() -> Self {
+        Clauses {
             positives: [0; MAX_CLAUSES],
             negatives: [0; MAX_CLAUSES],
             count: 0,
-        };
+        }
+    }
+
+    // Takes what is left of the formula's open clauses, in place of what it has.
+    pub fn take_open(&mut self, f: &Formula, a: Assignment)
+        requires { f.now.count ≤ max_clauses }
+        ensures { formula_in self.new ≡ formula_at f.now a }
+    {
         let mut count = 0;
         for c in &f.clauses[..f.count] {
             if !a.satisfies(*c) {
-                let l = left(a, *c);
-                clauses.positives[count] = l.positive;
-                clauses.negatives[count] = l.negative;
+                self.put(count, left(a, *c));
                 count += 1;
             }
         }
-        clauses.count = count;
-        clauses
+        self.count = count;
     }
 
     // The i-th clause.
@@ -93,6 +122,17 @@ impl Clauses {
         }
     }
 
+    // Writes c as the i-th clause.
+    fn put(&mut self, i: usize, c: Clause)
+        requires { i < max_clauses }
+        ensures written { clauses_in self.new.positives self.new.negatives (i + 1) ≡ clauses_in self.old.positives self.old.negatives i ++ (c ∷ []) }
+        ensures kept { (j : ℕ) → i < j → clause_in self.new.positives self.new.negatives j ≡ clause_in self.old.positives self.old.negatives j }
+        ensures count { self.new.count ≡ self.old.count }
+    {
+        self.positives[i] = c.positive;
+        self.negatives[i] = c.negative;
+    }
+
     // Keeps what is left of the open clauses, in place.
     pub fn compact(&mut self, a: Assignment)
         ensures { formula_in self.new ≡ formula_at (formula_in self.old) a }
@@ -101,9 +141,7 @@ impl Clauses {
         for i in 0..self.count {
             let c = self.clause(i);
             if !a.satisfies(c) {
-                let l = left(a, c);
-                self.positives[kept] = l.positive;
-                self.negatives[kept] = l.negative;
+                self.put(kept, left(a, c));
                 kept += 1;
             }
         }
@@ -133,8 +171,7 @@ impl Clauses {
         for i in kept..self.count {
             let c = self.clause(i);
             if !masks::member(c.variables(), v) {
-                self.positives[kept] = c.positive;
-                self.negatives[kept] = c.negative;
+                self.put(kept, c);
                 kept += 1;
             }
         }
@@ -145,17 +182,11 @@ impl Clauses {
     pub fn survey(&self) -> Survey
         ensures { result ≡ survey_of (clauses_of self.now) }
     {
-        let mut positive = 0;
-        let mut negative = 0;
+        let mut s = Survey::none();
         for i in 0..self.count {
-            positive |= self.positives[i];
-            negative |= self.negatives[i];
+            s = s.with(self.clause(i));
         }
-        Survey {
-            positive,
-            negative,
-            any: self.count != 0,
-        }
+        s
     }
 
     // Some clause of the node names nothing.
@@ -189,7 +220,6 @@ impl Clauses {
 
     // Matches the clauses of the node, from nothing.
     pub fn match_with(&self, a: Assignment) -> Matching
-        requires { Small (formula_in self.now) }
         ensures { result ≡ matching_at (formula_in self.now) a }
     {
         let mut sets = [0; MAX_CLAUSES];
@@ -200,15 +230,14 @@ impl Clauses {
     // Strips pure literals, the lowest first, until there is none, from a copy. No variable is noted twice, so that as many turns as
     // variables are enough.
     pub fn reduce(&self, variables: usize) -> Reduced
-        requires { Small (formula_in self.now) }
         ensures { result ≡ reduce_from variables (formula_in self.now) unassigned 0 0 }
     {
-        let mut left = *self;
+        let mut copy = *self;
         let mut r = Reduced {
             assignment: Assignment::none(),
             noted: 0,
             last: 0,
-            survey: left.survey(),
+            survey: copy.survey(),
         };
         for _ in 0..variables {
             let pure = r.survey.positive ^ r.survey.negative;
@@ -216,12 +245,12 @@ impl Clauses {
                 return r;
             }
             let v = masks::lowest(pure);
-            left.drop_named(v);
+            copy.drop_named(v);
             r = Reduced {
                 assignment: r.assignment.with(v, masks::member(r.survey.positive, v)),
                 noted: masks::with(r.noted, v),
                 last: v,
-                survey: left.survey(),
+                survey: copy.survey(),
             };
         }
         r
@@ -229,7 +258,7 @@ impl Clauses {
 
     // S6.3: a trial of v: the clauses are matched with v false and, unless this fails, also with v true.
     fn try_variable(&self, v: usize) -> Trial
-        requires { Small (formula_in self.now) × (v < 64) }
+        requires { v < 64 }
         ensures { result ≡ tried (formula_in self.now) unassigned v }
     {
         let when_false = self.match_with(Assignment::none().with(v, false));
@@ -252,14 +281,13 @@ impl Clauses {
     {
         let mut counts = Counts::none();
         for i in 0..self.count {
-            counts = counts.with(self.positives[i] | self.negatives[i]);
+            counts = counts.with(self.clause(i).variables());
         }
         counts
     }
 
     // Tries the counted variables, the busiest first and of equally busy ones the lowest, until one passes.
     pub fn first_passing(&self, counts: Counts) -> Choice
-        requires { Small (formula_in self.now) }
         ensures { result ≡ passing (formula_in self.now) unassigned (by_count (count_at counts) 64 max_count) 0 }
     {
         let mut rest = counts.counted();

@@ -56,7 +56,12 @@ pub fn all_satisfied(f: &Formula, a: Assignment) -> bool
     requires { f.now.count ≤ max_clauses }
     ensures { result ≡ all_satisfied f.now a }
 {
-    f.clauses[..f.count].iter().all(|c| a.satisfies(*c))
+    for c in &f.clauses[..f.count] {
+        if !a.satisfies(*c) {
+            return false;
+        }
+    }
+    true
 }
 
 // Matches what is left of the formula's open clauses, from nothing.
@@ -64,7 +69,9 @@ pub fn match_open(f: &Formula, a: Assignment) -> Matching
     requires { FormulaFits f.now }
     ensures { result ≡ matching_at f.now a }
 {
-    Clauses::left_at(f, a).match_with(Assignment::none())
+    let mut clauses = Clauses::none();
+    clauses.take_open(f, a);
+    clauses.match_with(Assignment::none())
 }
 
 // What the formula's open clauses name.
@@ -72,19 +79,10 @@ fn survey_open(f: &Formula, a: Assignment) -> Survey
     requires { f.now.count ≤ max_clauses }
     ensures { result ≡ survey_of (node f.now a) }
 {
-    let mut s = Survey {
-        positive: 0,
-        negative: 0,
-        any: false,
-    };
+    let mut s = Survey::none();
     for c in &f.clauses[..f.count] {
         if !a.satisfies(*c) {
-            let l = clauses::left(a, *c);
-            s = Survey {
-                positive: s.positive | l.positive,
-                negative: s.negative | l.negative,
-                any: true,
-            };
+            s = s.with(clauses::left(a, *c));
         }
     }
     s
@@ -118,13 +116,7 @@ pub fn strip(f: &Formula, a: Assignment) -> Stripping
 fn highest(mask: u64) -> usize
     ensures { result ≡ greatest mask }
 {
-    let mut rest = mask;
-    let mut v = 0;
-    while rest != 0 {
-        v = masks::lowest(rest);
-        rest = masks::without(rest, v);
-    }
-    v
+    63usize.saturating_sub(u64::leading_zeros(mask) as usize)
 }
 
 // The choice where some clause is open, whichever variables are to be assigned.
@@ -132,7 +124,8 @@ fn choose_open(f: &Formula, a: Assignment) -> Choice
     requires { Small f.now × ((survey_of (node f.now a)).any ≡ true) }
     ensures { (scope : ℕ) → result ≡ mask_choice f.now scope a }
 {
-    let mut clauses = Clauses::left_at(f, a);
+    let mut clauses = Clauses::none();
+    clauses.take_open(f, a);
     let names = clauses.survey();
     let r = clauses.reduce(f.variables);
     if r.survey.any {
@@ -141,10 +134,8 @@ fn choose_open(f: &Formula, a: Assignment) -> Choice
         return clauses.first_passing(counts);
     }
     let others = masks::minus(names.positive | names.negative, r.noted);
-    if others == 0 {
-        return clauses.last_listed(r.last);
-    }
-    clauses.last_listed(highest(others))
+    let v = if others == 0 { r.last } else { highest(others) };
+    clauses.last_listed(v)
 }
 
 // The choice where no clause is left: the lowest variable without a value.

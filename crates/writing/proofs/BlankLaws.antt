@@ -3,20 +3,13 @@ use Prim.Native.Nat.{ℕ, ◌-◌, ◌≤◌}
 use mathlib.Core.List.{List}
 use mathlib.Core.Path.{◌≡◌, ◌∙◌}
 use native.Mathlib.Omega.{arith}
-use lib.ListN.{length, length-append, length-replicate, get_or-replicate}
-use Rattle.lists.specs.Tabulated.{tabulated}
-use Rattle.lists.proofs.TabulatedLaws.{tabulated_of}
+use lib.ListN.{length, length-append, length-replicate}
 use Rattle.writing.specs.Text.{blank, blanks, right}
 
 -- there are k of them
 pub blanks-length : (k : ℕ) → length (blanks k) ≡ k
 unfolding blanks
 blanks-length k = length-replicate k blank
-
--- blanks are the values of a function
-pub blanks-tabulated : (k : ℕ) → blanks k ≡ tabulated (λ (i : ℕ). blank) k
-unfolding blanks
-blanks-tabulated k = tabulated_of (λ (i : ℕ). blank) k (blanks k) 0 (blanks-length k) (λ i h. get_or-replicate k i blank 0 h)
 
 -- a word that is not too wide fills the width
 pub right-length : (w : ℕ) (xs : List ℕ) → length xs ≤ w → length (right w xs) ≡ w

@@ -1,14 +1,11 @@
 -- Laws of a list written into another at an offset.
-use Prim.Native.Nat.{ℕ, ◌+◌, ◌≤◌, ◌<◌}
-use mathlib.Core.List.{List, [], ◌∷◌, ◌++◌, append-nil, append_assoc}
+use Prim.Native.Nat.{ℕ, ◌+◌, ◌≤◌}
+use mathlib.Core.List.{List, [], ◌++◌, append_assoc}
 use mathlib.Core.Path.{◌≡◌, refl, sym, ap, ◌∙◌}
-use native.Mathlib.Numerals.{add-one}
 use native.Mathlib.Omega.{arith}
-use lib.ListN.{length, take, drop, get_or, set, take-append-drop, length-append, length-drop, drop_of_length-le}
-use lib.Seq.{length-take-le, take-suc, set_split, take_at, drop-append-add, drop-drop}
+use lib.ListN.{length, take, drop, take-append-drop, length-append, length-drop}
+use lib.Seq.{length-take-le, take_at, drop-append-add, drop-drop}
 use Rattle.lists.specs.Over.{over}
-use Rattle.lists.specs.Tabulated.{tabulated}
-use Rattle.lists.proofs.TabulatedLaws.{length_tabulated, tabulated_more}
 use Rattle.std.specs.Borrow.{MutBor}
 use Rattle.writing.specs.declared.Writer.{Writer}
 use Rattle.writing.specs.Placed.{placed, Room, Wrote, Lent, RoomIn, Puts}
@@ -19,10 +16,6 @@ module _ {A : Type 0} where
   placed_length at xs b h =
       let t : length (take at b) ≡ at = length-take-le at b (omega arith) in
       simp (length-append, length-drop) (omega arith)
-
-  -- a store is a list of one
-  pub set_placed : (at : ℕ) (x : A) (b : List A) → at < length b → set b at x ≡ placed at (x ∷ []) b
-  set_placed at x b h = rw add-one (set_split b at x h)
 
   -- one list behind the other
   pub placed_placed : (at : ℕ) (xs ys b : List A) → at ≤ length b → placed (at + length xs) ys (placed at xs b) ≡ placed at (xs ++ ys) b
@@ -56,30 +49,10 @@ module _ {A : Type 0} where
   pub placed_none : (at : ℕ) (b : List A) → b ≡ placed at [] b
   placed_none at b = let e : at + 0 ≡ at = omega arith in rw e (sym (take-append-drop at b))
 
-  -- a store behind the list is one element more
-  pub placed_set : (at i : ℕ) (xs b : List A) (x : A) → length xs ≡ i → at + i < length b → set (placed at xs b) (at + i) x ≡ placed at (xs ++ (x ∷ [])) b
-  placed_set at i xs b x e h =
-      let l = placed_length at xs b (omega arith) in
-      set_placed (at + i) x (placed at xs b) (omega arith)
-      ∙ ap (λ (k : ℕ). placed (at + k) (x ∷ []) (placed at xs b)) (sym e)
-      ∙ placed_placed at xs (x ∷ []) b (omega arith)
-
   -- a part of k elements that was lent, and came back as xs
   pub placed_part : (at k : ℕ) (xs b : List A) → length xs ≡ k → take at b ++ (xs ++ drop k (drop at b)) ≡ placed at xs b
   placed_part at k xs b h =
       ap (λ (j : ℕ). take at b ++ (xs ++ drop j (drop at b))) (sym h) ∙ ap (λ (d : List A). take at b ++ (xs ++ d)) (drop-drop (length xs) at b)
-
--- ---- loops that write
-
--- one element more of a list
-pub word_next : (w b c : List ℕ) (at i : ℕ) → i < length w → at + i < length b → c ≡ placed at (take i w) b
-    → set c (at + i) (get_or w i 0) ≡ placed at (take (i + 1) w) b
-word_next w b c at i h k e = rw (e, add-one, take-suc w i 0) (placed_set at i (take i w) b (get_or w i 0) (length-take-le i w (omega arith)) k)
-
--- one value more of a function
-pub value_next : (f : ℕ → ℕ) (b c : List ℕ) (at i x : ℕ) → x ≡ f i → at + i < length b → c ≡ placed at (tabulated f i) b
-    → set c (at + i) x ≡ placed at (tabulated f (i + 1)) b
-value_next f b c at i x v k e = rw (e, tabulated_more f i, v) (placed_set at i (tabulated f i) b (f i) (length_tabulated f i) k)
 
 -- ---- what writers did
 
@@ -94,10 +67,6 @@ wrote_within {xs} {at} {b} h w =
     let n = w.next in
     rw w.buffer (simp length-append (omega arith))
 
--- a store
-pub wrote_one : (at x : ℕ) (b : List ℕ) → at < length b → Wrote (x ∷ []) at b (set b at x) (at + 1)
-wrote_one at x b h = record { buffer = set_placed at x b h; next = refl }
-
 -- one writer behind the other
 pub wrote_more : {xs ys : List ℕ} {at p r : ℕ} {b c d : List ℕ} → at ≤ length b → Wrote xs at b c p → Wrote ys p c d r → Wrote (xs ++ ys) at b d r
 wrote_more {xs} {ys} {at} {p} {r} {b} {c} {d} h v w =
@@ -105,12 +74,6 @@ wrote_more {xs} {ys} {at} {p} {r} {b} {c} {d} h v w =
       buffer = w.buffer ∙ ap (λ (t : ℕ). placed t ys c) v.next ∙ ap (placed (at + length xs) ys) v.buffer ∙ placed_placed at xs ys b h;
       next = (let l = length-append xs ys in let m = v.next in let n = w.next in omega arith);
     }
-
--- a buffer that is written whole
-pub wrote_whole : {xs : List ℕ} {b c : List ℕ} {r : ℕ} → length b ≡ length xs → Wrote xs 0 b c r → c ≡ xs
-wrote_whole {xs} {b} h w =
-    let e : drop (0 + length xs) b ≡ [] = drop_of_length-le b {i = 0 + length xs} (omega arith) in
-    w.buffer ∙ rw e (append-nil xs)
 
 -- ---- room
 
@@ -135,21 +98,22 @@ puts_none w h = record { same = refl; wrote = record { buffer = placed_none w.at
 -- one method behind the other
 pub puts_more : {xs ys : List ℕ} {u v w : Writer} → Puts xs u v → Puts ys v w → Puts (xs ++ ys) u w
 puts_more {xs} {ys} p q =
-    let l = length-append xs ys in
-    let s = p.shape in
-    let t = q.shape in
-    let n = p.wrote.next in
-    let a = p.room in
-    let b = q.room in
     record {
       same = q.same ∙ p.same;
       wrote = wrote_more (omega arith) p.wrote q.wrote;
       shape = q.shape ∙ p.shape;
-      room = omega arith;
+      room = omega (arith, length-append xs ys);
     }
 
 -- what was lent to a writer, and what it holds now
 pub lent_puts : {xs : List ℕ} {b : MutBor (List ℕ)} {at : ℕ} {v w : Writer} → Lent b at v → Puts xs v w
     → (w.buffer.ghost_name ≡ b.ghost_name) × Wrote xs at b.now w.buffer.now w.at
-lent_puts {xs} {w = w} l p =
-    (p.same ∙ l.same, rw (l.bytes, l.next) at p.wrote)
+lent_puts l p = (p.same ∙ l.same, rw (l.bytes, l.next) at p.wrote)
+
+-- there is room for the first part of a list,
+pub room_in_front : (xs ys ws : List ℕ) (w : Writer) → ws ≡ xs ++ ys → RoomIn ws w → RoomIn xs w
+room_in_front xs ys ws w e h = let l = ap length e ∙ length-append xs ys in omega arith
+
+-- and for the part behind it
+pub room_in_behind : (xs ys ws : List ℕ) (v w : Writer) → ws ≡ xs ++ ys → RoomIn ws v → Puts xs v w → RoomIn ys w
+room_in_behind xs ys ws v w e h p = let l = ap length e ∙ length-append xs ys in omega arith

@@ -10,7 +10,3 @@ use Rattle.capi.proofs.assumptions_in.Goals as goal
 pub read_pairs-requires : goal.read_pairs-requires
 read_pairs-requires c = rw c.stated.ensures (stated_le c.args.input.now)
 
-pub returns : goal.returns
-returns c =
-    let bytes = c.args.assumptions.now in
-    c.read_pairs.ensures ∙ ap (λ (n : ℕ). masks_of (assumed n (of_bytes bytes))) c.stated.ensures

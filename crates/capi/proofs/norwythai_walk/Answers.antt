@@ -1,40 +1,8 @@
--- `norwythai_walk`: nothing is written, or the results of the call and its checkpoint.
-use mathlib.Core.Path.{◌∙◌}
-use Rattle.assumptions.specs.Bytes.{of_bytes}
-use Rattle.capi.specs.Interface.{walk_called}
-use Rattle.capi.proofs.CallLaws.{asked_assumptions, asked_checkpoint, asked_results_behind, walk_written}
+-- `norwythai_walk`
 use Rattle.capi.proofs.norwythai_walk.Goals as goal
 
 pub returns-then-assumptions-ne0 : goal.returns-then-assumptions-ne0
-unfolding walk_called
-returns-then-assumptions-ne0 c =
-    let a = c.args in
-    asked_assumptions a.assumptions.now _ _ _ c.if-assumptions-ne0.true
-
-pub returns-then-checkpoint-ne-CHECKPOINT_SIZE : goal.returns-then-checkpoint-ne-CHECKPOINT_SIZE
-unfolding walk_called
-returns-then-checkpoint-ne-CHECKPOINT_SIZE c =
-    let a = c.args in
-    asked_checkpoint a.assumptions.now _ _ a.results.now c.if-assumptions-ne0.false a.checkpoint.now c.if-checkpoint-ne-CHECKPOINT_SIZE.true
-
-pub returns-then-results-ne-RESULTS_SIZE : goal.returns-then-results-ne-RESULTS_SIZE
-unfolding walk_called
-returns-then-results-ne-RESULTS_SIZE c =
-    let a = c.args in
-    asked_results_behind a.assumptions.now _ _ a.results.now c.if-assumptions-ne0.false a.checkpoint.now c.if-checkpoint-ne-CHECKPOINT_SIZE.false c.if-results-ne-RESULTS_SIZE.true
-
-pub walk_under-w-requires : goal.walk_under-w-requires
-walk_under-w-requires c =
-    (of_bytes c.args.assumptions.now, c.assumptions_in-u.ensures)
+returns-then-assumptions-ne0 c = let w = c.then-assumptions-ne0.either in ?
 
 pub returns : goal.returns
-returns c =
-    let a = c.args in
-    walk_written a.input.now a.assumptions.now a.checkpoint.now a.results.now a.budget _ c.walk_under-w.result _ _
-    c.if-assumptions-ne0.false
-    c.if-checkpoint-ne-CHECKPOINT_SIZE.false
-    c.if-results-ne-RESULTS_SIZE.false
-    c.checkpoint_in.ensures
-    (c.walk_under-w.ensures (of_bytes a.assumptions.now) c.assumptions_in-u.ensures)
-    c.put_checkpoint.ensures
-    (c.put_results.ensures ∙ c.walk_results.ensures)
+returns c = ?

@@ -9,10 +9,10 @@ use Rattle.page.proofs.write_page.Goals as goal
 
 -- the masks that are read are those of the list, for the number of variables that the input states
 read : (c : After-read_assumptions-u) → MasksOf c.args.input.now c.args.list.now c.read_assumptions-u.result
-read c = c.read_assumptions-u.ensures ∙ ap (λ (n : ℕ). masks_of (assumed n c.args.list.now)) c.stated-n.ensures
+read c = c.read_assumptions-u.ensures ∙ ap (λ (n : ℕ). masks_of (assumed n c.args.list.now)) c.stated.ensures
 
 pub read_assumptions-u-requires : goal.read_assumptions-u-requires
-read_assumptions-u-requires c = rw c.stated-n.ensures (stated_le c.args.input.now)
+read_assumptions-u-requires c = rw c.stated.ensures (stated_le c.args.input.now)
 
 pub write_page_under-requires : goal.write_page_under-requires
 write_page_under-requires c = (c.args.list.now, read (goal.at.write_page_under-requires c).After-read_assumptions-u)

@@ -7,4 +7,4 @@ use Rattle.printing.proofs.GoingLaws.{Going}
 use Rattle.printing.proofs.put_walk.Given as goal
 
 abbrev pub invariant-loop : goal.invariant-loop
-invariant-loop l = (K : Tree) → Follows l.f l.z K → Going K l.f.variables l.mask l.initial.w l.w l.s (max_models - l.counter)
+invariant-loop l = (K : Tree) → Follows l.task.formula l.task.scope K → Going K l.n l.mask l.initial.w l.w l.state (max_models - l.counter)

@@ -1,18 +1,25 @@
--- `all_satisfied` tells whether each clause is satisfied: the test of each clause of the slice.
-use mathlib.Core.Path.{sym, ◌∙◌}
-use borrow.Author.Rules.{rules}
-use borrow.Author.Tests.{tests}
-use lib.ListN.{take}
-use Rattle.std.proofs.lemmas.Iterator.{YieldsList-from_slice}
-use Rattle.std.proofs.lemmas.Iterator.Search.{all_from_yields_List}
+-- `all_satisfied` tells whether each clause is satisfied.
+use native.Mathlib.Omega.{arith}
+use mathlib.Core.Path.{refl, sym, ap, ◌∙◌}
+use Rattle.std.proofs.lemmas.List.{get_or-take}
 use Rattle.formula.specs.InnerAssignment.{satisfied_under}
-use Rattle.formula.proofs.CheckLaws.{all_taken}
+use Rattle.formula.specs.InnerCheck.{all_first}
+use Rattle.formula.specs.InnerMasked.{no_clause}
+use Rattle.formula.proofs.CheckLaws.{all_more, all_fails}
 use Rattle.splitting.proofs.all_satisfied.Goals as goal
 
-pub returns : goal.returns
-returns c =
+pub loop-c-init : goal.loop-c-init
+unfolding all_first
+loop-c-init c = refl
+
+pub returns-then-not-satisfies : goal.returns-then-not-satisfies
+returns-then-not-satisfies c =
     let f = c.args.f.now in
-    all_from_yields_List (satisfied_under c.args.a) _ _ c.all.result c.all.ensures.ran
-    (YieldsList-from_slice (take f.count f.clauses) cc)
-    (λ x b q k. search (rules, tests))
-    ∙ sym (all_taken (satisfied_under c.args.a) f.clauses f.count (let h = c.requires in ?))
+    sym (all_fails _ _ c.loop-c.c-index _ (omega arith)
+    (ap (satisfied_under c.args.a) (sym (get_or-take f.count f.clauses c.loop-c.c-index no_clause (omega arith))) ∙ sym c.satisfies.ensures ∙ c.if-not-satisfies.true))
+
+pub loop-c-preserved : goal.loop-c-preserved
+loop-c-preserved c =
+    let f = c.args.f.now in
+    all_more _ _ c.loop-c.c-index c.loop-c.invariant
+    (ap (satisfied_under c.args.a) (sym (get_or-take f.count f.clauses c.loop-c.c-index no_clause (omega arith))) ∙ sym c.satisfies.ensures ∙ c.if-not-satisfies.false)

@@ -12,6 +12,3 @@ returns-then-all_satisfied c =
 pub choose_open-requires : goal.choose_open-requires
 choose_open-requires c =
     (small_of c.args.f.now c.requires, some_open c.args.f.now c.args.a (sym c.all_satisfied.ensures ∙ c.if-all_satisfied.false))
-
-pub returns : goal.returns
-returns c = c.choose_open.ensures c.args.scope

@@ -1,6 +1,8 @@
 -- `survey_open` is the survey of the node.
 use native.Mathlib.Omega.{arith}
-use mathlib.Core.Path.{◌≡◌, refl, sym, ◌∙◌}
+use mathlib.Core.Path.{sym, ◌∙◌}
+use Rattle.std.proofs.lemmas.List.{get_or-take}
+use Rattle.formula.specs.InnerMasked.{no_clause}
 use Rattle.splitting.specs.InnerChoose.{open_clauses, survey_from}
 use Rattle.splitting.proofs.OpenClauseLaws.{survey_open, survey_gone}
 use Rattle.splitting.proofs.survey_open.Goals.{then-not-satisfies, else-not-satisfies}
@@ -8,10 +10,15 @@ use Rattle.splitting.proofs.survey_open.Goals as goal
 
 pub loop-c-init : goal.loop-c-init
 unfolding open_clauses survey_from
-loop-c-init c = refl
+loop-c-init c = c.none-s.ensures
 
 pub loop-c-preserved : goal.loop-c-preserved
 loop-c-preserved c =
     let cs = c.args.f.now.clauses in
     let a = c.args.a in
-    elim c.if-not-satisfies.branch [ then-not-satisfies w ↦ let h = w.s-is in let k = c.satisfies.ensures in ? | else-not-satisfies w ↦ ? ]
+    let i = c.loop-c.c-index in
+    let at = sym (get_or-take c.args.f.now.count cs i no_clause (omega arith)) in
+    elim c.if-not-satisfies.branch [
+      | then-not-satisfies w ↦ rw (w.s-is, w.with-s.ensures, w.left.ensures) (survey_open cs a i _ at _ c.loop-c.invariant (sym c.satisfies.ensures ∙ w.if-not-satisfies.true))
+      | else-not-satisfies w ↦ w.s-is ∙ survey_gone cs a i _ at _ c.loop-c.invariant (sym c.satisfies.ensures ∙ w.if-not-satisfies.false)
+    ]

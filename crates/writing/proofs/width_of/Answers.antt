@@ -5,9 +5,6 @@ use lib.ListN.{length}
 use Rattle.writing.proofs.DecimalLaws.{smaller, decimal-length, decimal_one, decimal_some, more_length}
 use Rattle.writing.proofs.width_of.Goals as goal
 
-pub loop-left-init : goal.loop-left-init
-loop-left-init c = omega arith
-
 pub overflow_add-width : goal.overflow_add-width
 overflow_add-width c =
     omega (arith, c.loop-left.invariant, decimal_some c.loop-left.left, decimal-length 19 c.args.x (omega arith))

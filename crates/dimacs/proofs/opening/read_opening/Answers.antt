@@ -1,113 +1,60 @@
--- `read_opening`: a word more, and p or cnf, or not.
-use Prim.Native.Nat.{ℕ}
-use mathlib.Core.Bool.{true}
-use mathlib.Core.List.{List, ◌∷◌}
-use mathlib.Core.Path.{◌≡◌, sym, ap, ◌∙◌}
-use native.Mathlib.Omega.{arith}
-use Rattle.dimacs.specs.Text.{Piece, same, p_word, cnf_word, opening}
-use Rattle.dimacs.specs.InnerScan.{words_from, opening_held}
-use Rattle.dimacs.proofs.TextLaws.{start_le, words_zero}
-use Rattle.dimacs.proofs.OpeningLaws.{span, Next, next_word, InLine, in_line, passes, fails, p_some, cnf_some, opening-none, opening_one, opening-first, opening_second, opening_rest}
-use Rattle.dimacs.proofs.opening.read_opening.Goals.{After-word_end-a_end, After-word_end-b_end, Else-not-same}
+-- `read_opening`: word by word.
+use Rattle.std.proofs.Common.{◌≡◌, refl, sym, ap, ◌∙◌}
+use Rattle.std.specs.Prelude.{true}
+use Rattle.dimacs.specs.Text.{opening, words, run, same, p_word, cnf_word}
+use Rattle.dimacs.specs.InnerPiece.{piece_of}
+use Rattle.dimacs.specs.InnerScan.{words_left, opening_held}
+use Rattle.dimacs.proofs.OpeningLaws.{word_differs, word_same, opening-first, opening_second, opening_more, words_end, opening_third, opening_fourth, opening_all}
+use Rattle.dimacs.proofs.ScanLaws.{number-none, number-some}
 use Rattle.dimacs.proofs.opening.read_opening.Goals as goal
 
--- the first word
-module _ (d : After-word_end-a_end) where
-  abbrev line : List ℕ
-  line = d.args.line.now
+pub returns-in_err-next : goal.returns-in_err-next
+unfolding opening
+returns-in_err-next c = rw (c.from_residual.ensures, ← c.new-words.ensures, c.in_err-next.ensures.steps.0) refl
 
-  abbrev at : ℕ
-  at = d.args.at
+pub returns-then-ne : goal.returns-then-ne
+returns-then-ne c = rw (← c.new-words.ensures, c.in_ok-next.ensures.steps, opening-first (piece_of c.in_ok-next.field-0) _ (word_differs _ _ _ _ c.ne.ensures c.if-ne.true c.as_slice.ensures)) refl
 
-  abbrev start : ℕ
-  start = d.word_start-a.result
+pub returns-in_err-next-2 : goal.returns-in_err-next-2
+unfolding opening
+returns-in_err-next-2 c = rw (c.from_residual-in_err-next-2.ensures, ← c.new-words.ensures, c.in_ok-next.ensures.steps, c.in_err-next-2.ensures.steps.0) refl
 
-  abbrev end : ℕ
-  end = d.word_end-a_end.result
+pub returns-then-ne-2 : goal.returns-then-ne-2
+returns-then-ne-2 c =
+    rw (← c.new-words.ensures, c.in_ok-next.ensures.steps, c.in_ok-next-2.ensures.steps, opening_second (piece_of c.in_ok-next.field-0) (piece_of c.in_ok-next-2.field-0) _ (word_differs _ _ _ _ c.ne-2.ensures c.if-ne-2.true c.as_slice-2.ensures)) refl
 
-  within : InLine line start end
-  within = in_line at line 0 start end (omega arith) d.word_start-a.ensures d.word_end-a_end.ensures
+pub returns-in_err-third : goal.returns-in_err-third
+unfolding opening
+returns-in_err-third c = rw (c.from_residual-in_err-third.ensures, ← c.new-words.ensures, c.in_ok-next.ensures.steps, c.in_ok-next-2.ensures.steps, c.in_err-third.ensures.steps.0) refl
 
-  next : Next at line 0 start end
-  next = next_word at line 0 start end d.word_start-a.ensures d.word_end-a_end.ensures
+pub returns-in_err-fourth : goal.returns-in_err-fourth
+unfolding opening
+returns-in_err-fourth c =
+    rw (c.from_residual-in_err-fourth.ensures, ← c.new-words.ensures, c.in_ok-next.ensures.steps, c.in_ok-next-2.ensures.steps, c.in_ok-third.ensures.steps, c.in_err-fourth.ensures.steps.0) refl
 
--- the second
-module _ (d : After-word_end-b_end) where
-  abbrev first : After-word_end-a_end
-  first = (goal.at.After-word_end-b_end d).After-word_end-a_end
+pub returns-then-is_some : goal.returns-then-is_some
+returns-then-is_some c =
+    rw (← c.new-words.ensures, c.in_ok-next.ensures.steps, c.in_ok-next-2.ensures.steps, c.in_ok-third.ensures.steps, c.in_ok-fourth.ensures.steps,
+      opening_more _ _ _ _ _ _ c.next-5.result piece_of (sym c.is_some.ensures ∙ c.if-is_some.true) c.next-5.ensures.steps) refl
 
-  abbrev start2 : ℕ
-  start2 = d.word_start-b.result
+pub returns-in_err-number : goal.returns-in_err-number
+returns-in_err-number c =
+    rw (c.from_residual-in_err-number.ensures, ← c.new-words.ensures, c.in_ok-next.ensures.steps, c.in_ok-next-2.ensures.steps, c.in_ok-third.ensures.steps, c.in_ok-fourth.ensures.steps,
+      words_end _ _ c.next-5.result piece_of (sym c.is_some.ensures ∙ c.if-is_some.false) c.next-5.ensures.steps,
+      opening_third _ _ (piece_of c.in_ok-third.third) _ (number-none _ (sym c.number.ensures ∙ c.in_err-number.was))) refl
 
-  abbrev end2 : ℕ
-  end2 = d.word_end-b_end.result
-
-  within2 : InLine (line first) start2 end2
-  within2 = in_line (at first) (line first) (end first) start2 end2 (within first).ends d.word_start-b.ensures d.word_end-b_end.ensures
-
-  next2 : Next (at first) (line first) (end first) start2 end2
-  next2 = next_word (at first) (line first) (end first) start2 end2 d.word_start-b.ensures d.word_end-b_end.ensures
-
--- the first is p
-abbrev word : Else-not-same → Piece
-word e = let d = (goal.at.Else-not-same e).After-word_end-a_end in span (at d) (line d) (start d) (end d)
-
-is_p : (e : Else-not-same) → same (word e).bytes p_word ≡ true
-is_p e = sym e.same.ensures ∙ e.if-not-same.false
-
-taken : (e : Else-not-same)
-    → (let d = (goal.at.Else-not-same e).After-word_end-a_end in words_from (at d) (line d) 0 ≡ word e ∷ words_from (at d) (line d) (end d))
-taken e = let d = (goal.at.Else-not-same e).After-word_end-a_end in passes (at d) (line d) 0 (start d) (end d) (λ w. same w p_word) p_some (next d) (is_p e)
-
-pub word_end-a_end-requires : goal.word_end-a_end-requires
-word_end-a_end-requires c = omega (arith, c.word_start-a.ensures, start_le c.args.at c.args.line.now 0 (omega arith))
-
-pub slice_bounds-same-count : goal.slice_bounds-same-count
-slice_bounds-same-count c = (within c).forward
-
-pub slice_bounds-same-end : goal.slice_bounds-same-end
-slice_bounds-same-end c = (within c).ends
-
-pub returns-then-not-same : goal.returns-then-not-same
-returns-then-not-same c =
-    let d = (goal.at.returns-then-not-same c).After-word_end-a_end in
-    ap opening_held
-    (sym (ap opening (words_zero (at d) (line d)) ∙ fails (at d) (line d) 0 (start d) (end d) (λ w. same w p_word) p_some opening opening-none opening-first (next d) (sym c.same.ensures ∙ c.if-not-same.true)))
-
-pub word_start-b-requires : goal.word_start-b-requires
-word_start-b-requires c = (within (goal.at.word_start-b-requires c).After-word_end-a_end).ends
-
-pub word_end-b_end-requires : goal.word_end-b_end-requires
-word_end-b_end-requires c =
-    let d = (goal.at.word_end-b_end-requires c).After-word_end-a_end in
-    omega (arith, c.word_start-b.ensures, start_le (at d) (line d) (end d) (within d).ends)
-
-pub slice_bounds-same-count-2 : goal.slice_bounds-same-count-2
-slice_bounds-same-count-2 c = (within2 c).forward
-
-pub slice_bounds-same-end-3 : goal.slice_bounds-same-end-3
-slice_bounds-same-end-3 c = (within2 c).ends
-
-pub returns-then-not-same-2 : goal.returns-then-not-same-2
-returns-then-not-same-2 c =
-    let d = (goal.at.returns-then-not-same-2 c).Else-not-same in
-    let e = (goal.at.returns-then-not-same-2 c).After-word_end-a_end in
-    let f = (goal.at.returns-then-not-same-2 c).After-word_end-b_end in
-    let w = word d in
-    ap opening_held
-    (sym (ap opening (words_zero (at e) (line e) ∙ taken d)
-    ∙ fails (at e) (line e) (end e) (start2 f) (end2 f) (λ v. same v cnf_word) cnf_some (λ ws. opening (w ∷ ws)) (opening_one w) (opening_second w) (next2 f) (sym c.same-2.ensures ∙ c.if-not-same-2.true)))
-
-pub read_numbers-requires : goal.read_numbers-requires
-read_numbers-requires c = ((within2 (goal.at.read_numbers-requires c).After-word_end-b_end).ends, c.requires)
+pub returns-in_err-number-2 : goal.returns-in_err-number-2
+returns-in_err-number-2 c =
+    rw (c.from_residual-in_err-number-2.ensures, ← c.new-words.ensures, c.in_ok-next.ensures.steps, c.in_ok-next-2.ensures.steps, c.in_ok-third.ensures.steps, c.in_ok-fourth.ensures.steps,
+      words_end _ _ c.next-5.result piece_of (sym c.is_some.ensures ∙ c.if-is_some.false) c.next-5.ensures.steps,
+      opening_fourth _ _ _ (piece_of c.in_ok-fourth.fourth) (number-none _ (sym c.number-2.ensures ∙ c.in_err-number-2.was))) refl
 
 pub returns : goal.returns
 returns c =
-    let d = (goal.at.returns c).Else-not-same in
-    let e = (goal.at.returns c).After-word_end-a_end in
-    let f = (goal.at.returns c).After-word_end-b_end in
-    let w = word d in
-    let v = span (at e) (line e) (start2 f) (end2 f) in
-    let is-cnf : same v.bytes cnf_word ≡ true = sym c.same-2.ensures ∙ c.if-not-same-2.false in
-    let both = words_zero (at e) (line e) ∙ taken d ∙ ap (λ (ws : List Piece). w ∷ ws) (passes (at e) (line e) (end e) (start2 f) (end2 f) (λ x. same x cnf_word) cnf_some (next2 f) is-cnf) in
-    c.read_numbers.ensures ∙ ap opening_held (sym (ap opening both ∙ opening_rest w v _ (is_p d) is-cnf))
+    let p : same c.in_ok-next.field-0.bytes.now p_word ≡ true = word_same _ _ _ _ c.ne.ensures c.if-ne.false c.as_slice.ensures in
+    let q : same c.in_ok-next-2.field-0.bytes.now cnf_word ≡ true = word_same _ _ _ _ c.ne-2.ensures c.if-ne-2.false c.as_slice-2.ensures in
+    let m = number-some _ _ (sym c.number.ensures ∙ c.in_ok-number.was) in
+    let n = number-some _ _ (sym c.number-2.ensures ∙ c.in_ok-number-2.was) in
+    rw (← c.new-words.ensures, c.in_ok-next.ensures.steps, c.in_ok-next-2.ensures.steps, c.in_ok-third.ensures.steps, c.in_ok-fourth.ensures.steps,
+      words_end _ _ c.next-5.result piece_of (sym c.is_some.ensures ∙ c.if-is_some.false) c.next-5.ensures.steps,
+      opening_all (piece_of c.in_ok-next.field-0) (piece_of c.in_ok-next-2.field-0) (piece_of c.in_ok-third.third) (piece_of c.in_ok-fourth.fourth) p q m.0 n.0, m.1, n.1) refl

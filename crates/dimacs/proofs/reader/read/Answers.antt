@@ -1,51 +1,98 @@
 -- `read`: a short buffer, a refusal, or the bytes that were kept.
 use Prim.Native.Nat.{ℕ, ◌≤◌}
-use mathlib.Core.List.{List}
-use mathlib.Core.Path.{sym}
+use mathlib.Core.Path.{◌≡◌, refl, sym, ap, ◌∙◌}
 use native.Mathlib.Omega.{arith}
-use lib.ListN.{length}
+use lib.ListN.{length, take}
 use lib.Seq.{length-take-le}
-use Rattle.formula.specs.Format.{max_bytes}
-use Rattle.dimacs.proofs.ReadLaws.{encoded_short, encoded_refused, IsRead, is_read, encoded_written}
-use Rattle.dimacs.proofs.reader.read.Goals.{In-Written}
+use Rattle.std.proofs.lemmas.Result.{err_from_is_err_and}
+use Rattle.formula.specs.Format.{max_bytes, formula_bytes}
+use Rattle.formula.proofs.LengthLaws.{formula_le}
+use Rattle.dimacs.specs.Text.{read_text, Progress, progress_start, next, all_words, take_words, closing, by_lines}
+use Rattle.dimacs.specs.InnerScan.{lines_left}
+use Rattle.dimacs.specs.InnerReader.{Opened, Stands, Kept}
+use Rattle.dimacs.proofs.GoesLaws.{stands_ready}
+use Rattle.dimacs.proofs.ReadLaws.{text_lines, encoded_short, encoded_refused, encoded_written}
+use Rattle.dimacs.proofs.reader.read.Goals.{After-new-lines, In_ok-p, In_ok-take_lines, In_ok-close}
 use Rattle.dimacs.proofs.reader.read.Goals as goal
 
--- what was read
-module _ (d : In-Written) where
-  long : max_bytes ≤ length d.args.buffer.now
-  long = omega (arith, d.if-buffer-lt-MAX_BYTES.false)
+-- the lines decide
+lines : (d : After-new-lines) → read_text d.args.text.now ≡ by_lines (length d.args.text.now) (lines_left d.new-lines.result)
+lines d = text_lines d.args.text.now ∙ ap (by_lines (length d.args.text.now)) (sym d.new-lines.ensures)
 
-  abbrev kept : List ℕ
-  kept = d.read_text.new.kept
+-- behind the p line the words do
+module _ (d : In_ok-p) where
+  abbrev n : ℕ
+  n = d.in_ok-p.p.variables
 
-  got : IsRead d.args.text.now d.args.buffer.now long kept d.in-Written.n
-  got = is_read _ _ long _ _ _ d.in-Written.is d.read_text.ensures
+  opened : Opened (length d.args.text.now) (lines_left d.new-lines.result) (lines_left d.read_p_line.new.lines) d.in_ok-p.p
+  opened = d.in_ok-p.ensures
 
-  inside : d.in-Written.n ≤ length kept
-  inside = omega (arith, got.all, got.fits, d.read_text.auto.kept)
+  words : read_text d.args.text.now ≡ closing (length d.args.text.now) n opened.fourth (take_words n (all_words (lines_left d.read_p_line.new.lines)) progress_start)
+  words = lines (goal.at.In_ok-p d).After-new-lines ∙ opened.reads
+
+-- behind the words what is open
+module _ (d : In_ok-take_lines) where
+  abbrev before : In_ok-p
+  before = (goal.at.In_ok-take_lines d).In_ok-p
+
+  stands : Stands (n before) (take_words (n before) (all_words (lines_left d.read_p_line.new.lines)) progress_start) d.take_lines.new.self
+  stands = d.in_ok-take_lines.ensures (n before) progress_start d.new-reader.ensures
+
+  closes : read_text d.args.text.now ≡ closing (length d.args.text.now) (n before) (opened before).fourth (next stands.progress)
+  closes = words before ∙ ap (closing (length d.args.text.now) (n before) (opened before).fourth) stands.taken
+
+-- all is kept
+module _ (d : In_ok-close) where
+  abbrev behind : In_ok-take_lines
+  behind = (goal.at.In_ok-close d).In_ok-take_lines
+
+  kept : Kept (closing (length d.args.text.now) (n (before behind)) (opened (before behind)).fourth (next (stands behind).progress)) d.close.new.self
+  kept =
+      let o = opened (before behind) in
+      let s = stands behind in
+      d.in_ok-close.ensures (n (before behind)) s.progress o.third o.fourth s.keeps o.numbers
 
 pub returns-then-buffer-lt-MAX_BYTES : goal.returns-then-buffer-lt-MAX_BYTES
 returns-then-buffer-lt-MAX_BYTES c = let a = c.args in encoded_short a.text.now a.buffer.now c.if-buffer-lt-MAX_BYTES.true
 
-pub slice_bounds-kept-end : goal.slice_bounds-kept-end
-slice_bounds-kept-end c = inside (goal.at.slice_bounds-kept-end c).In-Written
+pub returns-in_err-p : goal.returns-in_err-p
+returns-in_err-p c =
+    let d = (goal.at.returns-in_err-p c).After-new-lines in
+    let p = err_from_is_err_and c.from_residual.result c.from_residual.ensures.1 in
+    rw (p.1, p.2) (encoded_refused c.args.text.now c.args.buffer.now (omega arith) _ (lines d ∙ c.in_err-p.ensures))
 
-pub slice_bounds-put_word-end : goal.slice_bounds-put_word-end
-slice_bounds-put_word-end c =
-    let d = (goal.at.slice_bounds-put_word-end c).In-Written in
-    sym (length-take-le c.in-Written.n (kept d) (inside d))
+pub returns-in_err-take_lines : goal.returns-in_err-take_lines
+returns-in_err-take_lines c =
+    let d = (goal.at.returns-in_err-take_lines c).In_ok-p in
+    let p = err_from_is_err_and c.from_residual-in_err-take_lines.result c.from_residual-in_err-take_lines.ensures.1 in
+    rw (p.1, p.2)
+    (encoded_refused c.args.text.now c.args.buffer.now (omega arith) _
+    (words d ∙ ap (closing (length c.args.text.now) (n d) (opened d).fourth) (c.in_err-take_lines.ensures (n d) progress_start c.new-reader.ensures)))
+
+pub close-requires : goal.close-requires
+close-requires c = stands_ready (stands (goal.at.close-requires c).In_ok-take_lines)
+
+pub returns-in_err-close : goal.returns-in_err-close
+returns-in_err-close c =
+    let d = (goal.at.returns-in_err-close c).In_ok-take_lines in
+    let o = opened (before d) in
+    let s = stands d in
+    let p = err_from_is_err_and c.from_residual-in_err-close.result c.from_residual-in_err-close.ensures.1 in
+    rw (p.1, p.2)
+    (encoded_refused c.args.text.now c.args.buffer.now (omega arith) _
+    (closes d ∙ c.in_err-close.ensures (n (before d)) s.progress o.third o.fourth s.keeps o.numbers))
+
+pub bytes-requires : goal.bytes-requires
+bytes-requires c =
+    let k = kept (goal.at.bytes-requires c).In_ok-close in
+    omega (arith, k.holds.long, formula_le k.sized)
 
 pub put_word-requires : goal.put_word-requires
 put_word-requires c =
-    let d = (goal.at.put_word-requires c).In-Written in
-    let h = got d in
-    let l = length-take-le c.in-Written.n (kept d) (inside d) in
-    omega (arith, l, h.all, h.fits, long d)
+    let k = kept (goal.at.put_word-requires c).In_ok-close in
+    rw (c.bytes.ensures, k.holds.starts) (omega (arith, formula_le k.sized))
 
-pub returns-in-Written : goal.returns-in-Written
-returns-in-Written c =
-    let d = (goal.at.returns-in-Written c).In-Written in
-    encoded_written _ _ (long d) (kept d) _ _ _ (got d) c.put_word.ensures
-
-pub returns-in-Refused : goal.returns-in-Refused
-returns-in-Refused c = let s = c.args in encoded_refused s.text.now s.buffer.now (omega (arith, c.if-buffer-lt-MAX_BYTES.false)) _ _ _ c.in-Refused.is c.read_text.ensures
+pub returns : goal.returns
+returns c =
+    let k = kept (goal.at.returns c).In_ok-close in
+    encoded_written c.args.text.now c.args.buffer.now (omega arith) k.variables k.clauses _ _ (closes (goal.at.returns c).In_ok-take_lines ∙ k.reads) (rw (c.bytes.ensures, k.holds.starts) at c.put_word.ensures)

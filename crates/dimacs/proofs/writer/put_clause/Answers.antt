@@ -7,7 +7,7 @@ use Rattle.dimacs.proofs.writer.put_clause.Goals as goal
 
 -- how far the line of the clause that stands there is written
 going : (l : At-loop-i)
-    → (Lining l.args.input.now l.requires.rest l.requires.clause l.args.at l.args.buffer.now l.loop-i.buffer l.loop-i.seen l.loop-i.i l.loop-i.next)
+    → (Lining l.args.input.now l.requires.rest l.requires.clause l.args.place.at l.args.buffer.now l.loop-i.buffer l.loop-i.line.seen l.loop-i.i l.loop-i.line.at)
 going l = let v = l.requires in l.loop-i.invariant v.clause v.rest v.bytes v.over
 
 -- the literal at i
@@ -18,7 +18,7 @@ literal t =
     ahead _ _ t.loop-i.i (going d).left (going d).bytes t.loop-i-test.true
 
 pub loop-i-init : goal.loop-i-init
-loop-i-init c = λ w rest e o. let a = c.args in lining_first a.input.now rest a.from w a.at a.buffer.now e o
+loop-i-init c = λ w rest e o. let a = c.args in lining_first a.input.now rest a.place.from w a.place.at a.buffer.now e o
 
 pub bounds-input-i : goal.bounds-input-i
 bounds-input-i c = lining_inside (going (goal.at.bounds-input-i c).At-loop-i)
@@ -36,12 +36,6 @@ pub put_once-line-requires : goal.put_once-line-requires
 put_once-line-requires c =
     literal_room (going (goal.at.put_once-line-requires c).At-loop-i) (literal (goal.at.put_once-line-requires c).In-loop-i) c.requires.room
 
-pub overflow_add-i-in-loop-i : goal.overflow_add-i-in-loop-i
-overflow_add-i-in-loop-i c = omega (arith, (literal (goal.at.overflow_add-i-in-loop-i c).In-loop-i).inside)
-
-pub loop-i-smaller : goal.loop-i-smaller
-loop-i-smaller c = omega (arith, (literal (goal.at.loop-i-smaller c).In-loop-i).inside)
-
 pub loop-i-preserved : goal.loop-i-preserved
 loop-i-preserved c =
     let r = c.requires.room in
@@ -50,19 +44,11 @@ loop-i-preserved c =
     rw c.put_once-line.ensures.1
     (lining_more g _ _ (ahead _ _ c.loop-i.i g.left g.bytes c.loop-i-test.true) (omega arith) c.put_once-line.ensures.0)
 
-pub put_word-behind-requires : goal.put_word-behind-requires
-put_word-behind-requires c =
-    end_room (going (goal.at.put_word-behind-requires c).At-loop-i) c.loop-i-test.false c.requires.room
-
-pub overflow_add-result : goal.overflow_add-result
-overflow_add-result c = omega (arith, lining_inside (going (goal.at.overflow_add-result c).At-loop-i))
-
-pub shape_of-buffer : goal.shape_of-buffer
-shape_of-buffer c =
-    let r = c.requires.room in
-    wrote_length r (lining_last (going (goal.at.shape_of-buffer c).At-loop-i) _ _ c.loop-i-test.false (omega arith) c.put_word-behind.ensures).0
+pub put_word-requires : goal.put_word-requires
+put_word-requires c =
+    end_room (going (goal.at.put_word-requires c).At-loop-i) c.loop-i-test.false c.requires.room
 
 pub returns : goal.returns
 returns c =
     let r = c.requires.room in
-    λ w rest d o. lining_last (c.loop-i.invariant w rest d o) _ _ c.loop-i-test.false (omega arith) c.put_word-behind.ensures
+    λ w rest d o. lining_last (c.loop-i.invariant w rest d o) _ _ c.loop-i-test.false (omega arith) c.put_word.ensures

@@ -9,8 +9,8 @@ use Rattle.dimacs.proofs.LineLaws.{Lining}
 use Rattle.dimacs.proofs.writer.put_clause.Given as goal
 
 abbrev pub invariant-loop-i : goal.invariant-loop-i
-invariant-loop-i l = (w : List Literal) (rest : List ℕ) → drop l.from l.input ≡ clause_bytes w ++ rest → WrittenOver max_variables w
-    → Lining l.input rest w l.at l.initial.buffer l.buffer l.seen l.i l.next
+invariant-loop-i l = (w : List Literal) (rest : List ℕ) → drop l.fn.place.from l.input ≡ clause_bytes w ++ rest → WrittenOver max_variables w
+    → Lining l.input rest w l.fn.place.at l.initial.buffer l.buffer l.line.seen l.i l.line.at
 
 abbrev pub decreases-loop-i : goal.decreases-loop-i
 decreases-loop-i l = length l.input - l.i

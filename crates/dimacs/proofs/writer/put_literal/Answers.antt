@@ -7,17 +7,8 @@ use Rattle.writing.proofs.PlacedLaws.{wrote_more}
 use Rattle.dimacs.proofs.LineLaws.{text_sum}
 use Rattle.dimacs.proofs.writer.put_literal.Goals as goal
 
-pub put_sign-digits-requires : goal.put_sign-digits-requires
-put_sign-digits-requires c = let a = c.args in omega (arith, text_sum a.sign a.k)
-
-pub put_decimal-blank-requires : goal.put_decimal-blank-requires
-put_decimal-blank-requires c = let a = c.args in omega (arith, text_sum a.sign a.k)
-
-pub put_byte-requires : goal.put_byte-requires
-put_byte-requires c = let a = c.args in omega (arith, text_sum a.sign a.k)
-
 pub returns : goal.returns
 returns c =
     let h : c.args.at ≤ length c.args.buffer.now = omega arith in
     simp append_assoc at
-    (wrote_more h (wrote_more h c.put_sign-digits.ensures c.put_decimal-blank.ensures) c.put_byte.ensures)
+    (wrote_more h (wrote_more h c.put_sign-digits.ensures (rw c.from.ensures at c.put_decimal-blank.ensures)) c.put_byte.ensures)

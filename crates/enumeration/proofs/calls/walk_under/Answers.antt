@@ -1,62 +1,54 @@
 -- `walk_under` meets its contract: a call begins where `enter` says, or is refused.
-use mathlib.Core.List.{List}
-use mathlib.Core.Path.{sym, ap, ◌∙◌}
-use native.Mathlib.Omega.{arith}
+use Rattle.std.proofs.Common.{List, sym, ◌∙◌, arith}
+use Rattle.std.proofs.lemmas.Result.{err_from_is_err_and}
 use Rattle.assumptions.specs.declared.Assumption.{Assumption}
 use Rattle.assumptions.specs.InnerAssumed.{MasksOf}
-use Rattle.matched.proofs.AcceptLaws.{decides}
-use Rattle.enumeration.specs.InnerScope.{scope_under}
+use Rattle.enumeration.specs.InnerEnter.{WalkedAs, Begun}
 use Rattle.enumeration.specs.Values.{checkpoint_values}
-use Rattle.enumeration.specs.InnerEnter.{Walkable, Begun, Enters}
-use Rattle.enumeration.proofs.ScopeLaws.{decoded_few}
-use Rattle.enumeration.proofs.EnterLaws.{decides_walkable}
-use Rattle.enumeration.proofs.calls.walk_under.Goals.{After-enter-e, After-scope_of-z, In-Accepted}
+use Rattle.enumeration.proofs.EnterLaws.{accepted_walked, declined_calls}
+use Rattle.enumeration.proofs.calls.walk_under.Goals.{After-new-task, In_ok-state}
 use Rattle.enumeration.proofs.calls.walk_under.Goals as goal
 
-abbrev under : After-enter-e → List Assumption → Type 0
-under e us = MasksOf e.args.input.now us e.args.u
+-- the input is walked as the task
+walked : (c : After-new-task) (us : List Assumption) → MasksOf c.args.input.now us c.args.u
+    → WalkedAs c.args.input.now us c.new-task.result.formula c.new-task.result.scope
+walked c us g = rw c.new-task.ensures (accepted_walked _ us c.in_ok-a.a (sym (c.in_ok-a.ensures us g)))
 
--- what comes of the input
-abbrev walkable : (c : After-scope_of-z) (us : List Assumption) → MasksOf c.args.input.now us c.args.u
-    → Walkable c.args.input.now us c.accept-row.result.outcome c.decode-d.result.formula c.scope_of-z.result
-walkable c us g =
-    decides_walkable _ us _ g _ _ (c.scope_of-z.ensures ∙ ap (scope_under c.decode-d.result.formula) c.assigned_by.ensures) _
-    (decides _ us _ _ (c.accept-row.ensures _ us c.decode-d.ensures g))
+-- and the call begins in its walk
+begun : (c : In_ok-state) (us : List Assumption) → (MasksOf c.args.input.now us c.args.u
+    → Begun c.args.input.now us c.new-task.result.formula c.new-task.result.scope (checkpoint_values c.args.checkpoint) c.in_ok-state.state)
+begun c us g = (c.enter.ensures _ us (walked (goal.at.In_ok-state c).After-new-task us g)).begun _ c.in_ok-state.was
 
--- where the call begins
-abbrev entered : (e : After-enter-e) (us : List Assumption) → under e us
-    → Enters e.args.input.now us e.decode-d.result.formula e.scope_of-z.result (checkpoint_values e.args.checkpoint) e.enter-e.result
-entered e us g = e.enter-e.ensures _ us (walkable (goal.at.After-enter-e e).After-scope_of-z us g)
+pub returns-in_err-a : goal.returns-in_err-a
+returns-in_err-a c us g =
+    let p = err_from_is_err_and c.from_residual.result c.from_residual.ensures.1 in
+    rw (p.1, p.2) (sym (declined_calls _ us _ (sym (c.in_err-a.ensures us g)) _ _))
 
-abbrev begun : (c : In-Accepted) (us : List Assumption) → under (goal.at.In-Accepted c).After-enter-e us
-    → (Begun c.args.input.now us c.decode-d.result.formula c.scope_of-z.result (checkpoint_values c.args.checkpoint) c.enter-e.result)
-begun c us g = (entered (goal.at.In-Accepted c).After-enter-e us g).begun c.in-Accepted.is
+pub new-task-requires : goal.new-task-requires
+new-task-requires c = let p = c.requires in (accepted_walked _ p.0 c.in_ok-a.a (sym (c.in_ok-a.ensures p.0 p.1))).fits.few
 
--- under some list of assumptions
-abbrev begun_some : (c : In-Accepted)
-    → (Begun c.args.input.now c.requires.0 c.decode-d.result.formula c.scope_of-z.result (checkpoint_values c.args.checkpoint) c.enter-e.result)
-begun_some c = let p = c.requires in begun c p.0 p.1
+pub enter-requires : goal.enter-requires
+enter-requires c = let p = c.requires in (_, p.0, walked (goal.at.enter-requires c).After-new-task p.0 p.1)
 
-pub scope_of-z-requires : goal.scope_of-z-requires
-scope_of-z-requires c = decoded_few _ _ c.decode-d.ensures
+pub returns-in_err-state : goal.returns-in_err-state
+returns-in_err-state c us g =
+    let p = err_from_is_err_and c.from_residual-in_err-state.result c.from_residual-in_err-state.ensures.1 in
+    rw (p.1, p.2) (sym ((c.enter.ensures _ us (walked (goal.at.returns-in_err-state c).After-new-task us g)).refused _ c.in_err-state.was _))
 
-pub enter-e-requires : goal.enter-e-requires
-enter-e-requires c = let p = c.requires in (_, p.0, walkable c p.0 p.1)
+pub go_on-requires : goal.go_on-requires
+go_on-requires c =
+    let p = c.requires in
+    let b = begun (goal.at.go_on-requires c).In_ok-state p.0 p.1 in
+    (b.fits, record { tree = b.tree; follows = b.follows; holds = b.holds })
 
-pub go_on-r-requires : goal.go_on-r-requires
-go_on-r-requires c = let b = begun_some (goal.at.go_on-r-requires c).In-Accepted in (b.fits, record { tree = b.tree; follows = b.follows; holds = b.holds })
-
-pub tell-requires : goal.tell-requires
-tell-requires c =
-    let b = begun_some (goal.at.tell-requires c).In-Accepted in
-    let r = c.go_on-r.ensures b.tree b.follows b.holds in
+pub told-requires : goal.told-requires
+told-requires c =
+    let p = c.requires in
+    let b = begun (goal.at.told-requires c).In_ok-state p.0 p.1 in
+    let r = c.go_on.ensures b.tree b.follows b.holds in
     omega (arith, r.holds.short, r.holds.room)
 
-pub returns-in-Refused : goal.returns-in-Refused
-returns-in-Refused c = λ us g.
-    c.refuse.ensures ∙ sym ((entered (goal.at.returns-in-Refused c).After-enter-e us g).refused c.in-Refused.refusal c.in-Refused.is _)
-
-pub returns-in-Accepted : goal.returns-in-Accepted
-returns-in-Accepted c = λ us g.
-    let b = begun (goal.at.returns-in-Accepted c).In-Accepted us g in
-    c.tell.ensures b.tree _ (c.go_on-r.ensures b.tree b.follows b.holds) ∙ sym (b.calls _)
+pub returns : goal.returns
+returns c us g =
+    let b = begun (goal.at.returns c).In_ok-state us g in
+    c.told.ensures b.tree _ (c.go_on.ensures b.tree b.follows b.holds) ∙ sym (b.calls _)

@@ -12,5 +12,5 @@ put_byte-requires c = omega (arith, blanks-length (line_size - 1))
 pub returns : goal.returns
 unfolding blank_line
 returns c =
-    let h = lent_puts c.new-w.ensures (puts_more c.put_blanks.ensures c.put_byte.ensures) in
+    let h = lent_puts c.at_line-w.ensures (puts_more c.put_blanks.ensures c.put_byte.ensures) in
     grind arith

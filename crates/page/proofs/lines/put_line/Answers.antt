@@ -42,5 +42,5 @@ pub returns : goal.returns
 unfolding page_line
 returns c =
     let columns = puts_more c.put_columns.ensures c.put_blanks.ensures in
-    let h = lent_puts c.new-w.ensures (puts_more c.put_right.ensures (puts_more c.put_byte.ensures (puts_more columns (puts_more c.put_byte-2.ensures (puts_more c.put_right-2.ensures c.put_byte-3.ensures))))) in
+    let h = lent_puts c.at_line-w.ensures (puts_more c.put_right.ensures (puts_more c.put_byte.ensures (puts_more columns (puts_more c.put_byte-2.ensures (puts_more c.put_right-2.ensures c.put_byte-3.ensures))))) in
     grind arith

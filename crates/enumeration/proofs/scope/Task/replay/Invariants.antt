@@ -1,14 +1,10 @@
--- `enumeration::replay` meets its contract. The invariant: the state is the node of the first i bytes.
-use Prim.Native.Nat.{◌-◌, ◌≤◌}
-use lib.ListN.{take}
+-- `replay` meets its contract. The invariant: the state is the node of the bytes so far.
+use Rattle.std.proofs.Common.{take}
 use Rattle.walk.specs.InnerStack.{empty, Tree}
 use Rattle.walk.specs.InnerTest.{pushed}
 use Rattle.enumeration.specs.InnerState.{Follows}
 use Rattle.enumeration.specs.InnerRead.{Node}
-use Rattle.enumeration.proofs.reading.replay.Given as goal
+use Rattle.enumeration.proofs.scope.Task.replay.Given as goal
 
-abbrev pub invariant-loop-i : goal.invariant-loop-i
-invariant-loop-i l = (l.i ≤ l.length) × ((K : Tree) → Follows l.f l.z K → Node K (pushed empty (take l.i l.bytes)) l.s)
-
-abbrev pub decreases-loop-i : goal.decreases-loop-i
-decreases-loop-i l = l.length - l.i
+abbrev pub invariant-loop-b : goal.invariant-loop-b
+invariant-loop-b l = (K : Tree) → Follows l.self.formula l.self.scope K → Node K (pushed empty (take l.b-index l.b-items)) l.s

@@ -1,20 +1,18 @@
--- `enumeration::root` meets its contract: nothing is on the trail.
+-- `root` meets its contract: nothing is on the trail.
+use Rattle.std.proofs.Common.{refl, sym, ◌∙◌, arith}
 use mathlib.Core.Bool.{false≢true}
-use mathlib.Core.Path.{refl, sym, ◌∙◌}
-use native.Mathlib.Omega.{arith}
 use Rattle.lists.specs.Padded.{padded}
 use Rattle.masks.proofs.BitLaws.{bit-none}
 use Rattle.splitting.specs.InnerChoose.{assign_all}
 use Rattle.walk.specs.InnerStack.{trail_of}
 use Rattle.walk.specs.InnerTest.{pushed, replays}
-use Rattle.enumeration.proofs.state.root.Goals as goal
+use Rattle.enumeration.proofs.scope.Task.root.Goals as goal
 
 pub returns : goal.returns
 unfolding padded assign_all trail_of pushed replays
 returns c = λ K small before.
     record {
       holds = record {
-        place = omega arith;
         room = small;
         short = omega arith;
         deep = refl;
@@ -23,8 +21,8 @@ returns c = λ K small before.
         replayed = refl;
         opens = tt;
         clears = λ e. absurd (false≢true (sym (bit-none 0) ∙ e));
-        at_full = λ e. absurd (omega arith);
-        at_back = λ e. absurd (omega arith);
+        at_full = λ e. cc e;
+        at_back = λ e. cc e;
         at_over = λ e. refl;
       };
       stack = refl;

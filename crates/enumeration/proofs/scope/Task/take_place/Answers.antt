@@ -1,15 +1,19 @@
--- `enumeration::take_place` meets its contract: by the mode.
-use Rattle.enumeration.proofs.PlaceLaws.{taken_start, taken_model, taken_assigned, taken_end}
-use Rattle.enumeration.proofs.reading.take_place.Goals as goal
+-- `take_place` meets its contract: by the mode.
+use Rattle.std.proofs.Common.{arith}
+use Rattle.enumeration.proofs.PlaceLaws.{taken_start, taken_end, taken_model, taken_assigned, taken_root_none}
+use Rattle.enumeration.proofs.scope.Task.take_place.Goals as goal
 
-pub returns-then-mode-eq0 : goal.returns-then-mode-eq0
-returns-then-mode-eq0 c = λ K F n. taken_start _ _ K F _ n _ c.if-mode-eq0.true
+pub returns-in-0 : goal.returns-in-0
+returns-in-0 c = λ K F n. rw c.at_root.ensures (taken_start _ _ K F _ n _ c.in-0.is)
 
-pub returns-then-s-z : goal.returns-then-s-z
-returns-then-s-z c = λ K F n. taken_model _ _ K F _ n _ c.if-mode-eq1.true c.if-s-z.true _ c.placed.ensures
+pub returns-then-s-self : goal.returns-then-s-self
+returns-then-s-self c = λ K F n. taken_model _ _ K F _ n _ c.in-1.is c.if-s-self.true
 
-pub returns-then-mode-eq1 : goal.returns-then-mode-eq1
-returns-then-mode-eq1 c = λ K F n. taken_assigned _ _ K F _ n _ c.if-mode-eq1.true c.if-s-z.false
+pub returns-then-s-ne0 : goal.returns-then-s-ne0
+returns-then-s-ne0 c = λ K F n. taken_assigned _ _ K F _ n _ c.in-1.is c.if-s-self.false c.if-s-ne0.true
 
-pub returns : goal.returns
-returns c = λ K F n. taken_end _ _ K F _ n _ c.if-mode-eq0.false c.if-mode-eq1.false c.if-mode-eq2.false c.if-mode-eq3.false _ c.placed-2.ensures
+pub returns-else-s-ne0 : goal.returns-else-s-ne0
+returns-else-s-ne0 c = λ K F n. taken_root_none _ _ K F _ n _ c.in-1.is c.if-s-self.false c.if-s-ne0.false
+
+pub returns-in_default : goal.returns-in_default
+returns-in_default c = λ K F n. rw c.at_root-in_default.ensures (taken_end _ _ K F _ n _ (omega arith))

@@ -3,7 +3,7 @@ use native.Mathlib.Omega.{arith}
 use mathlib.Core.Path.{◌≡◌, refl, sym, ◌∙◌}
 use Rattle.lists.specs.Tabulated.{tabulated}
 use Rattle.splitting.specs.InnerChoose.{clauses_of, open_clauses}
-use Rattle.splitting.proofs.OpenClauseLaws.{clause_read, clause_kept, formula_held, open_gone, keep_more}
+use Rattle.splitting.proofs.OpenClauseLaws.{clause_read, formula_held, open_gone, open_more}
 use Rattle.splitting.proofs.clauses.Clauses.compact.Goals.{then-not-satisfies, else-not-satisfies}
 use Rattle.splitting.proofs.clauses.Clauses.compact.Goals as goal
 
@@ -16,16 +16,14 @@ loop-i-preserved c =
     let s = c.args.self.now in
     let cs = clauses_of s in
     let a = c.args.a in
-    let p = c.loop-i.self.positives in
-    let q = c.loop-i.self.negatives in
     let at = clause_read s.positives s.negatives s.count c.loop-i.i (omega arith) ∙ sym (c.loop-i.invariant.2 c.loop-i.i (omega arith)) ∙ sym c.clause-c.ensures in
     elim c.if-not-satisfies.branch [
       | then-not-satisfies w ↦ (
         omega arith,
-        rw (w.self-is, w.kept-is, w.left-l.ensures)
-            (keep_more cs a c.loop-i.i c.clause-c.result at p q c.loop-i.kept (sym c.satisfies.ensures ∙ w.if-not-satisfies.true)
-            (omega arith) (omega arith) c.loop-i.invariant.1),
-        λ j m. rw w.self-is (clause_kept p q c.loop-i.kept _ _ j (omega arith) ∙ c.loop-i.invariant.2 j (omega arith)),
+        rw (w.self-is, w.kept-is)
+            (w.put.ensures.written
+            ∙ rw (c.loop-i.invariant.1, w.left.ensures, open_more cs a c.loop-i.i c.clause-c.result at (sym c.satisfies.ensures ∙ w.if-not-satisfies.true))),
+        λ j m. rw w.self-is (w.put.ensures.kept j (omega arith) ∙ c.loop-i.invariant.2 j (omega arith)),
       )
       | else-not-satisfies w ↦ (
         omega arith,

@@ -1,6 +1,6 @@
 -- `count_names` counts how many clauses name each variable.
 use native.Mathlib.Omega.{arith}
-use mathlib.Core.Path.{◌≡◌, sym, ◌∙◌}
+use mathlib.Core.Path.{sym, ◌∙◌}
 use Rattle.lists.specs.Tabulated.{tabulated}
 use Rattle.lists.proofs.TabulatedLaws.{length_tabulated}
 use Rattle.splitting.specs.InnerChoose.{clause_in, clauses_in, occurrences_in}
@@ -20,4 +20,4 @@ with-counts-requires c v =
 
 pub loop-i-preserved : goal.loop-i-preserved
 loop-i-preserved c v =
-    c.with-counts.ensures v ∙ rw (c.loop-i.invariant v) (sym (occurrences_next c.args.self.now.positives c.args.self.now.negatives c.loop-i.i v))
+    c.with-counts.ensures v ∙ rw (c.variables.ensures, c.clause.ensures, c.loop-i.invariant v) (sym (occurrences_next c.args.self.now.positives c.args.self.now.negatives c.loop-i.i v))

@@ -7,17 +7,13 @@ use borrow.Author.Rules.{rules}
 use lib.ListN.{length}
 use Rattle.masks.specs.InnerMask.{without}
 use Rattle.masks.proofs.BitLaws.{minus_lt, bit_below}
-use Rattle.formula.specs.declared.Formula.{Formula}
 use Rattle.splitting.specs.Choosing.{by_count}
 use Rattle.formula.specs.InnerAssignment.{unassigned}
 use Rattle.splitting.specs.InnerChoose.{passing, formula_in, count_at, max_count}
+use Rattle.splitting.proofs.CompactLaws.{small_in}
 use Rattle.splitting.proofs.MaskTrialLaws.{Lists, lists_first, lists_none, lists_counted, counted_few, without_fewer, passing_found, passing_more, passing-none, trial_cost}
-use Rattle.splitting.proofs.clauses.Clauses.first_passing.Goals.{After-busiest-v, After-try_variable-t, At-loop-rest, Start}
+use Rattle.splitting.proofs.clauses.Clauses.first_passing.Goals.{After-busiest-v, After-try_variable-t, At-loop-rest}
 use Rattle.splitting.proofs.clauses.Clauses.first_passing.Goals as goal
-
--- the formula of the arrays
-abbrev held : Start → Formula
-held c = formula_in c.args.self.now
 
 -- the list of what is left, and without its first
 abbrev left : At-loop-rest → List ℕ
@@ -35,18 +31,15 @@ below c =
 
 cost : (c : After-try_variable-t) → c.try_variable-t.result.cost ≤ 9312
 cost c =
-    trial_cost (held (goal.at.After-try_variable-t c).Start) unassigned c.busiest-v.result c.try_variable-t.result c.try_variable-t.ensures c.requires
+    trial_cost (formula_in c.args.self.now) unassigned c.busiest-v.result c.try_variable-t.result c.try_variable-t.ensures (small_in c.args.self.now)
 
 pub loop-rest-init : goal.loop-rest-init
 loop-rest-init c =
     let n = c.args.counts in
     (search rules, (by_count (count_at n) 64 max_count, lists_counted n c.counted-rest.result (search rules) c.counted-rest.ensures, refl, omega (arith, counted_few n)))
 
-pub busiest-v-requires : goal.busiest-v-requires
-busiest-v-requires c = c.loop-rest-test.true
-
 pub try_variable-t-requires : goal.try_variable-t-requires
-try_variable-t-requires c = (c.requires, below c)
+try_variable-t-requires c = below c
 
 pub overflow_add-cost : goal.overflow_add-cost
 overflow_add-cost c =
@@ -54,7 +47,7 @@ overflow_add-cost c =
 
 pub returns-then-t : goal.returns-then-t
 returns-then-t c =
-    let f = held (goal.at.returns-then-t c).Start in
+    let f = formula_in c.args.self.now in
     let l = (goal.at.returns-then-t c).At-loop-rest in
     let b = behind (goal.at.returns-then-t c).After-busiest-v in
     c.both_open.ensures
@@ -71,7 +64,7 @@ loop-rest-smaller c =
 
 pub loop-rest-preserved : goal.loop-rest-preserved
 loop-rest-preserved c =
-    let f = held (goal.at.loop-rest-preserved c).Start in
+    let f = formula_in c.args.self.now in
     let l = (goal.at.loop-rest-preserved c).At-loop-rest in
     let b = behind (goal.at.loop-rest-preserved c).After-busiest-v in (
       rw c.without-rest.ensures (minus_lt 64 c.loop-rest.rest (2 ^ c.busiest-v.result) c.loop-rest.invariant.0),
@@ -87,7 +80,7 @@ loop-rest-preserved c =
 
 pub returns : goal.returns
 returns c =
-    let f = held (goal.at.returns c).Start in
+    let f = formula_in c.args.self.now in
     let l = (goal.at.returns c).At-loop-rest in
     let none : left l ≡ [] = lists_none (count_at c.args.counts) (left l) c.loop-rest.rest c.loop-rest.invariant.1.1 c.loop-rest-test.false in
     c.both_open-2.ensures ∙ sym (passing-none f unassigned c.loop-rest.cost)

@@ -1,7 +1,6 @@
 -- `gather` writes what each clause of the node names.
 use native.Mathlib.Omega.{arith}
-use mathlib.Core.Path.{◌≡◌, refl, sym, ap, ◌∙◌}
-use Rattle.formula.specs.InnerFits.{clause_variables}
+use mathlib.Core.Path.{refl, sym, ◌∙◌}
 use Rattle.splitting.specs.InnerChoose.{clauses_of, open_clauses}
 use Rattle.splitting.proofs.OpenClauseLaws.{clause_read, open_gone, gather_more}
 use Rattle.splitting.proofs.clauses.Clauses.gather.Goals.{then-not-satisfies, else-not-satisfies}

@@ -1,6 +1,6 @@
 -- `has_empty` tells whether a clause of the node is empty.
 use native.Mathlib.Omega.{arith}
-use mathlib.Core.Path.{◌≡◌, refl, sym, ap, ◌∙◌}
+use mathlib.Core.Path.{refl, sym, ap, ◌∙◌}
 use Rattle.formula.specs.InnerFits.{clause_variables}
 use Rattle.splitting.specs.InnerChoose.{clauses_of, open_clauses, some_empty}
 use Rattle.splitting.proofs.OpenClauseLaws.{clause_read, open_gone, empty_found, empty_passed}

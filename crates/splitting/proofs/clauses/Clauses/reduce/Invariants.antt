@@ -7,6 +7,6 @@ use Rattle.splitting.specs.InnerChoose.{node, clauses_of, formula_in, survey_of,
 use Rattle.splitting.proofs.clauses.Clauses.reduce.Given as goal
 
 abbrev pub invariant-loop : goal.invariant-loop
-invariant-loop l = (clauses_of l.left ≡ node (formula_in l.self) l.r.assignment)
+invariant-loop l = (clauses_of l.copy ≡ node (formula_in l.self) l.r.assignment)
     × (l.r.survey ≡ survey_of (node (formula_in l.self) l.r.assignment))
     × (reduce_from (l.variables - l.counter) (formula_in l.self) l.r.assignment l.r.noted l.r.last ≡ reduce_from l.variables (formula_in l.self) unassigned 0 0)

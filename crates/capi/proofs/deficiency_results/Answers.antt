@@ -1,9 +1,0 @@
--- `deficiency_results`: by the cases of the answer.
-use Rattle.capi.proofs.ResultsLaws.{refused_code}
-use Rattle.capi.proofs.deficiency_results.Goals as goal
-
-pub returns-in-Deficiency : goal.returns-in-Deficiency
-returns-in-Deficiency c = rw (c.in-Deficiency.is, c.plain_results.ensures)
-
-pub returns-in-Refused : goal.returns-in-Refused
-returns-in-Refused c = rw (c.in-Refused.is, c.refusal_results.ensures, refused_code)

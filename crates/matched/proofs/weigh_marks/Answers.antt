@@ -1,0 +1,6 @@
+-- `matched::weigh_marks` meets its contract: no more variables are stated than there can be, and `weigh_marks_under` does the rest.
+use Rattle.assumptions.proofs.StatedLaws.{stated_le}
+use Rattle.matched.proofs.weigh_marks.Goals as goal
+
+pub read_assumptions-u-requires : goal.read_assumptions-u-requires
+read_assumptions-u-requires c = rw c.stated.ensures (stated_le c.args.input.now)
