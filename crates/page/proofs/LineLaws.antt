@@ -48,4 +48,3 @@ page_line-length serial n mask a steps hs hn ht =
 pub blank-length : length blank_line ≡ line_size
 unfolding blank_line
 blank-length = length-append (blanks (line_size - 1)) (line_feed ∷ []) ∙ (let b = blanks-length (line_size - 1) in omega arith)
-

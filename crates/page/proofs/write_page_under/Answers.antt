@@ -33,8 +33,8 @@ pub returns-then-serial-eq0 : goal.returns-then-serial-eq0
 returns-then-serial-eq0 c us g =
     bad_refused _ us (checkpoint_values c.args.checkpoint) c.args.serial c.args.page.now c.if-page-lt-PAGE_SIZE.false
     (elim c.then-serial-eq0.branch [
-      then-serial-eq0-via-then-serial-eq0 w ↦ inl w.if-serial-eq0.true
-    | then-serial-eq0-via-else-serial-eq0+then-serial-gt-MAX_SERIAL w ↦ inr w.if-serial-gt-MAX_SERIAL.true
+      | then-serial-eq0-via-then-serial-eq0 w ↦ inl w.if-serial-eq0.true
+      | then-serial-eq0-via-else-serial-eq0+then-serial-gt-MAX_SERIAL w ↦ inr w.if-serial-gt-MAX_SERIAL.true
     ])
 
 pub returns-in_err-a : goal.returns-in_err-a
