@@ -2,11 +2,11 @@
 use Prim.Native.Nat.{ℕ, suc, ◌+◌, ◌*◌, ◌-◌, ◌≤◌, ◌<◌}
 use mathlib.Core.Bool.{Bool, true, false, not}
 use mathlib.Core.List.{List, [], ◌∷◌, ◌++◌, append-nil, append_assoc}
-use mathlib.Core.Path.{◌≡◌, refl, sym, ap, subst, ◌∙◌}
+use mathlib.Core.Path.{◌≡◌, refl, sym, ap, ◌∙◌}
 use native.Mathlib.Omega.{arith}
 use borrow.Author.Tests.{le-leb, lt-leb, lt-ltb, le-ltb, eq-eqb, ne_eqb}
 use lib.Dec.{eqb}
-use lib.ListN.{length, take, set, length-append, length-set}
+use lib.ListN.{length, set, length-append, length-set}
 use Rattle.std.proofs.lemmas.List.{take_more_set}
 use Rattle.limits.specs.Limits.{max_variables, max_clauses}
 use Rattle.lists.proofs.TestLaws.{bool_clash}
@@ -17,7 +17,7 @@ use Rattle.formula.specs.Format.{Literal, literal_kind, literal_bytes, literals_
 use Rattle.formula.specs.InnerDecode.{none_yet}
 use Rattle.formula.specs.declared.Clause.{Clause}
 use Rattle.formula.specs.InnerFits.{side, clause_variables}
-use Rattle.formula.specs.InnerMasked.{no_clause, with_literal, with_literals, clause_of}
+use Rattle.formula.specs.InnerMasked.{no_clause, with_literal, with_literals}
 use Rattle.formula.proofs.ClauseLaws.{with_literals-last, clause_side, clause_names, clause_empty}
 use Rattle.formula.proofs.FormatLaws.{literals_append, clauses_append, clause_more}
 use Rattle.formula.proofs.RepeatLaws.{over_none, sized_more}

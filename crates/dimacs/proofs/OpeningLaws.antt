@@ -1,13 +1,13 @@
 -- Laws of the p line.
 use Prim.Native.Nat.{ℕ}
-use mathlib.Core.Bool.{Bool, true, false, cond, not, and-false}
+use mathlib.Core.Bool.{Bool, true, false, not, and-false}
 use mathlib.Core.List.{List, [], ◌∷◌}
-use mathlib.Core.Path.{◌≡◌, refl, sym, ap, ◌∙◌}
+use mathlib.Core.Path.{◌≡◌, refl, sym, ◌∙◌}
 use lib.Dec.{eqb}
 use lib.Pointwise.{pointwise}
 use Rattle.std.specs.Prelude.{Option, Some, None, is_some, MatchOption}
 use Rattle.lists.proofs.TestLaws.{bool_clash}
-use Rattle.dimacs.specs.Text.{Piece, run, value, same, p_word, cnf_word, Opening, p_line, other_line, opening}
+use Rattle.dimacs.specs.Text.{Piece, run, same, p_word, cnf_word, p_line, other_line, opening}
 
 -- ---- words that are compared
 

@@ -1,25 +1,18 @@
 -- The whole text: by its p line, by the words behind it, and as the buffer has it.
-use Prim.Native.Nat.{ℕ, ◌+◌, ◌-◌, ◌≤◌, ◌<◌}
-use mathlib.Core.Bool.{Bool, true, false, and-false}
-use mathlib.Core.List.{List, [], ◌∷◌}
-use mathlib.Core.Path.{◌≡◌, refl, sym, ap, subst, ◌∙◌}
+use Prim.Native.Nat.{ℕ, ◌+◌, ◌≤◌, ◌<◌}
+use mathlib.Core.List.{List}
+use mathlib.Core.Path.{◌≡◌, refl}
 use native.Mathlib.Omega.{arith}
-use borrow.Author.Tests.{lt-ltb, le-ltb, le-leb, lt-leb, ltb-true, ltb-false}
-use lib.Dec.{ltb, leb}
+use borrow.Author.Tests.{lt-ltb, le-ltb}
 use lib.ListN.{length}
-use Rattle.std.specs.Prelude.{Some, None, Ok}
-use Rattle.limits.specs.Limits.{max_variables}
+use Rattle.std.specs.Prelude.{Ok}
 use Rattle.writing.specs.Placed.{Wrote}
 use Rattle.formula.specs.declared.Refusal.{Refusal}
-use Rattle.formula.specs.declared.Refusal.TheVariants.{ShortBuffer, BadVariableCount, BadOpening}
+use Rattle.formula.specs.declared.Refusal.TheVariants.{ShortBuffer}
 use Rattle.formula.specs.Format.{Literal, formula_bytes, max_bytes}
-use Rattle.formula.specs.Decoding.{Decoding, readable, refused}
-use Rattle.dimacs.specs.declared.opening.Numbers.{Numbers}
-use Rattle.dimacs.specs.Text.{Piece, lines, words, others, value, Opening, p_line, other_line, opening, by_opening, by_lines, read_text}
-use Rattle.dimacs.specs.InnerScan.{cap, capped, numbers_of, opening_held}
-use Rattle.dimacs.specs.InnerReader.{Opened}
+use Rattle.formula.specs.Decoding.{readable, refused}
+use Rattle.dimacs.specs.Text.{lines, others, by_lines, read_text}
 use Rattle.dimacs.specs.Convert.{converted_values, declined, to_encoded}
-use Rattle.dimacs.proofs.ScanLaws.{capped_zero, capped_low, capped_back}
 
 -- ---- the act
 

@@ -1,9 +1,8 @@
 -- `read_opening`: word by word.
-use Rattle.std.proofs.Common.{◌≡◌, refl, sym, ap, ◌∙◌}
+use Rattle.std.proofs.Common.{◌≡◌, refl, sym, ◌∙◌}
 use Rattle.std.specs.Prelude.{true}
-use Rattle.dimacs.specs.Text.{opening, words, run, same, p_word, cnf_word}
+use Rattle.dimacs.specs.Text.{opening, same, p_word, cnf_word}
 use Rattle.dimacs.specs.InnerPiece.{piece_of}
-use Rattle.dimacs.specs.InnerScan.{words_left, opening_held}
 use Rattle.dimacs.proofs.OpeningLaws.{word_differs, word_same, opening-first, opening_second, opening_more, words_end, opening_third, opening_fourth, opening_all}
 use Rattle.dimacs.proofs.ScanLaws.{number-none, number-some}
 use Rattle.dimacs.proofs.opening.read_opening.Goals as goal
@@ -34,20 +33,40 @@ returns-in_err-fourth c =
 
 pub returns-then-is_some : goal.returns-then-is_some
 returns-then-is_some c =
-    rw (← c.new-words.ensures, c.in_ok-next.ensures.steps, c.in_ok-next-2.ensures.steps, c.in_ok-third.ensures.steps, c.in_ok-fourth.ensures.steps,
-      opening_more _ _ _ _ _ _ c.next-5.result piece_of (sym c.is_some.ensures ∙ c.if-is_some.true) c.next-5.ensures.steps) refl
+    rw (
+      ← c.new-words.ensures,
+      c.in_ok-next.ensures.steps,
+      c.in_ok-next-2.ensures.steps,
+      c.in_ok-third.ensures.steps,
+      c.in_ok-fourth.ensures.steps,
+      opening_more _ _ _ _ _ _ c.next-5.result piece_of (sym c.is_some.ensures ∙ c.if-is_some.true) c.next-5.ensures.steps,
+    ) refl
 
 pub returns-in_err-number : goal.returns-in_err-number
 returns-in_err-number c =
-    rw (c.from_residual-in_err-number.ensures, ← c.new-words.ensures, c.in_ok-next.ensures.steps, c.in_ok-next-2.ensures.steps, c.in_ok-third.ensures.steps, c.in_ok-fourth.ensures.steps,
+    rw (
+      c.from_residual-in_err-number.ensures,
+      ← c.new-words.ensures,
+      c.in_ok-next.ensures.steps,
+      c.in_ok-next-2.ensures.steps,
+      c.in_ok-third.ensures.steps,
+      c.in_ok-fourth.ensures.steps,
       words_end _ _ c.next-5.result piece_of (sym c.is_some.ensures ∙ c.if-is_some.false) c.next-5.ensures.steps,
-      opening_third _ _ (piece_of c.in_ok-third.third) _ (number-none _ (sym c.number.ensures ∙ c.in_err-number.was))) refl
+      opening_third _ _ (piece_of c.in_ok-third.third) _ (number-none _ (sym c.number.ensures ∙ c.in_err-number.was)),
+    ) refl
 
 pub returns-in_err-number-2 : goal.returns-in_err-number-2
 returns-in_err-number-2 c =
-    rw (c.from_residual-in_err-number-2.ensures, ← c.new-words.ensures, c.in_ok-next.ensures.steps, c.in_ok-next-2.ensures.steps, c.in_ok-third.ensures.steps, c.in_ok-fourth.ensures.steps,
+    rw (
+      c.from_residual-in_err-number-2.ensures,
+      ← c.new-words.ensures,
+      c.in_ok-next.ensures.steps,
+      c.in_ok-next-2.ensures.steps,
+      c.in_ok-third.ensures.steps,
+      c.in_ok-fourth.ensures.steps,
       words_end _ _ c.next-5.result piece_of (sym c.is_some.ensures ∙ c.if-is_some.false) c.next-5.ensures.steps,
-      opening_fourth _ _ _ (piece_of c.in_ok-fourth.fourth) (number-none _ (sym c.number-2.ensures ∙ c.in_err-number-2.was))) refl
+      opening_fourth _ _ _ (piece_of c.in_ok-fourth.fourth) (number-none _ (sym c.number-2.ensures ∙ c.in_err-number-2.was)),
+    ) refl
 
 pub returns : goal.returns
 returns c =
@@ -55,6 +74,14 @@ returns c =
     let q : same c.in_ok-next-2.field-0.bytes.now cnf_word ≡ true = word_same _ _ _ _ c.ne-2.ensures c.if-ne-2.false c.as_slice-2.ensures in
     let m = number-some _ _ (sym c.number.ensures ∙ c.in_ok-number.was) in
     let n = number-some _ _ (sym c.number-2.ensures ∙ c.in_ok-number-2.was) in
-    rw (← c.new-words.ensures, c.in_ok-next.ensures.steps, c.in_ok-next-2.ensures.steps, c.in_ok-third.ensures.steps, c.in_ok-fourth.ensures.steps,
+    rw (
+      ← c.new-words.ensures,
+      c.in_ok-next.ensures.steps,
+      c.in_ok-next-2.ensures.steps,
+      c.in_ok-third.ensures.steps,
+      c.in_ok-fourth.ensures.steps,
       words_end _ _ c.next-5.result piece_of (sym c.is_some.ensures ∙ c.if-is_some.false) c.next-5.ensures.steps,
-      opening_all (piece_of c.in_ok-next.field-0) (piece_of c.in_ok-next-2.field-0) (piece_of c.in_ok-third.third) (piece_of c.in_ok-fourth.fourth) p q m.0 n.0, m.1, n.1) refl
+      opening_all (piece_of c.in_ok-next.field-0) (piece_of c.in_ok-next-2.field-0) (piece_of c.in_ok-third.third) (piece_of c.in_ok-fourth.fourth) p q m.0 n.0,
+      m.1,
+      n.1,
+    ) refl

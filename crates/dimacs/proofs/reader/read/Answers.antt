@@ -1,13 +1,11 @@
 -- `read`: a short buffer, a refusal, or the bytes that were kept.
-use Prim.Native.Nat.{ℕ, ◌≤◌}
-use mathlib.Core.Path.{◌≡◌, refl, sym, ap, ◌∙◌}
+use Prim.Native.Nat.{ℕ}
+use mathlib.Core.Path.{◌≡◌, sym, ap, ◌∙◌}
 use native.Mathlib.Omega.{arith}
-use lib.ListN.{length, take}
-use lib.Seq.{length-take-le}
+use lib.ListN.{length}
 use Rattle.std.proofs.lemmas.Result.{err_from_is_err_and}
-use Rattle.formula.specs.Format.{max_bytes, formula_bytes}
 use Rattle.formula.proofs.LengthLaws.{formula_le}
-use Rattle.dimacs.specs.Text.{read_text, Progress, progress_start, next, all_words, take_words, closing, by_lines}
+use Rattle.dimacs.specs.Text.{read_text, progress_start, next, all_words, take_words, closing, by_lines}
 use Rattle.dimacs.specs.InnerScan.{lines_left}
 use Rattle.dimacs.specs.InnerReader.{Opened, Stands, Kept}
 use Rattle.dimacs.proofs.GoesLaws.{stands_ready}

@@ -1,6 +1,5 @@
 -- `put_clause`: the invariant is that the line is written up to the literals that are left. The measure is the number of bytes that are left.
 use native.Mathlib.Omega.{arith}
-use Rattle.writing.proofs.PlacedLaws.{wrote_length}
 use Rattle.dimacs.proofs.LineLaws.{Ahead, ahead, Lining, lining_first, lining_inside, literal_room, lining_more, end_room, lining_last}
 use Rattle.dimacs.proofs.writer.put_clause.Goals.{At-loop-i, In-loop-i}
 use Rattle.dimacs.proofs.writer.put_clause.Goals as goal

@@ -2,8 +2,7 @@
 use Prim.Native.Nat.{◌+◌, ◌-◌}
 use mathlib.Core.Path.{◌≡◌}
 use native.Mathlib.Omega.{arith}
-use Rattle.writing.proofs.PlacedLaws.{wrote_length}
-use Rattle.dimacs.proofs.LineLaws.{Listing, listing-first, listing_clause, listing_more, listing_last}
+use Rattle.dimacs.proofs.LineLaws.{Listing, listing_clause, listing_more, listing_last}
 use Rattle.dimacs.proofs.writer.put_clauses.Goals.{At-loop}
 use Rattle.dimacs.proofs.writer.put_clauses.Goals as goal
 

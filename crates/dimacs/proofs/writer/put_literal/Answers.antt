@@ -4,7 +4,6 @@ use Prim.Native.Nat.{◌≤◌}
 use mathlib.Core.List.{append_assoc}
 use lib.ListN.{length}
 use Rattle.writing.proofs.PlacedLaws.{wrote_more}
-use Rattle.dimacs.proofs.LineLaws.{text_sum}
 use Rattle.dimacs.proofs.writer.put_literal.Goals as goal
 
 pub returns : goal.returns

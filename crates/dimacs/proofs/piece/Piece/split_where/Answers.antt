@@ -1,5 +1,5 @@
 -- `split_where`: up to where the byte is found.
-use Rattle.std.proofs.Common.{rules, ◌≡◌, ℕ, Bool, length, take, drop, refl, ap, arith, ◌∙◌, ◌≤◌, ◌-◌, length-drop}
+use Rattle.std.proofs.Common.{◌≡◌, length, drop, refl, ap, arith, ◌∙◌, ◌-◌, length-drop}
 use Rattle.std.proofs.Math.Seq.{take_all}
 use Rattle.std.specs.Option.{unwrap_or}
 use Rattle.std.specs.List.{position_or_len}

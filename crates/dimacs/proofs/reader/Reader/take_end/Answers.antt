@@ -1,6 +1,6 @@
 -- `take_end`: a clause too many, or one more.
 use native.Mathlib.Omega.{arith}
-use Rattle.dimacs.proofs.KeepLaws.{end_room, end_many, end_kept}
+use Rattle.dimacs.proofs.KeepLaws.{end_room, end_kept}
 use Rattle.dimacs.proofs.reader.Reader.take_end.Goals as goal
 
 pub keep-requires : goal.keep-requires

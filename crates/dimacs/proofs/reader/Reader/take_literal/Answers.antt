@@ -5,7 +5,7 @@ use mathlib.Core.Path.{◌≡◌, sym, ◌∙◌}
 use native.Mathlib.Omega.{arith}
 use Rattle.masks.specs.Mask.{bit}
 use Rattle.formula.specs.InnerFits.{side, clause_variables}
-use Rattle.dimacs.proofs.KeepLaws.{literal_above, literal_complement, literal_repeat, literal_room, literal_kept}
+use Rattle.dimacs.proofs.KeepLaws.{literal_complement, literal_repeat, literal_room, literal_kept}
 use Rattle.dimacs.proofs.reader.Reader.take_literal.Goals.{After-member, After-member-2}
 use Rattle.dimacs.proofs.reader.Reader.take_literal.Goals as goal
 

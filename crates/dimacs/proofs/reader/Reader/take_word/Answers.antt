@@ -1,7 +1,7 @@
 -- `take_word`: by the token.
-use mathlib.Core.Path.{refl, sym, ◌∙◌}
+use mathlib.Core.Path.{sym, ◌∙◌}
 use Rattle.dimacs.specs.Text.{token}
-use Rattle.dimacs.proofs.GoesLaws.{Named, held_ends, held_bad, held_literal, named_some, word_literal}
+use Rattle.dimacs.proofs.GoesLaws.{Named, held_ends, held_literal, word_literal}
 use Rattle.dimacs.proofs.reader.Reader.take_word.Goals.{In-Literal}
 use Rattle.dimacs.proofs.reader.Reader.take_word.Goals as goal
 

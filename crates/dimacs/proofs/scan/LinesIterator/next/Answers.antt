@@ -1,7 +1,7 @@
 -- `next`: comments are passed, each with its line feed.
 use Rattle.std.proofs.Common.{rules, ◌≡◌, length, sym, ap, arith, ◌∙◌, refl, [], ◌∷◌}
 use Rattle.std.specs.Option.{option_map}
-use Rattle.dimacs.specs.Text.{Piece, ends_line, others, comment}
+use Rattle.dimacs.specs.Text.{ends_line, others, comment}
 use Rattle.dimacs.specs.InnerPiece.{piece_of}
 use Rattle.dimacs.specs.InnerScan.{lines_of, lines_left}
 use Rattle.dimacs.proofs.TextLaws.{lines_next, others-comment, others-first, others-none, starts_comment}

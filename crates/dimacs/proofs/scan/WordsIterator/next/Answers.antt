@@ -1,8 +1,8 @@
 -- `next`: the next word, if there is one.
-use Rattle.std.proofs.Common.{rules, ◌≡◌, ℕ, Bool, length, take, drop, refl, ap, arith, ◌∙◌, ◌≤◌}
-use Rattle.dimacs.specs.Text.{Piece, parts_words}
+use Rattle.std.proofs.Common.{rules, ◌≡◌, length, ap}
+use Rattle.dimacs.specs.Text.{parts_words}
 use Rattle.dimacs.specs.InnerPiece.{piece_of, from_first}
-use Rattle.dimacs.specs.InnerScan.{in_word, words_left}
+use Rattle.dimacs.specs.InnerScan.{in_word}
 use Rattle.dimacs.proofs.TextLaws.{words_over, words_next}
 use Rattle.dimacs.proofs.scan.WordsIterator.next.Goals as goal
 use Rattle.dimacs.proofs.scan.WordsIterator.next.Goals.{After-split_where}
