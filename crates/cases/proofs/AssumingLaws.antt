@@ -1,5 +1,5 @@
 -- What is read beside an input, from what the readers ensure.
-use Rattle.std.proofs.Common.{ℕ, zero, suc, ◌≡◌, ◌+◌, ◌<◌, ◌≤◌, List, [], ◌∷◌, length, get_or, refl, arith}
+use Rattle.std.proofs.Common.{ℕ, ◌≡◌, List, [], ◌∷◌, length, get_or, refl, arith}
 use Rattle.assumptions.specs.Bytes.{pair_of, of_bytes}
 
 -- the list that four bytes are

@@ -1,10 +1,10 @@
 -- Laws of `run_from`: what a run with some bytes left has still to do.
-use Rattle.std.proofs.Common.{ℕ, zero, suc, ◌≡◌, ◌+◌, ◌-◌, ◌≤◌, List, length, None, Some, refl, sym, ◌∙◌, arith}
+use Rattle.std.proofs.Common.{ℕ, zero, suc, ◌≡◌, ◌-◌, ◌≤◌, List, length, None, Some, refl, sym, ◌∙◌, arith}
 use Rattle.walk.specs.Checkpoints.{Checkpoint, start}
 use Rattle.cases.specs.declared.runs.Act.{Act}
 use Rattle.vectors.specs.declared.totals.Totals.{Totals}
 use Rattle.vectors.specs.Corpus.{Parts, framed}
-use Rattle.cases.specs.Runs.{size_of, act_agrees, leaves, Left, run_from, run_of}
+use Rattle.cases.specs.Runs.{size_of, act_agrees, leaves, run_from, run_of}
 use Rattle.vectors.specs.Totals.{counted}
 use Rattle.vectors.proofs.FrameLaws.{within}
 

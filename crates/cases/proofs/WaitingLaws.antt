@@ -1,6 +1,6 @@
 -- Laws of waits: of literals and of what two trails share, and of the tally, call by call.
 use Rattle.std.specs.Prelude as std
-use Rattle.std.proofs.Common.{Ok, Err, ℕ, zero, suc, ◌+◌, ◌*◌, ◌-◌, ◌/◌, ◌<◌, ◌≤◌, Bool, true, false, cond, ◌&&◌, ◌||◌, List, [], ◌∷◌, map, length, take, zip, Option, None, Some, min, ◌≡◌, refl, sym, ap, ◌∙◌, arith, add-zero}
+use Rattle.std.proofs.Common.{Ok, Err, ℕ, suc, ◌+◌, ◌*◌, ◌-◌, ◌/◌, ◌<◌, ◌≤◌, Bool, true, false, cond, ◌&&◌, ◌||◌, List, [], ◌∷◌, map, length, take, zip, Option, None, Some, min, ◌≡◌, refl, sym, ap, ◌∙◌, arith, add-zero}
 use Rattle.std.proofs.lemmas.List.{length-map}
 use lib.Seq.{take_all}
 use Rattle.std.specs.List.{take_while}
@@ -12,14 +12,12 @@ use lib.Dec.{eqb, leb}
 use Rattle.formula.specs.declared.Refusal.{Refusal}
 use Rattle.formula.specs.Format.{Literal}
 use Rattle.assumptions.specs.declared.Assumption.{Assumption}
-use Rattle.limits.specs.Limits.{max_variables}
 use Rattle.walk.specs.Checkpoints as walk
 use Rattle.walk.specs.Checkpoints.{byte_number, byte_literal}
 use Rattle.walk.specs.Gaps.{Gap, to_model, to_end, so_far, gap_after, gaps_from, gaps, same_literal, shared}
 use Rattle.walk.specs.WalkCall.{walk_call, walk_calls}
 use Rattle.walk.proofs.RefusalLaws.{call_steps}
 use Rattle.walk.specs.Results.{AnswerKind, says_model, says_spent, says_ended, says_refused, Result, refusing}
-use Rattle.enumeration.specs.declared.checkpoint.Checkpoint.{Checkpoint}
 use Rattle.enumeration.specs.declared.steps.Answer.{Answer}
 use Rattle.enumeration.specs.declared.steps.Answer.TheVariants.{Model, Spent, Ended}
 use Rattle.enumeration.specs.declared.calls.Walked.{Walked}

@@ -1,7 +1,6 @@
 -- The law of `weigh_agrees`: from what its parts give.
-use Rattle.std.proofs.Common.{ℕ, ◌≡◌, ◌≤◌, ◌++◌, List, length, get_or, take, drop, replicate, ap, arith, length-drop, length-take-le}
+use Rattle.std.proofs.Common.{ℕ, ◌≡◌, ◌≤◌, ◌++◌, List, length, get_or, take, drop, replicate, arith, length-drop, length-take-le}
 use Rattle.limits.specs.Limits.{max_clauses}
-use Rattle.lists.specs.Over.{over}
 use Rattle.matched.specs.Weigh.{WeighedValues, weighed}
 use Rattle.vectors.specs.declared.answers.Answer.{Answer}
 use Rattle.vectors.specs.Answers.{expected, same_answer}

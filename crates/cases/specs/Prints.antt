@@ -1,5 +1,5 @@
 -- The vectors of the printed walk: the text of its definition (S12), compared with the one that the corpus has.
-use Rattle.std.specs.Prelude.{ℕ, Bool, cond, List, [], eqb, ltb, length}
+use Rattle.std.specs.Prelude.{ℕ, Bool, cond, List, [], ltb, length}
 use Rattle.std.specs.Str.{bytes_eq}
 use Rattle.printing.specs.Printed.{printed}
 use Rattle.printing.specs.Printing.{max_input}

@@ -1,5 +1,5 @@
 -- The vectors of a file, each by its act.
-use Rattle.std.specs.Prelude.{ℕ, zero, suc, ◌-◌, Bool, true, false, List, Option, None, Some, ◌≡◌, length}
+use Rattle.std.specs.Prelude.{ℕ, zero, suc, ◌-◌, Bool, true, false, List, None, Some, ◌≡◌, length}
 use Rattle.walk.specs.Checkpoints.{Checkpoint, start}
 use Rattle.cases.specs.declared.runs.Act.{Act}
 use Rattle.cases.specs.declared.runs.Act.TheVariants.{Check, Judge, Weigh, Deficiency, ReadText, WriteText, Start, Walk, Wait, Listing, Models, Page, Compare, Print}

@@ -1,5 +1,5 @@
 -- `print_vector`: the bytes that are compared are those of the text.
-use Rattle.std.proofs.Common.{◌≡◌, take, sym, ap, ◌∙◌, arith, length-take-le}
+use Rattle.std.proofs.Common.{◌≡◌, sym, ap, ◌∙◌, arith, length-take-le}
 use Rattle.std.specs.Str.{bytes_eq}
 use Rattle.printing.proofs.PrintLaws.{count_within}
 use Rattle.vectors.specs.Corpus.{parts_of}
