@@ -71,9 +71,8 @@ fn run_file<R: Files + Print>(rt: &R, t: Totals, name: &str, act: Act) -> io::Re
     requires { RoomFor 65536 t }
     ensures { IfOk result (AfterFile act t) }
 {
-    let mut file = match fs::open(rt, name) {
-        Ok(file) => file,
-        Err(_) => return Ok(t),
+    let Ok(mut file) = fs::open(rt, name) else {
+        return Ok(t);
     };
     let mut buffer = [0u8; MAX_FILE];
     let n = reading::read_full(&mut file, &mut buffer)?;
