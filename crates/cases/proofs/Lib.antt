@@ -2,11 +2,9 @@ pub mod AssumingLaws
 pub mod ConvertingLaws
 pub mod JudgingLaws
 pub mod ListingLaws
-pub mod MeasuringLaws
 pub mod PagingLaws
 pub mod PrintsLaws
 pub mod RunLaws
-pub mod TryingLaws
 pub mod WaitingLaws
 pub mod WalkingLaws
 pub mod WeighingLaws

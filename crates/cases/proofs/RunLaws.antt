@@ -1,78 +1,56 @@
--- Laws of `run_from`: what a run that stands at an offset has still to do.
-use Prim.Native.Nat.{ℕ, zero, suc, ◌+◌, ◌-◌, ◌<◌, ◌≤◌}
-use mathlib.Core.List.{List}
-use mathlib.Core.Path.{◌≡◌, refl, sym, ◌∙◌}
-use native.Mathlib.Omega.{arith}
-use borrow.Author.Tests.{lt-ltb, le-ltb}
-use lib.ListN.{length}
+-- Laws of `run_from`: what a run with some bytes left has still to do.
+use Rattle.std.proofs.Common.{ℕ, zero, suc, ◌≡◌, ◌-◌, ◌≤◌, List, length, None, Some, refl, sym, ◌∙◌, arith}
 use Rattle.walk.specs.Checkpoints.{Checkpoint, start}
-use Rattle.vectors.specs.declared.corpus.Framed.TheVariants.{Whole, Broken}
-use Rattle.vectors.specs.declared.corpus.Vector.{Vector}
 use Rattle.cases.specs.declared.runs.Act.{Act}
 use Rattle.vectors.specs.declared.totals.Totals.{Totals}
-use Rattle.vectors.specs.Corpus.{framed}
+use Rattle.vectors.specs.Corpus.{Parts, framed}
 use Rattle.cases.specs.Runs.{size_of, act_agrees, leaves, run_from, run_of}
 use Rattle.vectors.specs.Totals.{counted}
 use Rattle.vectors.proofs.FrameLaws.{within}
 
--- at the end of the bytes, and at a vector that runs past it, a run stops
+-- where no vector stands at the beginning, a run stops
 run_done :
-    (k : ℕ) (act : Act) (s : List ℕ) (at : ℕ) (t : Totals) (last : Checkpoint) →
-    length s ≤ at → run_from k act s at t last ≡ record { at = at; totals = t }
+    (k : ℕ) (act : Act) (s : List ℕ) (t : Totals) (last : Checkpoint) →
+    framed s (size_of act) ≡ None → run_from k act s t last ≡ record { bytes = s; totals = t }
 unfolding run_from
-run_done zero act s at t last h = refl
-run_done (suc k) act s at t last h = rw (le-ltb _ _ h)
+run_done zero act s t last e = refl
+run_done (suc k) act s t last e = rw (run_from, e)
 
-run_broken :
-    (k : ℕ) (act : Act) (s : List ℕ) (at : ℕ) (t : Totals) (last : Checkpoint) →
-    at < length s → framed s at (size_of act) ≡ Broken → run_from k act s at t last ≡ record { at = at; totals = t }
+run_on :
+    (k : ℕ) (act : Act) (s : List ℕ) (t : Totals) (last : Checkpoint) (v : Parts) (rest : List ℕ) →
+    framed s (size_of act) ≡ Some (v, rest) →
+    run_from (suc k) act s t last ≡ run_from k act rest (counted t (act_agrees act v last)) (leaves act v last)
 unfolding run_from
-run_broken zero act s at t last h e = refl
-run_broken (suc k) act s at t last h e = rw (lt-ltb _ _ h, e)
+run_on k act s t last v rest e = rw (run_from, e)
 
-run_whole :
-    (k : ℕ) (act : Act) (s : List ℕ) (at : ℕ) (t : Totals) (last : Checkpoint) (v : Vector) →
-    at < length s →
-    framed s at (size_of act) ≡ Whole v →
-    run_from (suc k) act s at t last
-    ≡ run_from k act s (v.end + size_of act) (counted t (act_agrees act s v last)) (leaves act s v last)
-unfolding run_from
-run_whole k act s at t last v h e = rw (lt-ltb _ _ h, e)
-
--- the run from the offset on, with the totals so far, gives what the whole run gives from the first totals
-pub record Stands (act : Act) (s : List ℕ) (first : Totals) (at : ℕ) (t : Totals) (last : Checkpoint) : Type 0 where
+-- the run over what is left, with the totals so far, gives what the whole run gives from the first totals
+pub record Stands (act : Act) (s : List ℕ) (first : Totals) (left : List ℕ) (t : Totals) (last : Checkpoint) : Type 0 where
   pub fuel : ℕ
-  pub enough : length s - at ≤ fuel
-  pub rest : run_from fuel act s at t last ≡ run_of act s first
+  pub enough : length left ≤ fuel
+  pub rest : run_from fuel act left t last ≡ run_from (length s) act s first start
 
-pub stands-first : (act : Act) (s : List ℕ) (first : Totals) → Stands act s first 0 first start
-unfolding run_of
+pub stands-first : (act : Act) (s : List ℕ) (first : Totals) → Stands act s first s first start
 stands-first act s first = record { fuel = length s; enough = omega arith; rest = refl }
 
 module _
-    (act : Act) (s : List ℕ) (first : Totals) (at : ℕ) (t : Totals) (last : Checkpoint)
-    (p : Stands act s first at t last) where
-  pub stands_done : length s ≤ at → record { at = at; totals = t } ≡ run_of act s first
-  stands_done h = sym (run_done p.fuel act s at t last h) ∙ p.rest
-
-  pub stands_broken : at < length s → framed s at (size_of act) ≡ Broken → record { at = at; totals = t } ≡ run_of act s first
-  stands_broken h e = sym (run_broken p.fuel act s at t last h e) ∙ p.rest
+    (act : Act) (s : List ℕ) (first : Totals) (left : List ℕ) (t : Totals) (last : Checkpoint)
+    (p : Stands act s first left t last) where
+  pub stands_done : framed left (size_of act) ≡ None → record { at = length s - length left; totals = t } ≡ run_of act s first
+  unfolding run_of
+  stands_done e = rw (sym p.rest ∙ run_done p.fuel act left t last e)
 
   step :
-      (k : ℕ) (v : Vector) →
-      length s - at ≤ k →
-      run_from k act s at t last ≡ run_of act s first →
-      at < length s →
-      framed s at (size_of act) ≡ Whole v →
-      Stands act s first (v.end + size_of act) (counted t (act_agrees act s v last)) (leaves act s v last)
-  step zero v n r h e = absurd (omega arith)
-  step (suc k) v n r h e =
-      let w = within s at (size_of act) v e in
-      record { fuel = k; enough = omega arith; rest = sym (run_whole k act s at t last v h e) ∙ r }
+      (k : ℕ) (v : Parts) (rest : List ℕ) →
+      length left ≤ k →
+      run_from k act left t last ≡ run_from (length s) act s first start →
+      framed left (size_of act) ≡ Some (v, rest) →
+      Stands act s first rest (counted t (act_agrees act v last)) (leaves act v last)
+  step zero v rest n r e = absurd (omega (arith, (within left (size_of act) v rest e).shorter))
+  step (suc k) v rest n r e =
+      record { fuel = k; enough = omega (arith, (within left (size_of act) v rest e).shorter); rest = sym (run_on k act left t last v rest e) ∙ r }
 
   pub stands_next :
-      (v : Vector) →
-      at < length s →
-      framed s at (size_of act) ≡ Whole v →
-      Stands act s first (v.end + size_of act) (counted t (act_agrees act s v last)) (leaves act s v last)
-  stands_next v h e = step p.fuel v p.enough p.rest h e
+      (v : Parts) (rest : List ℕ) →
+      framed left (size_of act) ≡ Some (v, rest) →
+      Stands act s first rest (counted t (act_agrees act v last)) (leaves act v last)
+  stands_next v rest e = step p.fuel v rest p.enough p.rest e

@@ -1,136 +1,77 @@
 -- Laws of waits: of literals and of what two trails share, and of the tally, call by call.
-use Prim.Native.Nat.{ℕ, zero, suc, ◌+◌, ◌*◌, ◌-◌, ◌/◌, ◌<◌, ◌≤◌}
-use mathlib.Core.Bool.{Bool, true, false, cond, ◌&&◌, beq, and-true, and_assoc}
-use mathlib.Core.List.{List, [], ◌∷◌, map}
-use mathlib.Core.Path.{◌≡◌, refl, sym, ap, ◌∙◌}
-use native.Mathlib.Nat.{zero-add}
-use native.Mathlib.Numerals.{add-one}
-use native.Mathlib.Omega.{arith}
-use borrow.Author.Tests.{le-leb, lt-leb, le-ltb, lt-ltb, leb-true, leb-false, ne_eqb, eq-eqb}
+use Rattle.std.specs.Prelude as std
+use Rattle.std.proofs.Common.{Ok, Err, ℕ, suc, ◌+◌, ◌*◌, ◌-◌, ◌/◌, ◌<◌, ◌≤◌, Bool, true, false, cond, ◌&&◌, ◌||◌, List, [], ◌∷◌, map, length, take, zip, Option, None, Some, min, ◌≡◌, refl, sym, ap, ◌∙◌, arith, add-zero}
+use Rattle.std.proofs.lemmas.List.{length-map}
+use lib.Seq.{take_all}
+use Rattle.std.specs.List.{take_while}
+use Rattle.std.proofs.lemmas.List.Sums.{take_while-cons}
+use borrow.Author.Tests.{leb-true, leb-false}
+use mathlib.Core.Bool.{and-true, and_assoc}
 use borrow.Table.Steps.{cases}
-use lib.Dec.{eqb, ltb, leb}
-use lib.ListN.{length, get_or, take, drop, length-map, get_or-map, drop_of_length-le}
-use lib.Seq.{length-take-le, take_all, drop-cons, get_or-take}
+use lib.Dec.{eqb, leb}
 use Rattle.formula.specs.declared.Refusal.{Refusal}
 use Rattle.formula.specs.Format.{Literal}
 use Rattle.assumptions.specs.declared.Assumption.{Assumption}
-use Rattle.limits.specs.Limits.{max_variables}
 use Rattle.walk.specs.Checkpoints as walk
 use Rattle.walk.specs.Checkpoints.{byte_number, byte_literal}
 use Rattle.walk.specs.Gaps.{Gap, to_model, to_end, so_far, gap_after, gaps_from, gaps, same_literal, shared}
 use Rattle.walk.specs.WalkCall.{walk_call, walk_calls}
 use Rattle.walk.proofs.RefusalLaws.{call_steps}
-use Rattle.walk.specs.Results.{AnswerKind, says_model, says_spent, says_ended, says_refused, Result}
-use Rattle.enumeration.specs.declared.checkpoint.Checkpoint.{Checkpoint}
-use Rattle.enumeration.specs.declared.calls.Answer.{Answer}
-use Rattle.enumeration.specs.declared.calls.Answer.TheVariants.{Model, Spent, Ended, Refused}
+use Rattle.walk.specs.Results.{AnswerKind, says_model, says_spent, says_ended, says_refused, Result, refusing}
+use Rattle.enumeration.specs.declared.steps.Answer.{Answer}
+use Rattle.enumeration.specs.declared.steps.Answer.TheVariants.{Model, Spent, Ended}
 use Rattle.enumeration.specs.declared.calls.Walked.{Walked}
-use Rattle.enumeration.specs.Values.{checkpoint_values, answer_values, walked_values}
-use Rattle.vectors.specs.declared.corpus.Vector.{Vector}
-use Rattle.vectors.specs.Corpus.{four_bytes, input_of}
+use Rattle.enumeration.specs.Values.{checkpoint_values, answer_values, walked_values, call_values}
+use Rattle.vectors.specs.Corpus.{Parts, four_bytes}
 use Rattle.cases.specs.declared.waiting.Waits.{Waits}
 use Rattle.cases.specs.Assuming.{assumptions_of}
-use Rattle.cases.specs.Waiting.{budgets_from, budgets_of, later_hold, waits_hold, closed, calls_of, waits_agree, checkpoint_trail, LengthOf, due, Tallied, tallied_in, rest_hold, tallied_on, tallied, NoneYet, going_on, AfterCall, calls_left, AfterNext}
-use Rattle.cases.proofs.WalkingLaws.{checkpoint_kept}
-
--- ---- literals
-
--- two bytes with other variables
-pub other_variable : (a b : ℕ) → (byte_number a - 1 ≡ byte_number b - 1 → ⊥) → false ≡ same_literal (byte_literal a) (byte_literal b)
-other_variable a b h = rw (ne_eqb _ _ h)
-
--- with the same one: by the values
-pub same_if_true : (a b : ℕ) → byte_number a - 1 ≡ byte_number b - 1 → 128 ≤ a → leb 128 b ≡ same_literal (byte_literal a) (byte_literal b)
-same_if_true a b h k = rw (eq-eqb _ _ h, le-leb _ _ k) (by (leb 128 b))
-  where
-    by : (x : Bool) → x ≡ beq true x
-    by true = refl
-    by false = refl
-
-pub same_if_false : (a b : ℕ) → byte_number a - 1 ≡ byte_number b - 1 → a < 128 → ltb b 128 ≡ same_literal (byte_literal a) (byte_literal b)
-same_if_false a b h k =
-    rw (eq-eqb _ _ h, lt-leb _ _ k)
-    (cases (leb 128 b) (λ t. rw (t, le-ltb _ _ (leb-true 128 b t))) (λ f. rw (f, lt-ltb _ _ (leb-false 128 b f))))
+use Rattle.cases.specs.Waiting.{shared_bytes, budgets_from, budgets_of, due, may_end, most, waits_hold, closed, calls_of, waits_agree, checkpoint_trail, last_trail, Tallied, tallied_in, tallied_on, tallied, NoneYet, AfterCall, calls_left}
 
 -- ---- trails
 
--- the length of the trail in a checkpoint: that which it has, up to all of its bytes
-module _ (c : Checkpoint) (whole : length c.bytes ≡ max_variables) where
-  at_most : (r : ℕ) → r ≤ max_variables → take c.length c.bytes ≡ take r c.bytes → LengthOf c r
-  unfolding walk.trail_in
-  at_most r h e =
-      let l : length (take r c.bytes) ≡ r = length-take-le r c.bytes (omega arith) in
-      record { value = sym (length-map (take c.length c.bytes) byte_literal ∙ ap length e ∙ l); small = h; trail = ap (map byte_literal) e }
+-- the bytes of a trail: those before its length, and so all before the least of this and of how many there are
+pub trail_bytes : (s : List ℕ) (n m r : ℕ) → r ≡ min n m → length s ≡ m → take r s ≡ take n s
+trail_bytes s n m r e l =
+    cases (leb n m)
+    (λ t. let h : n ≤ m = leb-true n m t in let d : r ≡ n = omega arith in rw d)
+    (λ f.
+    let h : m < n = leb-false n m f in
+    take_all r s (omega arith) ∙ sym (take_all n s (omega arith)))
 
-  pub length_below : c.length < max_variables → LengthOf c c.length
-  length_below h = at_most c.length (omega arith) refl
+-- what two trails share, byte by byte
+pub shared_zip : (x y : List ℕ) → shared_bytes x y ≡ shared (map byte_literal x) (map byte_literal y)
+unfolding shared
+shared_zip [] y = refl
+shared_zip (a ∷ x) [] = refl
+shared_zip (a ∷ x) (b ∷ y) =
+    rw (take_while-cons (λ (p : ℕ × ℕ). same_literal (byte_literal p.0) (byte_literal p.1)) (a, b) (zip x y))
+    (by (same_literal (byte_literal a) (byte_literal b)) (shared_zip x y))
+  where
+    by :
+        (s : Bool) →
+        shared_bytes x y ≡ shared (map byte_literal x) (map byte_literal y) →
+        length (cond s ((a, b) ∷ take_while (λ (p : ℕ × ℕ). same_literal (byte_literal p.0) (byte_literal p.1)) (zip x y)) [])
+        ≡ cond s (suc (shared (map byte_literal x) (map byte_literal y))) 0
+    by true e = ap suc e
+    by false e = refl
 
-  pub length_all : max_variables ≤ c.length → LengthOf c max_variables
-  length_all h = at_most max_variables (omega arith) (take_all c.length c.bytes (omega arith) ∙ sym (take_all max_variables c.bytes (omega arith)))
+-- no more than the later one has
+pub shared_le : (x y : List Literal) → shared x y ≤ length y
+unfolding shared
+shared_le [] y = omega arith
+shared_le (l ∷ x) [] = omega arith
+shared_le (l ∷ x) (m ∷ y) = by (same_literal l m) (shared_le x y)
+  where
+    by : (s : Bool) → shared x y ≤ length y → cond s (suc (shared x y)) 0 ≤ suc (length y)
+    by true h = omega arith
+    by false h = omega arith
 
--- What the trails of n bytes of a and of m bytes of b share is what lies before i, and what is shared from i on.
-pub record Shares (a b : List ℕ) (n m i : ℕ) : Type 0 where
-  pub rest :
-      i + shared (drop i (map byte_literal (take n a))) (drop i (map byte_literal (take m b)))
-      ≡ shared (map byte_literal (take n a)) (map byte_literal (take m b))
+-- the steps that are due to a later model, in bytes
+pub due_later : (x y : List ℕ) (X Y : List Literal) → map byte_literal x ≡ X → map byte_literal y ≡ Y → 2 * (length y - shared_bytes x y) ≡ due (Some X) Y
+due_later x y X Y e f = rw (← e, ← f, shared_zip x y, length-map y byte_literal)
 
-pub shares_first : (a b : List ℕ) (n m : ℕ) → Shares a b n m 0
-shares_first a b n m = record { rest = zero-add _ }
-
-module _
-    {a b : List ℕ} {n m i : ℕ} (S : Shares a b n m i)
-    (whole : length a ≡ max_variables) (fits : n ≤ max_variables)
-    (other_whole : length b ≡ max_variables) (other_fits : m ≤ max_variables) where
-  abbrev x : List Literal
-  x = map byte_literal (take n a)
-
-  abbrev y : List Literal
-  y = map byte_literal (take m b)
-
-  x_length : length x ≡ n
-  x_length = length-map (take n a) byte_literal ∙ length-take-le n a (omega arith)
-
-  y_length : length y ≡ m
-  y_length = length-map (take m b) byte_literal ∙ length-take-le m b (omega arith)
-
-  none_later : (z : List Literal) → shared z [] ≡ 0
-  unfolding shared
-  none_later [] = refl
-  none_later (l ∷ z) = refl
-
-  -- where one of them has ended, nothing more is shared
-  pub shares_ended : n ≤ i → i ≡ shared x y
-  unfolding shared
-  shares_ended h =
-      let z : shared (drop i x) (drop i y) ≡ 0 = rw (drop_of_length-le x {i = i} (rw x_length h)) in
-      omega (arith, S.rest)
-
-  pub shares_other_ended : m ≤ i → i ≡ shared x y
-  shares_other_ended h =
-      let z : shared (drop i x) (drop i y) ≡ 0 = rw (drop_of_length-le y {i = i} (rw y_length h)) (none_later (drop i x)) in
-      omega (arith, S.rest)
-
-  -- at an index that both have: one literal more if the two bytes have the same, else nothing
-  here : i < n → i < m
-      → shared (drop i x) (drop i y)
-      ≡ cond (same_literal (byte_literal (get_or a i 0)) (byte_literal (get_or b i 0))) (suc (shared (drop (suc i) x) (drop (suc i) y))) 0
-  unfolding shared
-  here h k =
-      let p : i < length x = rw x_length h in
-      let q : i < length y = rw y_length k in
-      let d : get_or x i (byte_literal 0) ≡ byte_literal (get_or a i 0) = get_or-map byte_literal (take n a) i 0 ∙ ap byte_literal (get_or-take n a i 0 h) in
-      let e : get_or y i (byte_literal 0) ≡ byte_literal (get_or b i 0) = get_or-map byte_literal (take m b) i 0 ∙ ap byte_literal (get_or-take m b i 0 k) in
-      rw (drop-cons x i (byte_literal 0) p, drop-cons y i (byte_literal 0) q, d, e)
-
-  pub shares_stop : i < n → i < m → same_literal (byte_literal (get_or a i 0)) (byte_literal (get_or b i 0)) ≡ false → i ≡ shared x y
-  shares_stop h k e =
-      let z : shared (drop i x) (drop i y) ≡ 0 = rw e at (here h k) in
-      omega (arith, S.rest)
-
-  pub shares_more : i < n → i < m → same_literal (byte_literal (get_or a i 0)) (byte_literal (get_or b i 0)) ≡ true → Shares a b n m (i + 1)
-  shares_more h k e =
-      let z : shared (drop i x) (drop i y) ≡ suc (shared (drop (suc i) x) (drop (suc i) y)) = rw e at (here h k) in
-      record { rest = rw (add-one i) (omega (arith, S.rest)) }
+pub shared_few : (x y : List ℕ) → shared_bytes x y ≤ length y
+shared_few x y = rw (shared_zip x y) (omega (arith, shared_le (map byte_literal x) (map byte_literal y), length-map y byte_literal))
 
 -- ---- the tally
 
@@ -155,17 +96,9 @@ module _
       by says_ended h = end _ _ _
       by says_refused h = h
 
-later_unexpanded : (x : List Literal) (rs : List Result) (c e d : ℕ) → later_hold x (gaps_from c e rs) ≡ later_hold x (gaps_from c d rs)
-unfolding later_hold
-later_unexpanded x = unexpanded (later_hold x) (λ c e d y gs. refl) (λ c e d. refl) (λ c e d. refl)
-
-waits_unexpanded : (rs : List Result) (c e d : ℕ) → waits_hold (gaps_from c e rs) ≡ waits_hold (gaps_from c d rs)
+waits_unexpanded : (x : Option (List Literal)) (rs : List Result) (c e d : ℕ) → waits_hold x (gaps_from c e rs) ≡ waits_hold x (gaps_from c d rs)
 unfolding waits_hold
-waits_unexpanded = unexpanded waits_hold (λ c e d y gs. refl) (λ c e d. refl) (λ c e d. refl)
-
-rest_unexpanded : (came : Bool) (x : List Literal) (rs : List Result) (c e d : ℕ) → rest_hold came x (gaps_from c e rs) ≡ rest_hold came x (gaps_from c d rs)
-rest_unexpanded true x = later_unexpanded x
-rest_unexpanded false x = waits_unexpanded
+waits_unexpanded x = unexpanded (waits_hold x) (λ c e d y gs. refl) (λ c e d. refl) (λ c e d. refl)
 
 closed_unexpanded : (rs : List Result) (c e d : ℕ) → closed (gaps_from c e rs) ≡ closed (gaps_from c d rs)
 unfolding closed
@@ -176,145 +109,169 @@ same_tallied : {a b : Bool} {m n : ℕ} → a ≡ b → m ≡ n → ◌≡◌ {A
 same_tallied p q = rw (p, q)
 
 -- from the start
-pub tallied-first : (x : List Literal) (rs : List Result) → tallied_on false false x 0 0 true rs ≡ tallied_in rs
+pub tallied-first : (rs : List Result) → tallied_on false None 0 0 true rs ≡ tallied_in rs
 unfolding tallied_on
-tallied-first x rs = same_tallied refl (omega arith)
+tallied-first rs = same_tallied refl (omega arith)
 
-module _ (came : Bool) (x : List Literal) (c m : ℕ) (right : Bool) (r : Result) (rs : List Result) where
+module _ (x : Option (List Literal)) (c m : ℕ) (right : Bool) (r : Result) (rs : List Result) where
   -- a call that brings a model
-  pub tallied_model :
+  tallied_model :
       r.kind ≡ says_model
-      → tallied_on false true (walk.trail_in r.checkpoint) 0 (m + 1) (right && eqb (c + r.steps) (due came x (walk.trail_in r.checkpoint))) rs
-      ≡ tallied_on false came x c m right (r ∷ rs)
-  unfolding tallied_on gaps_from closed later_hold waits_hold
-  tallied_model e = rw e (same_tallied (by came) (omega arith))
-    where
-      by :
-          (b : Bool)
-          → (right && eqb (c + r.steps) (due b x (walk.trail_in r.checkpoint))) && later_hold (walk.trail_in r.checkpoint) (gaps_from 0 0 rs)
-          ≡ right && rest_hold b x (to_model (c + r.steps) (0 + r.expansions) (walk.trail_in r.checkpoint) ∷ gaps_from 0 0 rs)
-      by true = and_assoc right _ _
-      by false = and_assoc right _ _
+      → tallied_on false (Some (walk.trail_in r.checkpoint)) 0 (m + 1) (right && eqb (c + r.steps) (due x (walk.trail_in r.checkpoint))) rs
+      ≡ tallied_on false x c m right (r ∷ rs)
+  unfolding tallied_on gaps_from closed waits_hold
+  tallied_model e = rw e (same_tallied (and_assoc right _ _) (omega arith))
 
   -- one that brings the end, whatever steps are told after it
-  pub tallied_end :
+  tallied_end :
       (k : ℕ) → r.kind ≡ says_ended
-      → tallied_on true came x k (m + 1) (right && (came && eqb (c + r.steps) (length x))) rs ≡ tallied_on false came x c m right (r ∷ rs)
-  unfolding tallied_on gaps_from closed later_hold waits_hold
-  tallied_end k e = rw e (same_tallied (by came) (omega arith))
-    where
-      by : (b : Bool) → right && (b && eqb (c + r.steps) (length x)) ≡ right && rest_hold b x (to_end (c + r.steps) (0 + r.expansions) ∷ [])
-      by true = ap (λ (z : Bool). right && z) (sym (and-true _))
-      by false = refl
+      → tallied_on true x k (m + 1) (right && may_end x (c + r.steps)) rs ≡ tallied_on false x c m right (r ∷ rs)
+  unfolding tallied_on gaps_from closed waits_hold
+  tallied_end k e = rw e (same_tallied (ap (λ (z : Bool). right && z) (sym (and-true _))) (omega arith))
 
   -- one that brings neither: the expansions e do not matter
   neither :
       (e : ℕ)
-      → tallied_on false came x (c + r.steps) m right rs
-      ≡ record { right = right && rest_hold came x (gaps_from (c + r.steps) e rs); closed = m + closed (gaps_from (c + r.steps) e rs) }
+      → tallied_on false x (c + r.steps) m right rs
+      ≡ record { right = right && waits_hold x (gaps_from (c + r.steps) e rs); closed = m + closed (gaps_from (c + r.steps) e rs) }
   unfolding tallied_on
   neither e =
       same_tallied
-      (ap (λ (z : Bool). right && z) (rest_unexpanded came x rs (c + r.steps) 0 e))
+      (ap (λ (z : Bool). right && z) (waits_unexpanded x rs (c + r.steps) 0 e))
       (ap (λ (k : ℕ). m + k) (closed_unexpanded rs (c + r.steps) 0 e))
 
-  pub tallied_spent : r.kind ≡ says_spent → tallied_on false came x (c + r.steps) m right rs ≡ tallied_on false came x c m right (r ∷ rs)
+  tallied_spent : r.kind ≡ says_spent → tallied_on false x (c + r.steps) m right rs ≡ tallied_on false x c m right (r ∷ rs)
   unfolding tallied_on gaps_from
   tallied_spent e = rw e (neither (0 + r.expansions))
 
-  pub tallied_refused : r.kind ≡ says_refused → tallied_on false came x (c + r.steps) m right rs ≡ tallied_on false came x c m right (r ∷ rs)
+  tallied_refused : r.kind ≡ says_refused → tallied_on false x (c + r.steps) m right rs ≡ tallied_on false x c m right (r ∷ rs)
   unfolding tallied_on gaps_from
   tallied_refused e = rw e (neither (0 + r.expansions))
 
   -- after the end calls change nothing
-  pub tallied_ended : (k : ℕ) → tallied_on true came x k m right rs ≡ tallied_on true came x c m right (r ∷ rs)
+  tallied_ended : (k : ℕ) → tallied_on true x k m right rs ≡ tallied_on true x c m right (r ∷ rs)
   unfolding tallied_on
   tallied_ended k = refl
 
 -- where no calls are left: the waits that are over, and the one that is not
-pub closed-tallied : (ended came : Bool) (x : List Literal) (c m : ℕ) (right : Bool) → (tallied_on ended came x c m right []).closed ≡ m
+closed-tallied : (ended : Bool) (x : Option (List Literal)) (c m : ℕ) (right : Bool) → (tallied_on ended x c m right []).closed ≡ m
 unfolding tallied_on gaps_from closed
-closed-tallied true came x c m right = refl
-closed-tallied false came x c m right = omega arith
+closed-tallied true x c m right = refl
+closed-tallied false x c m right = omega arith
 
-pub right_ended : (came : Bool) (x : List Literal) (c m : ℕ) (right : Bool) → right ≡ (tallied_on true came x c m right []).right
-unfolding tallied_on
-right_ended came x c m right = refl
-
-pub right_came : (x : List Literal) (c m : ℕ) (right : Bool) → right && leb c (2 * length x) ≡ (tallied_on false true x c m right []).right
-unfolding tallied_on gaps_from later_hold
-right_came x c m right = ap (λ (z : Bool). right && z) (sym (and-true _))
-
-pub right_before : (x : List Literal) (c m : ℕ) (right : Bool) → right && leb c max_variables ≡ (tallied_on false false x c m right []).right
+pub right-tallied :
+    (ended : Bool) (x : Option (List Literal)) (c m : ℕ) (right : Bool) →
+    right && (ended || leb c (most x)) ≡ (tallied_on ended x c m right []).right
 unfolding tallied_on gaps_from waits_hold
-right_before x c m right = ap (λ (z : Bool). right && z) (sym (and-true _))
+right-tallied true x c m right = and-true right
+right-tallied false x c m right = ap (λ (z : Bool). right && z) (sym (and-true _))
 
 -- ---- calls
 
 -- the values of an answer have the steps beside it
-steps_kept : (a : Answer) (s e : ℕ) (c : walk.Checkpoint) → (answer_values a s e c).steps ≡ s
-steps_kept (Model a) s e c = refl
-steps_kept Spent s e c = refl
-steps_kept Ended s e c = refl
-steps_kept (Refused r) s e c = refl
+steps_kept : (q : Walked) → (walked_values q).steps ≡ q.steps
+steps_kept q = by q.answer
+  where
+    by : (a : Answer) → (answer_values a q.steps q.expansions (checkpoint_values q.checkpoint)).steps ≡ q.steps
+    by (Model a) = refl
+    by Spent = refl
+    by Ended = refl
 
-pub call_steps_kept : (q : Walked) → (walked_values q).steps ≡ q.steps
-call_steps_kept q = steps_kept q.answer q.steps q.expansions (checkpoint_values q.checkpoint)
+checkpoint_kept : (q : Walked) → (walked_values q).checkpoint ≡ checkpoint_values q.checkpoint
+checkpoint_kept q = by q.answer
+  where
+    by : (a : Answer) → (answer_values a q.steps q.expansions (checkpoint_values q.checkpoint)).checkpoint ≡ checkpoint_values q.checkpoint
+    by (Model a) = refl
+    by Spent = refl
+    by Ended = refl
 
-module _ (w : Waits) (q : Walked) where
-  abbrev trail : List Literal
-  trail = checkpoint_trail w.last
+-- after a call that brings neither a model nor the end, or one behind the end
+abbrev pub going_on : Waits → Walked → Waits
+going_on w q = record w { steps = w.steps + q.steps; reached = q.checkpoint }
 
-  abbrev told : Answer → Result
-  told a = answer_values a q.steps q.expansions (checkpoint_values q.checkpoint)
+module _ (w : Waits) (walked : std.Result Walked Refusal) (q : Walked) (is : walked ≡ Ok q) where
+  abbrev x : Option (List Literal)
+  x = last_trail w.last
 
-  -- where neither a model nor the end comes, the tally is left to show
-  gone_on :
-      ((rs : List Result) → tallied (going_on w (w.steps + q.steps) q.checkpoint) rs ≡ tallied w (walked_values q ∷ rs))
-      → AfterCall w (walked_values q) (going_on w (w.steps + q.steps) q.checkpoint)
-  gone_on h = let s = call_steps_kept q in record { finds = h; reached = sym (checkpoint_kept q); steps = omega arith; closed = omega arith }
+  abbrev given : Result
+  given = call_values (checkpoint_values w.reached) walked
 
-  pub after_ended : w.ended ≡ true → AfterCall w (walked_values q) (going_on w (w.steps + q.steps) q.checkpoint)
-  after_ended e = gone_on (λ rs. rw e (tallied_ended w.came trail w.steps w.closed w.right (walked_values q) rs _))
+  -- what the call gives, by its answer
+  given_is : (a : Answer) → q.answer ≡ a → given ≡ answer_values a q.steps q.expansions (checkpoint_values q.checkpoint)
+  given_is a e = rw (is, e)
+
+  given_steps : given.steps ≡ q.steps
+  given_steps = rw is (steps_kept q)
+
+  given_checkpoint : checkpoint_values q.checkpoint ≡ given.checkpoint
+  given_checkpoint = rw is (sym (checkpoint_kept q))
+
+  pub after_ended : w.ended ≡ true → AfterCall w given (going_on w q)
+  after_ended e = record {
+    finds = λ rs. rw e (tallied_ended x w.steps w.closed w.right given rs _);
+    reached = given_checkpoint;
+    steps = omega (arith, given_steps);
+    closed = omega arith;
+  }
 
   module _ (goes_on : w.ended ≡ false) where
     pub after_model :
-        (a : ℕ) (steps : ℕ) (right : Bool)
-        → q.answer ≡ Model a
-        → steps ≡ due w.came trail (checkpoint_trail q.checkpoint)
-        → right ≡ w.right && eqb (w.steps + q.steps) steps
-        → AfterCall w (walked_values q)
-        (record { came = true; last = q.checkpoint; steps = 0; closed = w.closed + 1; right = right; ended = false; reached = q.checkpoint })
-    after_model a steps right e d r =
-        rw (e, r, d)
+        (a : ℕ) (right : Bool) →
+        q.answer ≡ Model a →
+        right ≡ w.right && eqb (w.steps + q.steps) (due x (checkpoint_trail q.checkpoint)) →
+        AfterCall w given (record w { last = Some q.checkpoint; steps = 0; closed = w.closed + 1; right = right; reached = q.checkpoint })
+    after_model a right e r =
+        let g = given_is (Model a) e in
+        rw (g, r)
         (record {
-          finds = λ rs. rw goes_on (tallied_model w.came trail w.steps w.closed w.right (told (Model a)) rs refl);
+          finds = λ rs. rw goes_on (tallied_model x w.steps w.closed w.right (answer_values (Model a) q.steps q.expansions (checkpoint_values q.checkpoint)) rs refl);
           reached = refl;
           steps = omega arith;
           closed = omega arith;
         })
 
     pub after_end :
-        (ends right : Bool)
-        → q.answer ≡ Ended
-        → ends ≡ w.came && eqb (w.steps + q.steps) (length trail)
-        → right ≡ w.right && ends
-        → AfterCall w (walked_values q)
-        (record { came = w.came; last = w.last; steps = w.steps + q.steps; closed = w.closed + 1; right = right; ended = true; reached = q.checkpoint })
-    after_end ends right e d r =
-        rw (e, r, d)
+        (right : Bool) →
+        q.answer ≡ Ended →
+        right ≡ w.right && may_end x (w.steps + q.steps) →
+        AfterCall w given (record w { steps = w.steps + q.steps; closed = w.closed + 1; right = right; ended = true; reached = q.checkpoint })
+    after_end right e r =
+        let g = given_is Ended e in
+        rw (g, r)
         (record {
-          finds = λ rs. rw goes_on (tallied_end w.came trail w.steps w.closed w.right (told Ended) rs _ refl);
+          finds = λ rs. rw goes_on (tallied_end x w.steps w.closed w.right (answer_values Ended q.steps q.expansions (checkpoint_values q.checkpoint)) rs _ refl);
           reached = refl;
           steps = omega arith;
           closed = omega arith;
         })
 
-    pub after_spent : q.answer ≡ Spent → AfterCall w (walked_values q) (going_on w (w.steps + q.steps) q.checkpoint)
-    after_spent e = gone_on (λ rs. rw (goes_on, e) (tallied_spent w.came trail w.steps w.closed w.right (told Spent) rs refl))
+    pub after_spent : q.answer ≡ Spent → AfterCall w given (going_on w q)
+    after_spent e =
+        let g = given_is Spent e in
+        rw g
+        (record {
+          finds = λ rs. rw goes_on (tallied_spent x w.steps w.closed w.right (answer_values Spent q.steps q.expansions (checkpoint_values q.checkpoint)) rs refl);
+          reached = refl;
+          steps = omega arith;
+          closed = omega arith;
+        })
 
-    pub after_refused : (f : Refusal) → q.answer ≡ Refused f → AfterCall w (walked_values q) (going_on w (w.steps + q.steps) q.checkpoint)
-    after_refused f e = gone_on (λ rs. rw (goes_on, e) (tallied_refused w.came trail w.steps w.closed w.right (told (Refused f)) rs refl))
+-- a refused call changes nothing
+refused_tallied :
+    (f : Refusal) (k : walk.Checkpoint) (ended : Bool) (x : Option (List Literal)) (c m : ℕ) (right : Bool) (rs : List Result) →
+    tallied_on ended x c m right rs ≡ tallied_on ended x c m right (refusing f k ∷ rs)
+refused_tallied f k true x c m right rs = tallied_ended x c m right (refusing f k) rs c
+refused_tallied f k false x c m right rs =
+    ap (λ (n : ℕ). tallied_on false x n m right rs) (sym (add-zero c)) ∙ tallied_refused x c m right (refusing f k) rs refl
+
+pub after_refused :
+    (w : Waits) (walked : std.Result Walked Refusal) (f : Refusal) → walked ≡ Err f → AfterCall w (call_values (checkpoint_values w.reached) walked) w
+after_refused w walked f is = rw is (record {
+  finds = refused_tallied f (checkpoint_values w.reached) w.ended (last_trail w.last) w.steps w.closed w.right;
+  reached = refl;
+  steps = omega arith;
+  closed = omega arith;
+})
 
 -- one call of a list of calls
 tallied_next :
@@ -326,55 +283,66 @@ tallied_next :
 unfolding walk_calls
 tallied_next f g s us from reached b q h p e bs = h _ ∙ rw (p, e)
 
--- a call makes at most as many steps as its budget
-pub within_budget : (s : List ℕ) (us : List Assumption) (c : walk.Checkpoint) (b : ℕ) (q : Walked) → walked_values q ≡ walk_call s us c b → q.steps ≤ b
-within_budget s us c b q e = rw (← call_steps_kept q, e) (call_steps s us c b)
+-- the tally of the calls that are left, after one of them
+after_next :
+    (v : Parts) (w r : Waits) (q : Result) (b : ℕ) →
+    q ≡ walk_call v.input (assumptions_of v) (checkpoint_values w.reached) b →
+    AfterCall w q r → (bs : List ℕ) → tallied r (calls_left v r bs) ≡ tallied w (calls_left v w (b ∷ bs))
+after_next v w r q b e A = tallied_next (tallied r) (tallied w) v.input (assumptions_of v) _ _ b q A.finds A.reached e
 
-pub after_next :
-    (s : List ℕ) (v : Vector) (w r : Waits) (q : Walked) (budget b : ℕ)
-    → walked_values q ≡ walk_call (input_of s v) (assumptions_of s v) (checkpoint_values w.reached) budget
-    → budget ≡ b
-    → b < 4294967296
-    → AfterCall w (walked_values q) r → AfterNext s v w b r
-after_next s v w r q budget b e f h A =
-    let e' : walked_values q ≡ walk_call (input_of s v) (assumptions_of s v) (checkpoint_values w.reached) b =
-    e ∙ ap (walk_call (input_of s v) (assumptions_of s v) (checkpoint_values w.reached)) f in
-    let k : q.steps ≤ b = within_budget (input_of s v) (assumptions_of s v) (checkpoint_values w.reached) b q e' in
-    record {
-      finds = tallied_next (tallied r) (tallied w) (input_of s v) (assumptions_of s v) _ _ b (walked_values q) A.finds A.reached e';
-      steps = omega (arith, A.steps, call_steps_kept q);
-      closed = A.closed;
-    }
+-- a call makes at most as many steps as its budget
+pub within_budget : (s : List ℕ) (us : List Assumption) (c : walk.Checkpoint) (b : ℕ) (q : Result) → q ≡ walk_call s us c b → q.steps ≤ b
+within_budget s us c b q e = rw e (call_steps s us c b)
 
 -- ---- budgets
 
--- as many as there are lie within the bytes
-pub budgets_lie : (from to : ℕ) → from ≤ to → from + 4 * ((to - from) / 4) ≤ to
-budgets_lie from to h = omega arith
-
-pub budgets_more : (s : List ℕ) (at k : ℕ) → 0 < k → budgets_from s at k ≡ four_bytes s at ∷ budgets_from s (at + 4) (k - 1)
+-- of the budgets from number i on, the first
+budgets_more : (s : List ℕ) (i n : ℕ) → i < n → budgets_from s (4 * i) (n - i) ≡ four_bytes s (4 * i) ∷ budgets_from s (4 * (i + 1)) (n - (i + 1))
 unfolding budgets_from
-budgets_more s at zero h = absurd (omega arith)
-budgets_more s at (suc k) h = let e : suc k - 1 ≡ k = omega arith in rw e
+budgets_more s i n h =
+    let e : n - i ≡ suc (n - (i + 1)) = omega arith in
+    let d : 4 * (i + 1) ≡ 4 * i + 4 = omega arith in
+    rw (e, d)
 
-pub none_left : (s : List ℕ) (v : Vector) (w : Waits) (at k : ℕ) → k ≤ 0 → calls_left s v w (budgets_from s at k) ≡ []
+none_left : (v : Parts) (w : Waits) (i n : ℕ) → n ≤ i → calls_left v w (budgets_from v.expected (4 * i) (n - i)) ≡ []
 unfolding budgets_from walk_calls
-none_left s v w at zero h = refl
-none_left s v w at (suc k) h = absurd (omega arith)
+none_left v w i n h = let e : n - i ≡ 0 = omega arith in rw e
 
-pub first_left : (s : List ℕ) (v : Vector) (w : Waits) → NoneYet w → tallied w (calls_left s v w (budgets_of s v)) ≡ tallied_in (calls_of s v)
-first_left s v w N =
-    N.finds _ ∙ ap (λ (c : walk.Checkpoint). tallied_in (walk_calls (input_of s v) (assumptions_of s v) c (budgets_of s v))) N.reached
+pub first_left :
+    (v : Parts) (w : Waits) → NoneYet w →
+    tallied w (calls_left v w (budgets_from v.expected (4 * 0) (length v.expected / 4 - 0))) ≡ tallied_in (calls_of v)
+first_left v w N =
+    let e : length v.expected / 4 - 0 ≡ length v.expected / 4 = omega arith in
+    rw e (N.finds _ ∙ ap (λ (c : walk.Checkpoint). tallied_in (walk_calls v.input (assumptions_of v) c (budgets_of v))) N.reached)
+
+-- one call on, from the budget with number i of n
+pub tally_more :
+    (v : Parts) (w r : Waits) (q : Result) (b i n : ℕ) →
+    i < n →
+    b ≡ four_bytes v.expected (4 * i) →
+    q ≡ walk_call v.input (assumptions_of v) (checkpoint_values w.reached) b →
+    AfterCall w q r →
+    tallied w (calls_left v w (budgets_from v.expected (4 * i) (n - i))) ≡ tallied_in (calls_of v) →
+    tallied r (calls_left v r (budgets_from v.expected (4 * (i + 1)) (n - (i + 1)))) ≡ tallied_in (calls_of v)
+tally_more v w r q b i n h f e A t =
+    let m : budgets_from v.expected (4 * i) (n - i) ≡ b ∷ budgets_from v.expected (4 * (i + 1)) (n - (i + 1)) =
+    budgets_more v.expected i n h ∙ ap (λ (x : ℕ). x ∷ budgets_from v.expected (4 * (i + 1)) (n - (i + 1))) (sym f) in
+    after_next v w r q b e A _ ∙ ap (λ (bs : List ℕ). tallied w (calls_left v w bs)) (sym m) ∙ t
+
+-- behind the last
+pub tally_done :
+    (v : Parts) (w : Waits) (i n : ℕ) → n ≤ i →
+    tallied w (calls_left v w (budgets_from v.expected (4 * i) (n - i))) ≡ tallied_in (calls_of v) → tallied w [] ≡ tallied_in (calls_of v)
+tally_done v w i n h t = ap (λ (rs : List Result). tallied w rs) (sym (none_left v w i n h)) ∙ t
 
 -- the comparison is that of `waits_agree`
 pub compared :
-    (s : List ℕ) (v : Vector) (w : Waits) (right : Bool) (wanted : ℕ)
-    → tallied w [] ≡ tallied_in (calls_of s v)
-    → right ≡ (tallied w []).right
-    → wanted ≡ four_bytes s v.end
-    → right && eqb w.closed wanted ≡ waits_agree s v
+    (v : Parts) (w : Waits) (wanted : ℕ) →
+    tallied w [] ≡ tallied_in (calls_of v) →
+    wanted ≡ four_bytes v.fields 0 →
+    (tallied w []).right && eqb w.closed wanted ≡ waits_agree v
 unfolding waits_agree
-compared s v w right wanted f r e =
-    let m : w.closed ≡ closed (gaps (calls_of s v)) =
-    sym (closed-tallied w.ended w.came (checkpoint_trail w.last) w.steps w.closed w.right) ∙ ap (λ (x : Tallied). x.closed) f in
-    rw (r ∙ ap (λ (x : Tallied). x.right) f, m, e)
+compared v w wanted f e =
+    let m : w.closed ≡ closed (gaps (calls_of v)) =
+    sym (closed-tallied w.ended (last_trail w.last) w.steps w.closed w.right) ∙ ap (λ (x : Tallied). x.closed) f in
+    rw (ap (λ (x : Tallied). x.right) f, m, e)

@@ -1,25 +1,24 @@
 -- The vectors of judge: the answer and the buffer of its definition (S5.7, S17.2), compared with those that the corpus has.
-use Rattle.std.specs.Prelude.{ℕ, zero, suc, ◌+◌, Bool, List, ◌++◌, get_or, take, drop, replicate}
-use Rattle.assumptions.specs.declared.Assumption.{Assumption}
+use Rattle.std.specs.Prelude.{ℕ, zero, suc, Bool, ◌++◌, get_or, take, drop, replicate}
 use Rattle.limits.specs.Limits.{max_clauses}
 use Rattle.matched.specs.Judge.{JudgementValues, judge}
+use Rattle.vectors.specs.declared.answers.Says.{Says}
+use Rattle.vectors.specs.declared.answers.Says.TheVariants.{Refused, Accepted}
 use Rattle.vectors.specs.declared.answers.Answer.{Answer}
-use Rattle.vectors.specs.declared.corpus.Vector.{Vector}
-use Rattle.cases.specs.declared.judging.Judged.{Judged}
 use Rattle.vectors.specs.Answers.{expected}
-use Rattle.vectors.specs.Comparing.{first_wrong, alike}
-use Rattle.vectors.specs.Corpus.{input_of}
+use Rattle.vectors.specs.Comparing.{alike}
+use Rattle.vectors.specs.Corpus.{Parts}
 use Rattle.cases.specs.Assuming.{assumptions_of}
 
--- how the corpus writes what an answer says that is a refusal or not, by the refusal's number: as given if there is none
-abbrev pub number_code : ℕ → ℕ → ℕ
-number_code says zero = says
-number_code says (suc n) = 2
+-- what an answer says that is a refusal or not, by the refusal's number: as given if there is none
+abbrev pub unless_refused : Says → ℕ → Says
+unless_refused says zero = says
+unless_refused says (suc n) = Refused
 
 -- and an answer that has the numbers of variables and of clauses if it is no refusal
-abbrev pub counts_written : ℕ → ℕ → ℕ → ℕ → ℕ → Answer
+abbrev pub counts_written : Says → ℕ → ℕ → ℕ → ℕ → Answer
 counts_written says number place variables clauses = record {
-  says = number_code says number;
+  says = unless_refused says number;
   number = number;
   place = place;
   variables = variables;
@@ -27,21 +26,16 @@ counts_written says number place variables clauses = record {
 }
 
 abbrev pub judge_written : JudgementValues → Answer
-judge_written a = counts_written 3 a.number a.place a.variables a.clauses
+judge_written a = counts_written Accepted a.number a.place a.variables a.clauses
 
--- the array before the call; a buffer of some size is its beginning
-abbrev pub filled : ℕ → List ℕ
-filled fill = replicate 256 fill
-
--- judge of an input under assumptions with a buffer of a size: the answer, and the array after the call
-unfoldable pub judge_filled : List ℕ → List Assumption → ℕ → ℕ → Judged
-judge_filled s us size fill =
-    let j = judge s us (take size (filled fill)) in
-    record { answer = judge_written j.answer; array = j.buffer ++ drop size (filled fill) }
-
--- judge of the vector's input has the expected answer and leaves the expected array
-unfoldable pub judge_agrees : List ℕ → Vector → Bool
-judge_agrees s v =
-    let fill = get_or s (v.end + 7) 0 in
-    let j = judge_filled (input_of s v) (assumptions_of s v) (get_or s (v.end + 6) 0) fill in
-    alike (expected s v.end) j.answer (first_wrong s (v.end + 8) max_clauses fill j.array) 256
+-- judge of the vector's input has the expected answer, and leaves the expected array. The fields behind the answer: the length of the
+-- buffer, which is the beginning of an array that has the fill everywhere before the call; the fill; and the first bytes after the call, with
+-- the fill behind them
+unfoldable pub judge_agrees : Parts → Bool
+judge_agrees v =
+    let size = get_or v.fields 6 0 in
+    let fill = get_or v.fields 7 0 in
+    let j = judge v.input (assumptions_of v) (take size (replicate 256 fill)) in
+    alike (expected v.fields) (judge_written j.answer)
+    (λ i. get_or (take max_clauses (drop 8 v.fields)) i fill)
+    (j.buffer ++ drop size (replicate 256 fill))

@@ -1,65 +1,56 @@
 -- The vectors of pages: the answer, the checkpoint and the page of their definition (S19), compared with those that the corpus has.
-use Rattle.std.specs.Prelude.{ℕ, ◌+◌, ◌-◌, ◌%◌, Bool, cond, ◌&&◌, List, eqb, ltb, length, get_or, take, replicate}
+use Rattle.std.specs.Prelude.{ℕ, ◌+◌, ◌-◌, ◌%◌, Bool, cond, ◌&&◌, List, eqb, ltb, length, get_or, take, drop, replicate}
 use Rattle.writing.specs.Text.{line_feed, blank}
 use Rattle.walk.specs.Checkpoints.{Checkpoint}
 use Rattle.page.specs.PageLines.{line_size, page_size}
 use Rattle.page.specs.Pages.{PageValues, PageCall, page_call}
+use Rattle.vectors.specs.declared.answers.Says.{Says}
+use Rattle.vectors.specs.declared.answers.Says.TheVariants.{Filled}
 use Rattle.vectors.specs.declared.answers.Answer.{Answer}
-use Rattle.vectors.specs.declared.corpus.Vector.{Vector}
-use Rattle.vectors.specs.Answers.{plain, expected}
-use Rattle.vectors.specs.Comparing.{wanted_byte, first_differing, DiffersAt, alike}
-use Rattle.vectors.specs.Corpus.{two_bytes, four_bytes, input_of}
+use Rattle.vectors.specs.Answers.{byte_of, plain, expected, same_answer}
+use Rattle.vectors.specs.Comparing.{first_wrong}
+use Rattle.vectors.specs.Corpus.{Parts, two_bytes, four_bytes}
 use Rattle.cases.specs.Assuming.{assumptions_of}
-use Rattle.cases.specs.Judging.{number_code}
+use Rattle.cases.specs.Judging.{unless_refused}
 use Rattle.cases.specs.Walking.{stored_checkpoint_size, origin, checkpoint_wrong}
 
 -- how the corpus writes an answer: the place is the refusal's or the number of lines that are filled, since the other one is 0
 abbrev pub page_written : PageValues → Answer
-page_written a = plain (number_code 11 a.number) a.number (a.place + a.lines)
+page_written a = plain (unless_refused Filled a.number) a.number (a.place + a.lines)
 
 -- so many bytes are written, by what an answer says
-abbrev pub written_size : ℕ → ℕ
-written_size says = cond (eqb says 11) page_size 0
+abbrev pub written_size : Says → ℕ
+written_size says = cond (eqb (byte_of says) (byte_of Filled)) page_size 0
 
 -- the byte behind the filled lines, at i: of a blank line, or the fill where nothing is written
 abbrev pub byte_behind : ℕ → ℕ → ℕ → ℕ
 byte_behind size fill i = cond (ltb i size) (cond (eqb (i % line_size) (line_size - 1)) line_feed blank) fill
 
--- the byte that must stand at i: the filled lines stand in s from an offset on
-abbrev pub page_byte : List ℕ → ℕ → ℕ → ℕ → ℕ → ℕ → ℕ
-page_byte s at kept size fill i = wanted_byte s at kept (byte_behind size fill i) i
+-- the byte that must stand at i: the filled lines stand first
+abbrev pub page_byte : List ℕ → ℕ → ℕ → ℕ → ℕ
+page_byte expected size fill i = get_or expected i (byte_behind size fill i)
 
--- where a page first has another byte than it must, else its length
-abbrev pub first_amiss : List ℕ → ℕ → ℕ → ℕ → ℕ → List ℕ → ℕ
-first_amiss s at kept size fill got = first_differing (page_byte s at kept size fill) got
-
-abbrev pub AmissAt : List ℕ → ℕ → ℕ → ℕ → ℕ → List ℕ → ℕ → Type 0
-AmissAt s at kept size fill got r = DiffersAt (page_byte s at kept size fill) got r
-
--- what the vector's call gives, of a lent page
-unfoldable pub paged : List ℕ → Vector → Checkpoint → List ℕ → PageCall
-paged s v last page = page_call (input_of s v) (assumptions_of s v) (origin s (v.end + 56) last) (four_bytes s (v.end + 107)) page
+-- what the vector's call gives. The last fields: the first serial; the length of the page, which has the fill everywhere before the call; and
+-- the fill
+unfoldable pub paged : Parts → Checkpoint → PageCall
+paged v last =
+    page_call v.input (assumptions_of v) (origin (drop 56 v.fields) last) (four_bytes v.fields 107)
+    (take (two_bytes v.fields 111) (replicate 65536 (get_or v.fields 113 0)))
 
 -- no byte of the checkpoint is wrong, the answers are the same, and the first wrong byte of the page would stand behind it
 abbrev pub page_alike : Answer → Answer → ℕ → ℕ → ℕ → Bool
-page_alike wanted got other wrong size = eqb other stored_checkpoint_size && alike wanted got wrong size
+page_alike wanted got other wrong size = eqb other stored_checkpoint_size && (same_answer wanted got && eqb wrong size)
 
--- the call gives what it must, of a lent page with the fill everywhere
-unfoldable pub pages : List ℕ → Vector → Checkpoint → ℕ → List ℕ → Bool
-pages s v last fill page =
-    let p = paged s v last page in
-    let wanted = expected s v.end in
-    page_alike wanted (page_written p.answer) (checkpoint_wrong s (v.end + 6) p.checkpoint)
-    (first_amiss s v.output (v.end - v.output) (written_size wanted.says) fill p.page)
-    (length page)
-
--- the last fields: the length of the page, and the fill
-abbrev pub lent_page : List ℕ → Vector → List ℕ
-lent_page s v = take (two_bytes s (v.end + 111)) (replicate 65536 (get_or s (v.end + 113) 0))
-
-unfoldable pub page_agrees : List ℕ → Vector → Checkpoint → Bool
-page_agrees s v last = pages s v last (get_or s (v.end + 113) 0) (lent_page s v)
+-- the call gives what it must
+unfoldable pub page_agrees : Parts → Checkpoint → Bool
+page_agrees v last =
+    let p = paged v last in
+    let wanted = expected v.fields in
+    page_alike wanted (page_written p.answer)
+    (checkpoint_wrong (take stored_checkpoint_size (drop 6 v.fields)) p.checkpoint)
+    (first_wrong eqb (page_byte v.expected (written_size wanted.says) (get_or v.fields 113 0)) p.page)
+    (length p.page)
 
 -- the checkpoint that the call returns
-unfoldable pub page_leaves : List ℕ → Vector → Checkpoint → Checkpoint
-page_leaves s v last = (paged s v last (lent_page s v)).checkpoint
+unfoldable pub page_leaves : Parts → Checkpoint → Checkpoint
+page_leaves v last = (paged v last).checkpoint

@@ -1,14 +1,12 @@
 -- The vectors of a file, each by its act.
-use Rattle.std.specs.Prelude.{ℕ, zero, suc, ◌+◌, ◌≤◌, Bool, true, false, cond, List, ◌≡◌, ltb, length}
+use Rattle.std.specs.Prelude.{ℕ, zero, suc, ◌-◌, Bool, true, false, List, None, Some, ◌≡◌, length}
 use Rattle.walk.specs.Checkpoints.{Checkpoint, start}
-use Rattle.vectors.specs.declared.corpus.Vector.{Vector}
-use Rattle.vectors.specs.declared.corpus.Framed.TheVariants.{Whole, Broken}
 use Rattle.cases.specs.declared.runs.Act.{Act}
 use Rattle.cases.specs.declared.runs.Act.TheVariants.{Check, Judge, Weigh, Deficiency, ReadText, WriteText, Start, Walk, Wait, Listing, Models, Page, Compare, Print}
 use Rattle.cases.specs.declared.runs.Run.{Run}
 use Rattle.vectors.specs.declared.totals.Totals.{Totals}
 use Rattle.vectors.specs.Checking.{check_agrees}
-use Rattle.vectors.specs.Corpus.{framed}
+use Rattle.vectors.specs.Corpus.{Parts, framed}
 use Rattle.cases.specs.Converting.{convert_agrees}
 use Rattle.cases.specs.Judging.{judge_agrees}
 use Rattle.cases.specs.Listing.{listing_agrees, listing_leaves, list_agrees, list_leaves}
@@ -38,60 +36,59 @@ size_of Page = 114
 size_of Compare = 6
 size_of Print = 0
 
--- and what the program takes for it, at most as much as a walk's
-pub record FieldsOf (act : Act) (r : ℕ) : Type 0 where
-  pub size : r ≡ size_of act
-  pub few : r ≤ size_of Walk
-
 -- the act gives what the vector expects
-abbrev pub act_agrees : Act → List ℕ → Vector → Checkpoint → Bool
-act_agrees Check s v last = check_agrees s v
-act_agrees Judge s v last = judge_agrees s v
-act_agrees Weigh s v last = weigh_agrees s v
-act_agrees Deficiency s v last = deficiency_agrees s v
-act_agrees ReadText s v last = convert_agrees true s v
-act_agrees WriteText s v last = convert_agrees false s v
-act_agrees Start s v last = start_agrees s v
-act_agrees Walk s v last = walk_agrees s v last
-act_agrees Wait s v last = waits_agree s v
-act_agrees Listing s v last = listing_agrees s v last
-act_agrees Models s v last = list_agrees s v last
-act_agrees Page s v last = page_agrees s v last
-act_agrees Compare s v last = compare_agrees s v
-act_agrees Print s v last = print_agrees s v
+abbrev pub act_agrees : Act → Parts → Checkpoint → Bool
+act_agrees Check v last = check_agrees v
+act_agrees Judge v last = judge_agrees v
+act_agrees Weigh v last = weigh_agrees v
+act_agrees Deficiency v last = deficiency_agrees v
+act_agrees ReadText v last = convert_agrees true v
+act_agrees WriteText v last = convert_agrees false v
+act_agrees Start v last = start_agrees v
+act_agrees Walk v last = walk_agrees v last
+act_agrees Wait v last = waits_agree v
+act_agrees Listing v last = listing_agrees v last
+act_agrees Models v last = list_agrees v last
+act_agrees Page v last = page_agrees v last
+act_agrees Compare v last = compare_agrees v
+act_agrees Print v last = print_agrees v
 
 -- the checkpoint that the last walk call returned, after the vector
-abbrev pub leaves : Act → List ℕ → Vector → Checkpoint → Checkpoint
-leaves Check s v last = last
-leaves Judge s v last = last
-leaves Weigh s v last = last
-leaves Deficiency s v last = last
-leaves ReadText s v last = last
-leaves WriteText s v last = last
-leaves Start s v last = last
-leaves Walk s v last = walk_leaves s v last
-leaves Wait s v last = last
-leaves Listing s v last = listing_leaves s v last
-leaves Models s v last = list_leaves s v last
-leaves Page s v last = page_leaves s v last
-leaves Compare s v last = last
-leaves Print s v last = last
+abbrev pub leaves : Act → Parts → Checkpoint → Checkpoint
+leaves Check v last = last
+leaves Judge v last = last
+leaves Weigh v last = last
+leaves Deficiency v last = last
+leaves ReadText v last = last
+leaves WriteText v last = last
+leaves Start v last = last
+leaves Walk v last = walk_leaves v last
+leaves Wait v last = last
+leaves Listing v last = listing_leaves v last
+leaves Models v last = list_leaves v last
+leaves Page v last = page_leaves v last
+leaves Compare v last = last
+leaves Print v last = last
 
--- the vectors from an offset on, up to the end or to one that runs past it. The first number is at least the count of the
--- bytes that are left.
-unfoldable pub run_from : ℕ → Act → List ℕ → ℕ → Totals → Checkpoint → Run
-run_from zero act s at t last = record { at = at; totals = t }
-run_from (suc k) act s at t last =
-    cond (ltb at (length s))
-    (elim (framed s at (size_of act)) [
-      | Whole v ↦ run_from k act s (v.end + size_of act) (counted t (act_agrees act s v last)) (leaves act s v last)
-      | Broken ↦ record { at = at; totals = t }
-    ])
-    (record { at = at; totals = t })
+-- what is left of a file, and the totals
+pub record Left : Type 0 where
+  pub bytes : List ℕ
+  pub totals : Totals
+
+-- the vectors at the beginning, up to the end or to one that runs past it. The number is at least the count of the bytes.
+unfoldable pub run_from : ℕ → Act → List ℕ → Totals → Checkpoint → Left
+run_from zero act s t last = record { bytes = s; totals = t }
+run_from (suc k) act s t last =
+    elim (framed s (size_of act)) [
+      | Some p ↦ run_from k act p.1 (counted t (act_agrees act p.0 last)) (leaves act p.0 last)
+      | None ↦ record { bytes = s; totals = t }
+    ]
 
 -- all vectors, counted on from totals; the start checkpoint stands for that of a last call
 unfoldable pub run_of : Act → List ℕ → Totals → Run
-run_of act s t = run_from (length s) act s 0 t start
+run_of act s t =
+    let l = run_from (length s) act s t start in
+    record { at = length s - length l.bytes; totals = l.totals }
 
 -- a run over all vectors, and how much the totals have grown by it
 pub record Ran (act : Act) (s : List ℕ) (t : Totals) (r : Run) : Type 0 where

@@ -1,184 +1,115 @@
 // The vectors of pages: each answer, checkpoint and lent page compared with the expected ones.
-ghost use Rattle.std.specs.Prelude.{◌+◌, ◌≤◌, ◌≡◌, length, IfOk};
+ghost use Rattle.std.specs.Prelude.{◌≤◌, ◌≡◌, length, IfOk};
 ghost use Rattle.enumeration.specs.Values.{checkpoint_values};
-ghost use Rattle.page.specs.Pages.{page_values, page_call, page_told};
-ghost use Rattle.vectors.specs.Corpus.{input_of, Lies};
+ghost use Rattle.page.specs.Pages.{page_values, page_checkpoint, page_call, page_told};
+ghost use Rattle.vectors.specs.Corpus.{parts_of};
 ghost use Rattle.cases.specs.Assuming.{assumptions_of};
-ghost use Rattle.cases.specs.Paging.{page_written, written_size, byte_behind, page_byte, AmissAt, page_alike, paged, pages, page_agrees, page_leaves};
-ghost use Rattle.cases.specs.Walking.{Gives};
+ghost use Rattle.cases.specs.Paging.{page_written, written_size, page_byte, page_alike, page_agrees, page_leaves};
+ghost use Rattle.cases.specs.Walking.{Leaves};
 
-use crate::assuming::{are_two, assumed, assumption_at};
-use crate::converting::filled;
-use crate::lending::page_two;
-use crate::walking::{CHECKPOINT_SIZE, Compared, call_origin, checkpoint_wrong, report_byte};
+use crate::assuming::{assumed, just_two};
+use crate::walking::{CHECKPOINT_SIZE, checkpoint_wrong, origin, report_checkpoint};
 use enumeration::Checkpoint;
-use page::{PageAnswer, Paged};
+use formula::Refusal;
+use page::{LINE_SIZE, PAGE_SIZE, Paged};
 use std::io;
-use vectors::answers::{Answer, expected_at, refusal_answer};
-use vectors::comparing::{agree, wanted_byte};
+use vectors::answers::{Answer, Says};
+use vectors::comparing::{first_wrong, wanted_byte};
 use vectors::corpus::{Vector, four_bytes, two_bytes};
 use vectors::report;
 
 // The number of lines that are filled stands as the place.
-fn answer_of(a: PageAnswer) -> Answer
-    ensures { result ≡ page_written (page_values a) }
+fn answer_of(paged: Result<Paged, Refusal>) -> Answer
+    ensures { result ≡ page_written (page_values paged) }
 {
-    match a {
-        PageAnswer::Filled(lines) => Answer {
-            says: 11,
-            number: 0,
-            place: lines as u64,
-            variables: 0,
-            clauses: 0,
+    match paged {
+        Ok(paged) => Answer {
+            place: paged.lines as u64,
+            ..Answer::bare(Says::Filled)
         },
-        PageAnswer::Refused(refusal) => refusal_answer(refusal),
+        Err(refusal) => Answer::refused(refusal),
     }
+}
+
+// The checkpoint that a page from another one returns; a refusal gives that back.
+fn checkpoint_of(from: Checkpoint, paged: Result<Paged, Refusal>) -> Checkpoint
+    ensures { checkpoint_values result ≡ page_checkpoint (checkpoint_values from) paged }
+{
+    paged.map_or(from, |paged| paged.checkpoint)
 }
 
 // So many bytes are written, by what an answer says.
-fn written_size(says: u64) -> usize
+fn written_size(says: Says) -> usize
     ensures { result ≡ written_size says }
 {
-    if says == 11 {
-        return page::PAGE_SIZE;
-    }
-    0
+    if says == Says::Filled { PAGE_SIZE } else { 0 }
 }
 
-// The byte behind the filled lines, at i: of a blank line, or the fill where nothing is written.
-fn byte_behind(size: usize, fill: u8, i: usize) -> u8
-    ensures { result ≡ byte_behind size fill i }
+// The byte that must stand at i: the filled lines stand first, behind them blank lines up to the size that is written, and then the fill.
+fn page_byte(expected: &[u8], size: usize, fill: u8, i: usize) -> u8
+    ensures { result ≡ page_byte expected.now size fill i }
 {
-    if size <= i {
-        return fill;
-    }
-    if i % page::LINE_SIZE == page::LINE_SIZE - 1 {
-        return b'\n';
-    }
-    b' '
-}
-
-// The byte that must stand at i: the filled lines stand in the file from an offset on.
-fn page_byte(bytes: &[u8], at: usize, kept: usize, size: usize, fill: u8, i: usize) -> u8
-    requires { at + kept ≤ length bytes.now }
-    ensures { result ≡ page_byte bytes.now at kept size fill i }
-{
-    wanted_byte(bytes, at, kept, byte_behind(size, fill, i), i)
-}
-
-// Where a page first has another byte than it must; its length if nowhere.
-fn first_amiss(bytes: &[u8], at: usize, kept: usize, size: usize, fill: u8, got: &[u8]) -> usize
-    requires { at + kept ≤ length bytes.now }
-    ensures { AmissAt bytes.now at kept size fill got.now result }
-{
-    let mut i: usize = 0;
-    while i < got.len() {
-        if got[i] != page_byte(bytes, at, kept, size, fill, i) {
-            return i;
-        }
-        i += 1;
-    }
-    i
+    let behind = if size <= i {
+        fill
+    } else if i % LINE_SIZE == LINE_SIZE - 1 {
+        b'\n'
+    } else {
+        b' '
+    };
+    wanted_byte(expected, behind, i)
 }
 
 // The checkpoint is wrong nowhere, and neither is the answer or, of so many bytes, the page.
-fn page_agree(wanted: Answer, got: Answer, other: usize, wrong: usize, size: usize) -> bool
+fn agree(wanted: Answer, got: Answer, other: usize, wrong: usize, size: usize) -> bool
     ensures { result ≡ page_alike wanted got other wrong size }
 {
-    if other != CHECKPOINT_SIZE {
-        return false;
-    }
-    agree(wanted, got, wrong, size)
+    other == CHECKPOINT_SIZE && wanted == got && wrong == size
 }
 
 // A page of the vector's input under its assumptions.
-fn page_from(bytes: &[u8], v: Vector, from: Checkpoint, serial: u32, page: &mut [u8]) -> Paged
-    requires { (v.start ≤ v.middle) × (v.middle ≤ v.output) × (v.output ≤ length bytes.now) }
-    ensures { page_call (input_of bytes.now v) (assumptions_of bytes.now v) (checkpoint_values from) serial page.old
-        ≡ page_told result page.new }
-{
-    let start = v.start;
-    let middle = v.middle;
-    if are_two(v) {
-        let a = assumption_at(bytes, middle);
-        let b = assumption_at(bytes, middle + 2);
-        return page_two(&bytes[start..middle], a, b, from, serial, page);
-    }
-    let u = assumed(bytes, v);
-    page::write_page_under(&bytes[start..middle], u, from, serial, page)
-}
-
-// The vector's page.
-fn page_of(bytes: &[u8], v: Vector, last: Checkpoint, page: &mut [u8]) -> Paged
-    requires { Lies bytes.now v 114 }
-    ensures { paged bytes.now v (checkpoint_values last) page.old ≡ page_told result page.new }
-{
-    let end = v.end;
-    let from = call_origin(bytes, end + 56, last);
-    let serial = four_bytes(bytes, end + 107) as u32;
-    page_from(bytes, v, from, serial, page)
-}
-
-// Whether the page, in a slice with the fill everywhere, gives what it must, and the checkpoint that it returned; a difference is printed.
-fn compare_page(
-    rt: &impl Print,
-    bytes: &[u8],
-    v: Vector,
-    last: Checkpoint,
-    fill: u8,
+fn write_page(
+    v: &Vector<'_>,
+    from: Checkpoint,
+    serial: u32,
     page: &mut [u8],
-) -> io::Result<Compared>
-    requires { Lies bytes.now v 114 }
-    ensures { IfOk result (Gives (pages bytes.now v (checkpoint_values last) fill page.old)
-        (paged bytes.now v (checkpoint_values last) page.old).checkpoint) }
+) -> Result<Paged, Refusal>
+    ensures { page_call v.now.input.now (assumptions_of (parts_of v.now)) (checkpoint_values from) serial page.old
+        ≡ page_told (checkpoint_values from) result page.new }
 {
-    let output = v.output;
-    let end = v.end;
-    let at = end + 6;
-    let kept = end - output;
-    let wanted = expected_at(bytes, end);
-    let size = written_size(wanted.says);
-    let told = page_of(bytes, v, last, page);
-    let answer = told.answer;
-    let returned = told.checkpoint;
-    let got = answer_of(answer);
-    let other = checkpoint_wrong(bytes, at, returned);
-    let wrong = first_amiss(bytes, output, kept, size, fill, page);
-    if page_agree(wanted, got, other, wrong, page.len()) {
-        return Ok(Compared {
-            agrees: true,
-            last: returned,
-        });
+    match just_two(v) {
+        Some(list) => page::write_page(v.input, &list, from, serial, page),
+        None => page::write_page_under(v.input, assumed(v), from, serial, page),
     }
-    report::difference(rt, v.number, wanted, got)?;
-    report_byte(rt, bytes, at, returned, other)?;
-    if wrong < page.len() {
-        report::wrong_byte(
-            rt,
-            wrong,
-            page_byte(bytes, output, kept, size, fill, wrong),
-            page[wrong],
-        )?;
-    }
-    Ok(Compared {
-        agrees: false,
-        last: returned,
-    })
 }
 
-// Whether the vector's page gives what it must, and the checkpoint that it returned.
-pub fn page_vector(
-    rt: &impl Print,
-    bytes: &[u8],
-    v: Vector,
-    last: Checkpoint,
-) -> io::Result<Compared>
-    requires { Lies bytes.now v 114 }
-    ensures { IfOk result (Gives (page_agrees bytes.now v (checkpoint_values last)) (page_leaves bytes.now v (checkpoint_values last))) }
+// Whether the vector's page, in a slice with the fill everywhere, gives what it must; a difference is printed. The last checkpoint becomes the
+// one that the page returned.
+#[tactic(auto, unfolding(crate::specs::Paging::paged, crate::specs::Paging::page_agrees, crate::specs::Paging::page_leaves))]
+pub fn page_vector(rt: &impl Print, v: &Vector<'_>, last: &mut Checkpoint) -> io::Result<bool>
+    requires { 114 ≤ length v.now.fields.now }
+    ensures { IfOk result (Leaves (page_agrees (parts_of v.now) (checkpoint_values last.old)) (page_leaves (parts_of v.now) (checkpoint_values last.old)) last.new) }
 {
-    let end = v.end;
-    let size = two_bytes(bytes, end + 111) as usize;
-    let fill = bytes[end + 113];
-    let mut array = filled(fill);
-    compare_page(rt, bytes, v, last, fill, &mut array[..size])
+    let expected = Answer::expected(v.fields);
+    let written = written_size(expected.says);
+    let stored = &v.fields[6..6 + CHECKPOINT_SIZE];
+    let from = origin(&v.fields[56..], *last);
+    let serial = four_bytes(v.fields, 107);
+    let size = usize::from(two_bytes(v.fields, 111));
+    let fill = v.fields[113];
+    let mut array = [fill; 65536];
+    let page = &mut array[..size];
+    let paged = write_page(v, from, serial, page);
+    let got = answer_of(paged);
+    let returned = checkpoint_of(from, paged);
+    *last = returned;
+    let other = checkpoint_wrong(stored, returned);
+    let wanted = |i: usize| page_byte(v.expected, written, fill, i);
+    let wrong = first_wrong(page, wanted);
+    if agree(expected, got, other, wrong, page.len()) {
+        return Ok(true);
+    }
+    report::difference(rt, v.number, expected, got)?;
+    report_checkpoint(rt, stored, returned, other)?;
+    report::wrong_byte(rt, page, wrong, wanted)?;
+    Ok(false)
 }

@@ -1,4 +1,3 @@
-pub mod CheckingLaws
 pub mod ComparingLaws
 pub mod FrameLaws
 pub mod TotalsLaws

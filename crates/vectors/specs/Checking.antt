@@ -1,21 +1,21 @@
 -- The vectors of check: the answer of its definition (S4.3), compared with the one that the corpus has.
-use Rattle.std.specs.Prelude.{ℕ, ◌+◌, Bool, List}
+use Rattle.std.specs.Prelude.{Bool}
 use Rattle.formula.specs.Check.{VerdictValues, Said, said_yes, said_no, said_neither, checked}
+use Rattle.vectors.specs.declared.answers.Says.{Says}
+use Rattle.vectors.specs.declared.answers.Says.TheVariants.{No, Yes, Refused}
 use Rattle.vectors.specs.declared.answers.Answer.{Answer}
-use Rattle.vectors.specs.declared.corpus.Vector.{Vector}
 use Rattle.vectors.specs.Answers.{plain, expected, same_answer}
-use Rattle.vectors.specs.Corpus.{eight_bytes, input_of}
+use Rattle.vectors.specs.Corpus.{Parts, eight_bytes}
 
 -- how the corpus writes what an answer says
-abbrev pub said_byte : Said → ℕ
-said_byte said_no = 0
-said_byte said_yes = 1
-said_byte said_neither = 2
+abbrev pub said_written : Said → Says
+said_written said_no = No
+said_written said_yes = Yes
+said_written said_neither = Refused
 
 abbrev pub check_written : VerdictValues → Answer
-check_written a = plain (said_byte a.said) a.number a.place
+check_written a = plain (said_written a.said) a.number a.place
 
 -- check of the vector's input and assignment has the expected answer
-unfoldable pub check_agrees : List ℕ → Vector → Bool
-check_agrees s v =
-    same_answer (expected s v.end) (check_written (checked (input_of s v) (eight_bytes s (v.end + 6))))
+unfoldable pub check_agrees : Parts → Bool
+check_agrees v = same_answer (expected v.fields) (check_written (checked v.input (eight_bytes v.fields 6)))

@@ -1,41 +1,65 @@
-// Bytes that a call gives, compared with those that the corpus has.
-ghost use Rattle.std.specs.Prelude.{◌+◌, ◌≤◌, ◌≡◌, length};
-ghost use Rattle.vectors.specs.Comparing.{wanted_byte, WrongAt, alike};
+// What a call gives, compared with what the corpus has.
+ghost use Rattle.std.specs.Prelude.{ℕ, ◌≤◌, ◌≡◌, length, get_or, IfOk};
+ghost use Rattle.vectors.specs.Answers.{expected, same_answer};
+ghost use Rattle.vectors.specs.Comparing.{Gives, first_wrong, alike};
 
-use crate::answers::{Answer, equal};
+use crate::answers::Answer;
+use crate::corpus::Vector;
+use crate::report;
+use std::io;
 
-// The byte that must stand at i: those before `kept` stand in the file from an offset on, and the others are the fill.
-pub fn wanted_byte(bytes: &[u8], at: usize, kept: usize, fill: u8, i: usize) -> u8
-    requires { at + kept ≤ length bytes.now }
-    ensures { result ≡ wanted_byte bytes.now at kept fill i }
+// The byte that must stand at i: the expected ones stand first, and the fill behind them.
+pub fn wanted_byte(expected: &[u8], fill: u8, i: usize) -> u8
+    ensures { result ≡ get_or expected.now i fill }
 {
-    if i < kept {
-        return bytes[at + i];
-    }
-    fill
+    expected.get(i).copied().unwrap_or(fill)
 }
 
-// Where the bytes that a call gave first have another than they must; how many they are, if nowhere.
-pub fn first_wrong(bytes: &[u8], at: usize, kept: usize, fill: u8, got: &[u8]) -> usize
-    requires { at + kept ≤ length bytes.now }
-    ensures { WrongAt bytes.now at kept fill got.now result }
+// Where values that a call gave first are others than they must be; how many they are, if nowhere.
+pub fn first_wrong<T: Copy + PartialEq, F: Fn(usize) -> T>(got: &[T], wanted: F) -> usize
+    requires { F.IsAlwaysCallable wanted }
+    ensures within { result ≤ length got.now }
+    ensures place { (w : ℕ → T) → Gives (F.post wanted) w (length got.now) → result ≡ first_wrong T.eq w got.now }
 {
-    let mut i: usize = 0;
-    while i < got.len() {
-        if got[i] != wanted_byte(bytes, at, kept, fill, i) {
+    for (i, x) in got.iter().enumerate() {
+        if *x != wanted(i) {
             return i;
         }
-        i += 1;
     }
-    i
+    got.len()
 }
 
-// The answers are the same, and of so many bytes none is wrong.
-pub fn agree(wanted: Answer, got: Answer, wrong: usize, size: usize) -> bool
-    ensures { result ≡ alike wanted got wrong size }
+// Whether a call gives the vector's expected answer; a difference is printed.
+pub fn compare_answer(rt: &impl Print, v: &Vector<'_>, got: Answer) -> io::Result<bool>
+    requires { 6 ≤ length v.now.fields.now }
+    ensures { IfOk result (λ agrees. agrees ≡ same_answer (expected v.now.fields.now) got) }
 {
-    if equal(wanted, got) {
-        return wrong == size;
+    let wanted = Answer::expected(v.fields);
+    if wanted == got {
+        return Ok(true);
     }
-    false
+    report::difference(rt, v.number, wanted, got)?;
+    Ok(false)
+}
+
+// Whether a call gives the vector's expected answer, and leaves the bytes that it must; a difference is printed.
+pub fn compare_bytes<F: Fn(usize) -> u8>(
+    rt: &impl Print,
+    v: &Vector<'_>,
+    got: Answer,
+    bytes: &[u8],
+    wanted: F,
+) -> io::Result<bool>
+    requires fields { 6 ≤ length v.now.fields.now }
+    requires callable { F.IsAlwaysCallable wanted }
+    ensures { (w : ℕ → ℕ) → Gives (F.post wanted) w (length bytes.now) → IfOk result (λ agrees. agrees ≡ alike (expected v.now.fields.now) got w bytes.now) }
+{
+    let expected = Answer::expected(v.fields);
+    let wrong = first_wrong(bytes, &wanted);
+    if expected == got && wrong == bytes.len() {
+        return Ok(true);
+    }
+    report::difference(rt, v.number, expected, got)?;
+    report::wrong_byte(rt, bytes, wrong, wanted)?;
+    Ok(false)
 }

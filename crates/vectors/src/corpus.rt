@@ -1,71 +1,53 @@
 // Numbers and vectors in a file of the corpus.
-ghost use Rattle.std.specs.Prelude.{◌+◌, ◌≤◌, ◌≡◌, length};
-ghost use Rattle.vectors.specs.Corpus.{two_bytes, four_bytes, eight_bytes, Read, framed};
+ghost use Rattle.std.specs.Prelude.{◌+◌, ◌≤◌, ◌≡◌, length, MatchOption, None, Some};
+ghost use Rattle.vectors.specs.Corpus.{two_bytes, four_bytes, eight_bytes, parts_of, framed};
 
-// A vector: its number, and where its parts start: its input, its assumptions, the bytes that it expects, and its fields.
+// A vector: its number, its input, its assumptions, the bytes that it expects, and its fields.
 #[derive(Clone, Copy)]
-pub struct Vector {
-    pub number: u64,
-    pub start: usize,
-    pub middle: usize,
-    pub output: usize,
-    pub end: usize,
+pub struct Vector<'a> {
+    pub number: u16,
+    pub input: &'a [u8],
+    pub assumptions: &'a [u8],
+    pub expected: &'a [u8],
+    pub fields: &'a [u8],
 }
 
-// What stands at an offset: a whole vector, or one that runs past the end.
-#[derive(Clone, Copy)]
-pub enum Framed {
-    Whole(Vector),
-    Broken,
-}
-
-pub fn wide(x: u8) -> u64
-    ensures { Read x 256 result }
-{
-    x as u64
-}
-
-pub fn two_bytes(bytes: &[u8], at: usize) -> u64
+pub fn two_bytes(bytes: &[u8], at: usize) -> u16
     requires { at + 2 ≤ length bytes.now }
-    ensures { Read (two_bytes bytes.now at) 65536 result }
+    ensures { result ≡ two_bytes bytes.now at }
 {
-    wide(bytes[at]) + 256 * wide(bytes[at + 1])
+    u16::from_le_bytes([bytes[at], bytes[at + 1]])
 }
 
-pub fn four_bytes(bytes: &[u8], at: usize) -> u64
+pub fn four_bytes(bytes: &[u8], at: usize) -> u32
     requires { at + 4 ≤ length bytes.now }
-    ensures { Read (four_bytes bytes.now at) 4294967296 result }
+    ensures { result ≡ four_bytes bytes.now at }
 {
-    two_bytes(bytes, at) + 65536 * two_bytes(bytes, at + 2)
+    u32::from(two_bytes(bytes, at)) + 65536 * u32::from(two_bytes(bytes, at + 2))
 }
 
 pub fn eight_bytes(bytes: &[u8], at: usize) -> u64
     requires { at + 8 ≤ length bytes.now }
     ensures { result ≡ eight_bytes bytes.now at }
 {
-    four_bytes(bytes, at) + 4294967296 * four_bytes(bytes, at + 4)
+    u64::from(four_bytes(bytes, at)) + 4294967296 * u64::from(four_bytes(bytes, at + 4))
 }
 
-// The vector at an offset, whose act has fields of a given size.
-pub fn frame(bytes: &[u8], at: usize, fields: usize) -> Framed
-    requires { (at ≤ length bytes.now) × (fields ≤ 65536) }
-    ensures { result ≡ framed bytes.now at fields }
+// The vector at the beginning, whose act has fields of a given size, and the bytes behind it; none if it runs past the end.
+pub fn frame(bytes: &[u8], fields: usize) -> Option<(Vector<'_>, &[u8])>
+    ensures { MatchOption result (framed bytes.now fields ≡ None) (λ r. framed bytes.now fields ≡ Some (parts_of r.0, r.1.now)) }
 {
-    let left = bytes.len() - at;
-    if left < 8 {
-        return Framed::Broken;
-    }
-    let input = two_bytes(bytes, at + 2) as usize;
-    let assumptions = two_bytes(bytes, at + 4) as usize;
-    let expected = two_bytes(bytes, at + 6) as usize;
-    if left < 8 + input + assumptions + expected + fields {
-        return Framed::Broken;
-    }
-    Framed::Whole(Vector {
-        number: two_bytes(bytes, at),
-        start: at + 8,
-        middle: at + 8 + input,
-        output: at + 8 + input + assumptions,
-        end: at + 8 + input + assumptions + expected,
-    })
+    let (head, rest) = bytes.split_at_checked(8)?;
+    let (input, rest) = rest.split_at_checked(usize::from(two_bytes(head, 2)))?;
+    let (assumptions, rest) = rest.split_at_checked(usize::from(two_bytes(head, 4)))?;
+    let (expected, rest) = rest.split_at_checked(usize::from(two_bytes(head, 6)))?;
+    let (fields, rest) = rest.split_at_checked(fields)?;
+    let vector = Vector {
+        number: two_bytes(head, 0),
+        input,
+        assumptions,
+        expected,
+        fields,
+    };
+    Some((vector, rest))
 }

@@ -8,29 +8,24 @@ pub struct Totals {
     pub differences: u64,
 }
 
-pub fn none() -> Totals
-    ensures { (result.vectors ≡ 0) × (result.differences ≡ 0) }
-{
-    Totals {
-        vectors: 0,
-        differences: 0,
-    }
-}
-
-// One vector more, whose answer is the expected one or differs.
-pub fn count(t: Totals, agrees: bool) -> Totals
-    requires { RoomFor 1 t }
-    ensures { result ≡ counted t agrees }
-{
-    if agrees {
+impl Totals {
+    pub fn none() -> Self
+        ensures { (result.vectors ≡ 0) × (result.differences ≡ 0) }
+    {
         Totals {
-            vectors: t.vectors + 1,
-            differences: t.differences,
+            vectors: 0,
+            differences: 0,
         }
-    } else {
+    }
+
+    // One vector more, whose answer is the expected one or differs.
+    pub fn count(self, agrees: bool) -> Self
+        requires { RoomFor 1 self }
+        ensures { result ≡ counted self agrees }
+    {
         Totals {
-            vectors: t.vectors + 1,
-            differences: t.differences + 1,
+            vectors: self.vectors + 1,
+            differences: self.differences + u64::from(!agrees),
         }
     }
 }

@@ -5,6 +5,6 @@ use mathlib.Core.Path.{refl}
 use Rattle.cases.specs.Runs.{run_from, run_of}
 use Rattle.cases.proofs.run_file.Goals as goal
 
-pub returns-in-Err : goal.returns-in-Err
+pub returns-in_default : goal.returns-in_default
 unfolding run_from run_of
-returns-in-Err g c = record { bytes = []; totals = refl; grown = record { vectors = omega arith; differences = omega arith } }
+returns-in_default g c = record { bytes = []; totals = refl; grown = record { vectors = omega arith; differences = omega arith } }

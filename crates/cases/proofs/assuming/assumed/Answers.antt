@@ -1,9 +1,9 @@
--- `assumed`: the pairs, read for the number of variables that the input states.
-use Rattle.cases.proofs.AssumingLaws.{given_of, stated_few}
+-- `assumed`: the number of variables is the one that the input states, which is few.
+use Rattle.assumptions.proofs.StatedLaws.{stated_le}
 use Rattle.cases.proofs.assuming.assumed.Goals as goal
 
 pub read_pairs-requires : goal.read_pairs-requires
-read_pairs-requires c = stated_few _ _ c.stated-n.ensures
+read_pairs-requires c = rw c.stated.ensures (stated_le _)
 
 pub returns : goal.returns
-returns c = given_of _ _ _ _ c.stated-n.ensures c.read_pairs.ensures
+returns c = rw c.stated.ensures at c.read_pairs.ensures

@@ -1,16 +1,14 @@
--- `convert_vector`: what the comparison ensures, with the filled array.
-use mathlib.Core.Path.{sym}
-use native.Mathlib.Omega.{arith}
-use lib.Seq.{length-take-le}
-use Rattle.cases.proofs.ConvertingLaws.{filled-length, converting_of}
+-- `convert_vector`: the comparison is that of `convert_agrees`, since each side is what its function ensures.
+use Rattle.std.proofs.Common.{rules, sym, ◌∙◌, arith, get_or, length-take-le}
+use Rattle.vectors.specs.Corpus.{parts_of}
+use Rattle.cases.proofs.ConvertingLaws.{compared}
 use Rattle.cases.proofs.converting.convert_vector.Goals as goal
 
-pub slice_bounds-compare_converted-end : goal.slice_bounds-compare_converted-end
-slice_bounds-compare_converted-end g c =
-    let l = filled-length _ _ c.filled-array.ensures in
-    sym (length-take-le _ _ (omega arith))
+pub slice_bounds-buffer-end : goal.slice_bounds-buffer-end
+slice_bounds-buffer-end g c = sym (length-take-le _ _ (omega (arith, c.two_bytes.ensures, c.from-size.ensures)))
 
 pub returns : goal.returns
 returns g c =
-    rw (converting_of c.args.reads c.args.bytes.now c.args.v _ _ c.filled-array.ensures c.two_bytes-size.ensures.value) at
-    c.compare_converted.ensures
+    let v = c.args.v.now in
+    rw (← compared _ (parts_of v) _ _ _ (c.from-size.ensures ∙ c.two_bytes.ensures) c.convert-got.ensures)
+    (c.compare_bytes.ensures (λ i. get_or v.expected.now i (get_or v.fields.now 8 0)) (λ i r lt p. search rules))

@@ -1,33 +1,30 @@
 -- `list_vector`: the comparison is that of `list_agrees`, since each side is what its function ensures.
-use mathlib.Core.Path.{◌≡◌, sym, ◌∙◌}
+use Rattle.std.proofs.Common.{rules, arith}
 use Rattle.enumeration.specs.Values.{checkpoint_values}
-use Rattle.cases.specs.Listing.{list_agrees, list_leaves}
-use Rattle.cases.proofs.ListingLaws.{list_compared, list_left}
+use Rattle.vectors.specs.Corpus.{parts_of}
+use Rattle.cases.specs.Walking.{Leaves}
+use Rattle.cases.specs.Listing.{wanted_model, list_agrees, list_leaves}
+use Rattle.cases.proofs.WalkingLaws.{from_on}
+use Rattle.cases.proofs.ListingLaws.{lists, list_compared}
 use Rattle.cases.proofs.listing.list_vector.Given.{Over}
-use Rattle.cases.proofs.listing.list_vector.Goals.{After-list_agree}
+use Rattle.cases.proofs.listing.list_vector.Goals.{After-agree}
 use Rattle.cases.proofs.listing.list_vector.Goals as goal
 
--- what the comparison gives
-told : (g : Over) (c : After-list_agree g)
-    → c.list_agree.result ≡ list_agrees c.args.bytes.now c.args.v (checkpoint_values c.args.last)
+-- what the comparison gives, and the checkpoint that is left
+told :
+    (g : Over) (c : After-agree g) →
+    Leaves (list_agrees (parts_of c.args.v.now) (checkpoint_values c.args.last.now)) (list_leaves (parts_of c.args.v.now) (checkpoint_values c.args.last.now)) c.new-got.result.checkpoint c.agree.result
 told g c =
-    c.list_agree.ensures
-    ∙ list_compared _ _ _ _ _ _ _ _ _
-    c.expected_call-wanted.ensures
-    c.list_of-filled.ensures
-    c.checkpoint_wrong-wrong.ensures
-    c.agree-told.ensures
-    c.wide-fill.ensures.value
-    c.other_place-other.ensures
+    let v = parts_of c.args.v.now in
+    let L = lists v (checkpoint_values c.args.last.now) _ _ _ _ _ _ _ _
+    (rw (from_on c.args.v.now.fields.now 72) at c.origin-from.ensures) c.from-room.ensures c.from-fill.ensures (omega (arith, c.from-room.ensures))
+    c.list-listed.ensures c.count_of-count.ensures (c.last_call.ensures _) c.new-got.ensures in
+    list_compared v (checkpoint_values c.args.last.now) _ _ _ _ _ _ _ _ _ L c.expected-expected.ensures c.checkpoint_wrong-wrong.ensures
+    (c.first_wrong-other.ensures.place (wanted_model v.expected c.from-fill.result) (λ i r lt p. search rules))
+    c.agrees.ensures c.agree.ensures
 
--- the checkpoint that the list returned
-left : (g : Over) (c : After-list_agree g)
-    → checkpoint_values c.list_of-filled.result.checkpoint ≡ list_leaves c.args.bytes.now c.args.v (checkpoint_values c.args.last)
-left g c = list_left _ _ _ _ c.list_of-filled.ensures
-
-pub returns-then-list_agree : goal.returns-then-list_agree
-returns-then-list_agree g c = record { agrees = sym c.if-list_agree.true ∙ told g (goal.at.returns-then-list_agree g c).After-list_agree; leaves = left g (goal.at.returns-then-list_agree g c).After-list_agree }
+pub returns-then-agree : goal.returns-then-agree
+returns-then-agree g c = rw c.if-agree.true at (told g (goal.at.returns-then-agree g c).After-agree)
 
 pub returns : goal.returns
-returns g c =
-    record { agrees = sym c.if-list_agree.false ∙ told g (goal.at.returns g c).After-list_agree; leaves = left g (goal.at.returns g c).After-list_agree }
+returns g c = rw c.if-agree.false at (told g (goal.at.returns g c).After-agree)

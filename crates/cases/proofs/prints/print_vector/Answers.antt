@@ -1,38 +1,27 @@
--- `print_vector`: the bytes that print counts are the text, and the comparison is that of `print_agrees`.
-use Prim.Native.Nat.{ℕ}
-use mathlib.Core.Path.{◌≡◌, sym, ◌∙◌, refl}
-use lib.ListN.{length-replicate}
-use lib.Seq.{length-take-le}
+-- `print_vector`: the bytes that are compared are those of the text.
+use Rattle.std.proofs.Common.{◌≡◌, sym, ap, ◌∙◌, arith, length-take-le}
+use Rattle.std.specs.Str.{bytes_eq}
 use Rattle.printing.proofs.PrintLaws.{count_within}
+use Rattle.vectors.specs.Corpus.{parts_of}
 use Rattle.cases.specs.Prints.{print_agrees}
-use Rattle.cases.proofs.PrintsLaws.{text_compared}
+use Rattle.cases.proofs.PrintsLaws.{text_written}
 use Rattle.cases.proofs.prints.print_vector.Given.{Over}
-use Rattle.cases.proofs.prints.print_vector.Goals.{After-agree}
+use Rattle.cases.proofs.prints.print_vector.Goals.{After-eq}
 use Rattle.cases.proofs.prints.print_vector.Goals as goal
-
--- what the comparison gives
-told :
-    (g : Over) (c : After-agree g) →
-    let a = c.args in
-    c.agree.result ≡ print_agrees a.bytes.now a.v
-told g c =
-    c.agree.ensures
-    ∙ text_compared _ _ _ _ _ _ _ (sym (length-replicate {A = ℕ} 65536 0)) c.print-count.ensures refl c.first_wrong-wrong.ensures.place
 
 pub slice_bounds-buffer-end : goal.slice_bounds-buffer-end
 slice_bounds-buffer-end g c = count_within _ _ _ _ c.print-count.ensures
 
-pub slice_bounds-first_wrong-end : goal.slice_bounds-first_wrong-end
-slice_bounds-first_wrong-end g c = sym (length-take-le _ _ (count_within _ _ _ _ c.print-count.ensures))
+pub slice_bounds-text-end : goal.slice_bounds-text-end
+slice_bounds-text-end g c = sym (length-take-le _ _ (count_within _ _ _ _ c.print-count.ensures))
 
-pub returns-then-agree : goal.returns-then-agree
-returns-then-agree g c = sym c.if-agree.true ∙ told g (goal.at.returns-then-agree g c).After-agree
+-- what the comparison gives
+told : (g : Over) (c : After-eq g) → c.eq.result ≡ print_agrees (parts_of c.args.v.now)
+unfolding print_agrees
+told g c = c.eq.ensures ∙ ap (λ t. bytes_eq t c.args.v.now.expected.now) (text_written _ _ _ _ (omega arith) c.print-count.ensures)
 
-pub slice_bounds-buffer-end-2 : goal.slice_bounds-buffer-end-2
-slice_bounds-buffer-end-2 g c = count_within _ _ _ _ c.print-count.ensures
-
-pub slice_bounds-other_text-end-2 : goal.slice_bounds-other_text-end-2
-slice_bounds-other_text-end-2 g c = sym (length-take-le _ _ (count_within _ _ _ _ c.print-count.ensures))
+pub returns-then-eq : goal.returns-then-eq
+returns-then-eq g c = sym c.if-eq.true ∙ told g (goal.at.returns-then-eq g c).After-eq
 
 pub returns : goal.returns
-returns g c = sym c.if-agree.false ∙ told g (goal.at.returns g c).After-agree
+returns g c = sym c.if-eq.false ∙ told g (goal.at.returns g c).After-eq

@@ -1,67 +1,56 @@
--- `run_all`: the invariant is that the run from the offset on, with the totals and the checkpoint so far, gives what the whole
--- run gives, and that no count has grown above the offset. The measure is the number of bytes that are left.
-use mathlib.Core.Path.{◌≡◌, sym, ◌∙◌}
-use native.Mathlib.Omega.{arith}
-use Rattle.vectors.specs.declared.corpus.Framed.TheVariants.{Whole}
-use Rattle.vectors.specs.Corpus.{framed}
-use Rattle.vectors.proofs.FrameLaws.{Within, within}
-use Rattle.cases.proofs.RunLaws.{stands-first, stands_next, stands_broken, stands_done}
+-- `run_all`: the invariant is that the run over what is left, with the totals and the checkpoint so far, gives what the whole run gives, and
+-- that no count has grown by more than the bytes that are behind. The measure is the number of bytes that are left.
+use Rattle.std.proofs.Common.{arith}
+use Rattle.vectors.proofs.FrameLaws.{within}
 use Rattle.vectors.proofs.TotalsLaws.{counted_grown}
-use borrow.Author.Rules.{rules}
+use Rattle.cases.proofs.RunLaws.{stands_next, stands_done}
 use Rattle.cases.proofs.runs.run_all.Goals as goal
 
-pub loop-at-init : goal.loop-at-init
-loop-at-init g c = (
-  omega arith,
-  record { vectors = omega arith; differences = omega arith },
-  rw c.start_checkpoint-last.ensures (stands-first _ _ _),
-  c.fields_of-fields.ensures.size,
-)
+pub run_vector-requires-clause-fields : goal.run_vector-requires-clause-fields
+run_vector-requires-clause-fields g c =
+    let W = within _ _ _ _ c.in-Some.ensures in
+    omega (arith, W.fields_size, c.fields.ensures)
 
-pub returns-in-Broken : goal.returns-in-Broken
-returns-in-Broken g c =
+pub run_vector-requires-clause-calls : goal.run_vector-requires-clause-calls
+run_vector-requires-clause-calls g c =
+    let W = within _ _ _ _ c.in-Some.ensures in
+    omega (arith, W.expected, c.loop-v.invariant.fewer)
+
+pub count-totals-requires : goal.count-totals-requires
+count-totals-requires g c =
+    let W = within _ _ _ _ c.in-Some.ensures in
+    let I = c.loop-v.invariant in
     record {
-      run =
-          stands_broken _ _ _ _ _ _ c.loop-at.invariant.2 c.loop-at-test.true
-          (rw c.loop-at.invariant.3 at (sym c.frame.ensures ∙ c.in-Broken.is));
-      grown = record { vectors = omega arith; differences = omega arith };
+      vectors = omega (arith, W.shorter, I.fewer, I.grown.vectors, c.requires.room.vectors);
+      differences = omega (arith, W.shorter, I.fewer, I.grown.differences, c.requires.room.differences);
     }
 
-pub run_vector-requires : goal.run_vector-requires
-run_vector-requires g c =
-    let w : Within c.args.bytes.now c.loop-at.at c.fields_of-fields.result c.in-Whole.v =
-    within _ _ _ _ (sym c.frame.ensures ∙ c.in-Whole.is) in
-    (rw c.loop-at.invariant.3 at w.lies, search rules)
+pub loop-v-smaller : goal.loop-v-smaller
+loop-v-smaller g c =
+    let W = within _ _ _ _ c.in-Some.ensures in
+    omega (arith, W.shorter)
 
-pub overflow_add-at : goal.overflow_add-at
-overflow_add-at g c =
-    let w : Within c.args.bytes.now c.loop-at.at c.fields_of-fields.result c.in-Whole.v =
-    within _ _ _ _ (sym c.frame.ensures ∙ c.in-Whole.is) in
-    omega arith
-
-pub loop-at-smaller : goal.loop-at-smaller
-loop-at-smaller g c =
-    let w : Within c.args.bytes.now c.loop-at.at c.fields_of-fields.result c.in-Whole.v =
-    within _ _ _ _ (sym c.frame.ensures ∙ c.in-Whole.is) in
-    omega arith
-
-pub loop-at-preserved : goal.loop-at-preserved
-loop-at-preserved g c =
-    let e : framed c.args.bytes.now c.loop-at.at c.fields_of-fields.result ≡ Whole c.in-Whole.v = sym c.frame.ensures ∙ c.in-Whole.is in
-    let w : Within c.args.bytes.now c.loop-at.at c.fields_of-fields.result c.in-Whole.v = within _ _ _ _ e in
-    let o = c.in_ok-compared-in-Whole in
-    let b = counted_grown c.loop-at.counts o.compared.agrees in
-    rw c.count-counts.ensures (
-      omega arith,
-      record { vectors = omega arith; differences = omega arith },
-      rw (o.ensures.agrees, o.ensures.leaves)
-          (rw c.loop-at.invariant.3
-          (stands_next _ _ _ _ _ _ c.loop-at.invariant.2 _ c.loop-at-test.true (rw c.loop-at.invariant.3 at e))),
-      c.loop-at.invariant.3,
-    )
+pub loop-v-preserved : goal.loop-v-preserved
+loop-v-preserved g c =
+    let W = within _ _ _ _ c.in-Some.ensures in
+    let I = c.loop-v.invariant in
+    let o = c.in_ok-run_vector.ensures in
+    let b = counted_grown c.loop-v.totals c.in_ok-run_vector.field-0 in
+    record {
+      fewer = omega (arith, W.shorter, I.fewer);
+      grown = rw c.count-totals.ensures (record {
+        vectors = omega (arith, W.shorter, I.fewer, I.grown.vectors, b.vectors);
+        differences = omega (arith, W.shorter, I.fewer, I.grown.differences, b.differences);
+      });
+      stands =
+          rw (c.count-totals.ensures, o.agrees, o.leaves)
+          (stands_next _ _ _ _ _ _ I.stands _ _ (rw c.fields.ensures at c.in-Some.ensures));
+    }
 
 pub returns : goal.returns
-returns g c = record {
-  run = stands_done _ _ _ _ _ _ c.loop-at.invariant.2 c.loop-at-test.false;
-  grown = record { vectors = omega arith; differences = omega arith };
-}
+returns g c =
+    let I = c.loop-v.invariant in
+    record {
+      run = stands_done _ _ _ _ _ _ I.stands (rw c.fields.ensures at c.in_default.ensures);
+      grown = record { vectors = omega (arith, I.grown.vectors); differences = omega (arith, I.grown.differences) };
+    }

@@ -1,12 +1,10 @@
--- `first_wrong`: the invariant is that no byte before i is wrong. The measure is the number of bytes that are left.
-use Prim.Native.Nat.{◌-◌, ◌≤◌}
-use mathlib.Core.Path.{◌≡◌}
-use lib.ListN.{length}
-use Rattle.vectors.specs.Comparing.{wanted_byte, wrong_from, first_wrong}
+-- `first_wrong`: the invariant is that no value before i is wrong.
+use Rattle.std.proofs.Common.{ℕ, ◌≡◌, ◌-◌, length}
+use Rattle.vectors.specs.Comparing.{wrong_from, first_wrong, Gives}
 use Rattle.vectors.proofs.comparing.first_wrong.Given as goal
 
 abbrev pub invariant-loop-i : goal.invariant-loop-i
-invariant-loop-i l = (l.i ≤ length l.got) × (wrong_from (wanted_byte l.bytes l.at l.kept l.fill) l.got (length l.got - l.i) l.i ≡ first_wrong l.bytes l.at l.kept l.fill l.got)
-
-abbrev pub decreases-loop-i : goal.decreases-loop-i
-decreases-loop-i l = length l.got - l.i
+invariant-loop-i g l =
+    (w : ℕ → g.row.T.Denot) →
+    Gives (goal.F-post g l.wanted) w (length l.got) →
+    wrong_from g.T.PartialEq.eq w l.got (length l.got - l.i) l.i ≡ first_wrong g.T.PartialEq.eq w l.got
