@@ -83,7 +83,12 @@ impl From<Declined> for Refusal {
 }
 
 // A byte for each clause: 0 if the assignment satisfies it, and for the others, in order, what the answers have, raised by k.
-fn spread(f: &Formula, a: Assignment, answers: &[u8; MAX_CLAUSES], k: u8) -> ArrayVec<u8, MAX_CLAUSES>
+fn spread(
+    f: &Formula,
+    a: Assignment,
+    answers: &[u8; MAX_CLAUSES],
+    k: u8,
+) -> ArrayVec<u8, MAX_CLAUSES>
     requires { (i : ℕ) → i < max_clauses → get_or answers.now i 0 + k < 256 }
     ensures { result.items ≡ bytes_at f.now.clauses.items a answers.now k (length f.now.clauses.items) }
 {
