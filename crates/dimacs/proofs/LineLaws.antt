@@ -16,9 +16,10 @@ use Rattle.masks.specs.Mask.{with}
 use Rattle.masks.proofs.BitLaws.{bit-with}
 use Rattle.masks.proofs.MembersLaws.{mask_same, with_member}
 use Rattle.writing.specs.Text.{digit_zero, line_feed, blank, decimal, line_of}
-use Rattle.writing.specs.Placed.{Room, Wrote}
+use Rattle.writing.specs.declared.Writer.{Writer}
+use Rattle.writing.specs.Placed.{RoomIn, Wrote, Puts}
 use Rattle.writing.proofs.DecimalLaws.{decimal_one}
-use Rattle.writing.proofs.PlacedLaws.{placed_none, wrote_more, room_front, room_behind}
+use Rattle.writing.proofs.PlacedLaws.{puts_none, puts_more, room_in_front, room_in_behind}
 use Rattle.formula.specs.Format.{Literal, literal_kind, literal_bytes, literals_bytes, clause_bytes, clauses_bytes, formula_bytes, names, add, without_repeats, WrittenOver, Encodes}
 use Rattle.formula.specs.Decoding.{readable, refused}
 use Rattle.formula.specs.InnerDecode.{decode}
@@ -30,7 +31,6 @@ use Rattle.formula.proofs.ClauseLaws.{variables-bit}
 use Rattle.formula.proofs.Demands.{accepted_only}
 use Rattle.formula.proofs.FormatLaws.{names-append}
 use Rattle.std.specs.Prelude.{Ok}
-use Rattle.dimacs.specs.declared.writer.Offsets.{Offsets}
 use Rattle.dimacs.specs.Text.{minus_sign}
 use Rattle.dimacs.specs.Written.{literal_word, clause_line, clause_lines, opening_line, text_of, text_room}
 use Rattle.dimacs.specs.Convert.{converted_values, declined, to_text}
@@ -155,29 +155,29 @@ spent s rest i (l ∷ left) e h = go l.positive (sym (front s i _ _ e).0 ∙ h)
     go false q = absurd (omega arith)
 
 -- the line is written up to the literals that are left at i, behind the variables seen
-pub record Lining (s rest : List ℕ) (w : List Literal) (at : ℕ) (before now : List ℕ) (seen i next : ℕ) : Type 0 where
+pub record Lining (s rest : List ℕ) (w : List Literal) (before now : Writer) (seen i : ℕ) : Type 0 where
   pub left : List Literal
   pub bytes : drop i s ≡ literals_bytes left ++ (4 ∷ rest)
   pub below : Every (λ l. l.variable < max_variables) left
   pub written : List ℕ
-  pub wrote : Wrote written at before now next
+  pub puts : Puts written before now
   pub same : clause_line (without_repeats w) ≡ written ++ line_rest seen left
 
 -- nothing is written yet
-pub lining_first : (s rest : List ℕ) (from : ℕ) (w : List Literal) (at : ℕ) (before : List ℕ) → drop from s ≡ clause_bytes w ++ rest → WrittenOver max_variables w
-    → Lining s rest w at before before 0 from at
+pub lining_first : (s rest : List ℕ) (from : ℕ) (w : List Literal) (before : Writer) → drop from s ≡ clause_bytes w ++ rest → WrittenOver max_variables w → RoomIn [] before
+    → Lining s rest w before before 0 from
 unfolding clause_bytes
-lining_first s rest from w at before e o =
+lining_first s rest from w before e o r =
     record {
       left = w;
       bytes = e ∙ append_snoc (literals_bytes w) 4 rest;
       below = o.below;
       written = [];
-      wrote = record { buffer = placed_none at before; next = omega arith };
+      puts = puts_none before r;
       same = line_read w;
     }
 
-module _ {s rest : List ℕ} {w : List Literal} {at : ℕ} {before now : List ℕ} {seen i next : ℕ} (g : Lining s rest w at before now seen i next) where
+module _ {s rest : List ℕ} {w : List Literal} {before now : Writer} {seen i : ℕ} (g : Lining s rest w before now seen i) where
   -- a byte stands at i
   pub lining_inside : i < length s
   lining_inside = omega (arith, ap length g.bytes, length-append (literals_bytes g.left) (4 ∷ rest), length-drop i s)
@@ -196,28 +196,27 @@ module _ {s rest : List ℕ} {w : List Literal} {at : ℕ} {before now : List �
   below_next a = rw a.is at g.below
 
   -- there is room for what is left of the line
-  lining_room : Room at (clause_line (without_repeats w)) before → Room next (line_rest seen g.left) now
-  lining_room r = room_behind at g.written (line_rest seen g.left) _ before now next g.same r g.wrote
+  lining_room : RoomIn (clause_line (without_repeats w)) before → RoomIn (line_rest seen g.left) now
+  lining_room r = room_in_behind g.written (line_rest seen g.left) _ before now g.same r g.puts
 
   -- and for the literal that comes, whose variable has a number from 1 to 48
-  pub literal_room : Ahead s rest i g.left → Room at (clause_line (without_repeats w)) before
-      → (1 ≤ get_or s (i + 1) 0) × (get_or s (i + 1) 0 ≤ max_variables) × Room next here now
+  pub literal_room : Ahead s rest i g.left → RoomIn (clause_line (without_repeats w)) before
+      → (1 ≤ get_or s (i + 1) 0) × (get_or s (i + 1) 0 ≤ max_variables) × RoomIn here now
   literal_room a r = (
     omega (arith, a.variable),
     omega (arith, a.variable, (below_next a).0),
-    room_front next here _ _ now (rest_next a) (lining_room r),
+    room_in_front here _ _ now (rest_next a) (lining_room r),
   )
 
   -- a literal more
-  pub lining_more : (now' : List ℕ) (next' : ℕ) → Ahead s rest i g.left → at ≤ length before → Wrote here next now now' next'
-      → Lining s rest w at before now' (with seen (get_or s (i + 1) 0 - 1)) (i + 2) next'
-  lining_more now' next' a h x =
+  pub lining_more : (now' : Writer) → Ahead s rest i g.left → Puts here now now' → Lining s rest w before now' (with seen (get_or s (i + 1) 0 - 1)) (i + 2)
+  lining_more now' a x =
       record {
         left = a.others;
         bytes = a.bytes;
         below = (below_next a).1;
         written = g.written ++ here;
-        wrote = wrote_more h g.wrote x;
+        puts = puts_more g.puts x;
         same = g.same ∙ ap (λ (l : List ℕ). g.written ++ l) (rest_next a) ∙ sym (append_assoc g.written here _);
       }
 
@@ -227,13 +226,13 @@ module _ {s rest : List ℕ} {w : List Literal} {at : ℕ} {before now : List �
   line_end h = rw (spent s rest i g.left g.bytes h).0
 
   -- for which there is room
-  pub end_room : get_or s i 0 ≡ 4 → Room at (clause_line (without_repeats w)) before → Room next (digit_zero ∷ line_feed ∷ []) now
+  pub end_room : get_or s i 0 ≡ 4 → RoomIn (clause_line (without_repeats w)) before → RoomIn (digit_zero ∷ line_feed ∷ []) now
   end_room h r = rw (line_end h) at (lining_room r)
 
   -- and with which the line is whole
-  pub lining_last : (now' : List ℕ) (next' : ℕ) → get_or s i 0 ≡ 4 → at ≤ length before → Wrote (digit_zero ∷ line_feed ∷ []) next now now' next'
-      → Wrote (clause_line (without_repeats w)) at before now' next' × (drop (i + 1) s ≡ rest)
-  lining_last now' next' h l x = (rw (g.same, line_end h) (wrote_more l g.wrote x), (spent s rest i g.left g.bytes h).1)
+  pub lining_last : (now' : Writer) → get_or s i 0 ≡ 4 → Puts (digit_zero ∷ line_feed ∷ []) now now'
+      → Puts (clause_line (without_repeats w)) before now' × (drop (i + 1) s ≡ rest)
+  lining_last now' h x = (rw (g.same, line_end h) (puts_more g.puts x), (spent s rest i g.left g.bytes h).1)
 
 -- ---- the loop over the clauses
 
@@ -249,22 +248,21 @@ some [] h = absurd (omega arith)
 some (w ∷ ws) h = record { clause = w; others = ws; is = refl }
 
 -- the lines are written up to the clauses that are left at `from`, of which there are so many
-pub record Listing (s rest : List ℕ) (ws : List (List Literal)) (at : ℕ) (before now : List ℕ) (from next more : ℕ) : Type 0 where
+pub record Listing (s rest : List ℕ) (ws : List (List Literal)) (before now : Writer) (from more : ℕ) : Type 0 where
   pub left : List (List Literal)
   pub bytes : drop from s ≡ clauses_bytes left ++ rest
   pub over : Every (WrittenOver max_variables) left
   pub many : length left ≡ more
   pub written : List ℕ
-  pub wrote : Wrote written at before now next
+  pub puts : Puts written before now
   pub same : clause_lines (map without_repeats ws) ≡ written ++ clause_lines (map without_repeats left)
 
 -- nothing is written yet
-pub listing-first : (s rest : List ℕ) (from : ℕ) (ws : List (List Literal)) (at : ℕ) (before : List ℕ) (count : ℕ) → drop from s ≡ clauses_bytes ws ++ rest
-    → Every (WrittenOver max_variables) ws → count ≡ length ws → Listing s rest ws at before before from at count
-listing-first s rest from ws at before count e o n =
-    record { left = ws; bytes = e; over = o; many = sym n; written = []; wrote = record { buffer = placed_none at before; next = omega arith }; same = refl }
+pub listing_first : (s rest : List ℕ) (from : ℕ) (ws : List (List Literal)) (before : Writer) (more : ℕ) → drop from s ≡ clauses_bytes ws ++ rest
+    → Every (WrittenOver max_variables) ws → more ≡ length ws → RoomIn [] before → Listing s rest ws before before from more
+listing_first s rest from ws before more e o n r = record { left = ws; bytes = e; over = o; many = sym n; written = []; puts = puts_none before r; same = refl }
 
-module _ {s rest : List ℕ} {ws : List (List Literal)} {at : ℕ} {before now : List ℕ} {from next more : ℕ} (g : Listing s rest ws at before now from next more) where
+module _ {s rest : List ℕ} {ws : List (List Literal)} {before now : Writer} {from more : ℕ} (g : Listing s rest ws before now from more) where
   -- the bytes of a clause, and then those of the others
   clause_bytes_next : (a : Some g.left) → drop from s ≡ clause_bytes a.clause ++ (clauses_bytes a.others ++ rest)
   unfolding clauses_bytes
@@ -281,7 +279,7 @@ module _ {s rest : List ℕ} {ws : List (List Literal)} {at : ℕ} {before now :
   lines_next a = rw a.is
 
   -- the next clause stands there, with room for its line
-  pub listing_clause : 0 < more → Room at (clause_lines (map without_repeats ws)) before → ClauseAt s from now next
+  pub listing_clause : 0 < more → RoomIn (clause_lines (map without_repeats ws)) before → ClauseAt s from now
   listing_clause h r =
       let a = some g.left (omega (arith, g.many)) in
       record {
@@ -289,13 +287,12 @@ module _ {s rest : List ℕ} {ws : List (List Literal)} {at : ℕ} {before now :
         rest = clauses_bytes a.others ++ rest;
         bytes = clause_bytes_next a;
         over = (over_next a).0;
-        room = room_front next (clause_line (without_repeats a.clause)) (clause_lines (map without_repeats a.others)) _ now (lines_next a) (room_behind at g.written _ _ before now next g.same r g.wrote);
+        room = room_in_front (clause_line (without_repeats a.clause)) (clause_lines (map without_repeats a.others)) _ now (lines_next a) (room_in_behind g.written _ _ before now g.same r g.puts);
       }
 
   -- a line more
-  pub listing_more : (now' : List ℕ) (p : Offsets) → 0 < more → at ≤ length before → AfterClause s from now next now' p
-      → Listing s rest ws at before now' p.from p.at (more - 1)
-  listing_more now' p h l f =
+  pub listing_more : (now' : Writer) (next : ℕ) → 0 < more → AfterClause s from now now' next → Listing s rest ws before now' next (more - 1)
+  listing_more now' next h f =
       let a = some g.left (omega (arith, g.many)) in
       let x = f a.clause (clauses_bytes a.others ++ rest) (clause_bytes_next a) (over_next a).0 in
       record {
@@ -304,18 +301,18 @@ module _ {s rest : List ℕ} {ws : List (List Literal)} {at : ℕ} {before now :
         over = (over_next a).1;
         many = omega (arith, ap length a.is, g.many);
         written = g.written ++ clause_line (without_repeats a.clause);
-        wrote = wrote_more l g.wrote x.0;
+        puts = puts_more g.puts x.0;
         same = g.same ∙ ap (λ (t : List ℕ). g.written ++ t) (lines_next a) ∙ sym (append_assoc g.written (clause_line (without_repeats a.clause)) _);
       }
 
   -- no clause is left
-  pub listing_last : more ≡ 0 → Wrote (clause_lines (map without_repeats ws)) at before now next
+  pub listing_last : more ≡ 0 → Puts (clause_lines (map without_repeats ws)) before now
   unfolding clause_lines
   listing_last h = go g.left (g.many ∙ h) g.same
     where
       go : (left : List (List Literal)) → length left ≡ 0 → clause_lines (map without_repeats ws) ≡ g.written ++ clause_lines (map without_repeats left)
-          → Wrote (clause_lines (map without_repeats ws)) at before now next
-      go [] n e = rw (e, append-nil g.written) g.wrote
+          → Puts (clause_lines (map without_repeats ws)) before now
+      go [] n e = rw (e, append-nil g.written) g.puts
       go (w ∷ left) n e = absurd (omega arith)
 
 -- ---- the whole text
@@ -340,14 +337,13 @@ module _ {s : List ℕ} {n : ℕ} {cs : List (List Literal)} (e : Encodes s n cs
   encoded_text = ap (λ (ds : List (List Literal)). opening_line n (length cs) ++ clause_lines ds) e.read
 
 -- there is room for the p line
-pub opening_room : {s b : List ℕ} {n m : ℕ} → Readable s n m b → Room 0 (opening_line n m) b
+pub opening_room : {s : List ℕ} {n m : ℕ} {w : Writer} → Readable s n m w → RoomIn (opening_line n m) w
 unfolding text_of
-opening_room {s} {b} {n} {m} r =
-    room_front 0 (opening_line n m) (clause_lines r.clauses) (text_of n r.clauses) b (rw r.all) r.room
+opening_room {s} {n} {m} {w} r = room_in_front (opening_line n m) (clause_lines r.clauses) (text_of n r.clauses) w (rw r.all) r.room
 
-module _ {s b c : List ℕ} {n m p : ℕ} (r : Readable s n m b) (o : Wrote (opening_line n m) 0 b c p) where
+module _ {s : List ℕ} {n m : ℕ} {v w : Writer} (r : Readable s n m v) (o : Puts (opening_line n m) v w) where
   -- and behind it for the others
-  pub readable_clauses : ClausesAt s m c p
+  pub readable_clauses : ClausesAt s m w
   readable_clauses =
       let e = accepted_only s n r.clauses r.reads in
       record {
@@ -356,17 +352,16 @@ module _ {s b c : List ℕ} {n m p : ℕ} (r : Readable s n m b) (o : Wrote (ope
         bytes = encoded_bytes e;
         over = encoded_over e;
         all = r.all ∙ encoded_many e;
-        room = room_behind 0 (opening_line n m) (clause_lines (map without_repeats e.written)) (text_of n r.clauses) b c p (rw r.all (encoded_text e)) r.room o;
+        room = room_in_behind (opening_line n m) (clause_lines (map without_repeats e.written)) (text_of n r.clauses) v w (rw r.all (encoded_text e)) r.room o;
       }
 
   -- which make the text
-  pub readable_written : (d : List ℕ) (q : ℕ) → Lined s m p c d q → (cs : List (List Literal)) → decode s ≡ readable n cs → Wrote (text_of n cs) 0 b d q
-  readable_written d q f cs k =
+  pub readable_written : (x : Writer) → Lined s m w x → (cs : List (List Literal)) → decode s ≡ readable n cs → Puts (text_of n cs) v x
+  readable_written x f cs k =
       let e = accepted_only s n cs k in
       let same : r.clauses ≡ cs = cc r.reads in
       let many : m ≡ length cs = r.all ∙ ap length same in
-      let h : 0 ≤ length b = omega arith in
-      rw (encoded_text e, ← many) (wrote_more h o (f e.written (5 ∷ []) (encoded_bytes e) (encoded_over e) (many ∙ encoded_many e)))
+      rw (encoded_text e, ← many) (puts_more o (f e.written (5 ∷ []) (encoded_bytes e) (encoded_over e) (many ∙ encoded_many e)))
 
 -- ---- the act
 

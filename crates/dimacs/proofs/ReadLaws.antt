@@ -5,14 +5,12 @@ use mathlib.Core.Path.{◌≡◌, refl}
 use native.Mathlib.Omega.{arith}
 use borrow.Author.Tests.{lt-ltb, le-ltb}
 use lib.ListN.{length}
-use Rattle.std.specs.Prelude.{Ok}
-use Rattle.writing.specs.Placed.{Wrote}
 use Rattle.formula.specs.declared.Refusal.{Refusal}
 use Rattle.formula.specs.declared.Refusal.TheVariants.{ShortBuffer}
 use Rattle.formula.specs.Format.{Literal, formula_bytes, max_bytes}
 use Rattle.formula.specs.Decoding.{readable, refused}
 use Rattle.dimacs.specs.Text.{lines, others, by_lines, read_text}
-use Rattle.dimacs.specs.Convert.{converted_values, declined, to_encoded}
+use Rattle.dimacs.specs.Convert.{converted, declined, to_encoded}
 
 -- ---- the act
 
@@ -33,9 +31,6 @@ module _ (t b : List ℕ) (long : max_bytes ≤ length b) where
   encoded_refused r h = rw (le-ltb (length b) max_bytes long, h)
 
   -- one that is read is written
-  pub encoded_written : (n : ℕ) (cs : List (List Literal)) (c : List ℕ) (r : ℕ) → read_text t ≡ readable n cs → Wrote (formula_bytes n cs) 0 b c r
-      → to_encoded t b ≡ record { answer = converted_values (Ok r); buffer = c }
+  pub encoded_written : (n : ℕ) (cs : List (List Literal)) → read_text t ≡ readable n cs → to_encoded t b ≡ converted (formula_bytes n cs) b
   unfolding to_encoded
-  encoded_written n cs c r h w =
-      let q : 0 + length (formula_bytes n cs) ≡ length (formula_bytes n cs) = omega arith in
-      rw (le-ltb (length b) max_bytes long, h, w.next, w.buffer, q)
+  encoded_written n cs h = rw (le-ltb (length b) max_bytes long, h)

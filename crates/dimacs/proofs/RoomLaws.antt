@@ -13,6 +13,8 @@ use Rattle.lists.proofs.EveryLaws.{every_replicate}
 use Rattle.writing.specs.Text.{digit_zero, line_feed, decimal, decimal_within}
 use Rattle.writing.proofs.DecimalLaws.{decimal-length}
 use Rattle.writing.proofs.LineLaws.{numbers-length}
+use Rattle.writing.specs.declared.Writer.{Writer}
+use Rattle.writing.specs.Placed.{RoomFor}
 use Rattle.formula.specs.declared.Formula.{Formula}
 use Rattle.formula.specs.Format.{Literal, names, distinct, ClauseOver, Sized}
 use Rattle.formula.specs.InnerMasked.{clause_of}
@@ -135,9 +137,9 @@ text_le {n} {cs} z =
       lines_le cs z.most z.clauses,
     )
 
--- so a buffer of the room asked for has room for the text of an accepted input
-pub accepted_readable : {s b : List ℕ} {f : Formula} → Accepts s f → text_room ≤ length b → Readable s f.variables (length f.clauses.items) b
-accepted_readable {s} {b} a h = rw (a.formula, length-map a.clauses clause_of) (record {
+-- so a writer with the room asked for has room for the text of an accepted input
+pub accepted_readable : {s : List ℕ} {f : Formula} {w : Writer} → Accepts s f → RoomFor text_room w → Readable s f.variables (length f.clauses.items) w
+accepted_readable a h = rw (a.formula, length-map a.clauses clause_of) (record {
   clauses = a.clauses;
   reads = a.reads;
   all = refl;

@@ -198,5 +198,7 @@ pub fn read(text: &[u8], buffer: &mut [u8]) -> Result<usize, Refusal>
     let mut reader = Reader::new(p.variables);
     reader.take_lines(lines)?;
     reader.close(text.len(), p)?;
-    Ok(writing::put_word(reader.bytes(), buffer, 0))
+    let bytes = reader.bytes();
+    buffer[..bytes.len()].copy_from_slice(bytes);
+    Ok(bytes.len())
 }

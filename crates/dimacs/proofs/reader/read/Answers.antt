@@ -1,8 +1,9 @@
 -- `read`: a short buffer, a refusal, or the bytes that were kept.
-use Prim.Native.Nat.{ℕ}
+use Prim.Native.Nat.{ℕ, ◌≤◌}
 use mathlib.Core.Path.{◌≡◌, sym, ap, ◌∙◌}
 use native.Mathlib.Omega.{arith}
-use lib.ListN.{length}
+use lib.ListN.{length, take}
+use lib.Seq.{length-take-le}
 use Rattle.std.proofs.lemmas.Result.{err_from_is_err_and}
 use Rattle.formula.proofs.LengthLaws.{formula_le}
 use Rattle.dimacs.specs.Text.{read_text, progress_start, next, all_words, take_words, closing, by_lines}
@@ -10,7 +11,7 @@ use Rattle.dimacs.specs.InnerScan.{lines_left}
 use Rattle.dimacs.specs.InnerReader.{Opened, Stands, Kept}
 use Rattle.dimacs.proofs.GoesLaws.{stands_ready}
 use Rattle.dimacs.proofs.ReadLaws.{text_lines, encoded_short, encoded_refused, encoded_written}
-use Rattle.dimacs.proofs.reader.read.Goals.{After-new-lines, In_ok-p, In_ok-take_lines, In_ok-close}
+use Rattle.dimacs.proofs.reader.read.Goals.{After-new-lines, In_ok-p, In_ok-take_lines, In_ok-close, After-bytes-bytes}
 use Rattle.dimacs.proofs.reader.read.Goals as goal
 
 -- the lines decide
@@ -80,17 +81,31 @@ returns-in_err-close c =
     (encoded_refused c.args.text.now c.args.buffer.now (omega arith) _
     (closes d ∙ c.in_err-close.ensures (n (before d)) s.progress o.third o.fourth s.keeps o.numbers))
 
-pub bytes-requires : goal.bytes-requires
-bytes-requires c =
-    let k = kept (goal.at.bytes-requires c).In_ok-close in
+pub bytes-bytes-requires : goal.bytes-bytes-requires
+bytes-bytes-requires c =
+    let k = kept (goal.at.bytes-bytes-requires c).In_ok-close in
     omega (arith, k.holds.long, formula_le k.sized)
 
-pub put_word-requires : goal.put_word-requires
-put_word-requires c =
-    let k = kept (goal.at.put_word-requires c).In_ok-close in
-    rw (c.bytes.ensures, k.holds.starts) (omega (arith, formula_le k.sized))
+-- the buffer has room for them
+room : (t : After-bytes-bytes) → length t.bytes-bytes.result.now ≤ length t.args.buffer.now
+room t =
+    let k = kept (goal.at.After-bytes-bytes t).In_ok-close in
+    rw (t.bytes-bytes.ensures, k.holds.starts) (omega (arith, formula_le k.sized))
+
+taken : (t : After-bytes-bytes) → length (take (length t.bytes-bytes.result.now) t.args.buffer.now) ≡ length t.bytes-bytes.result.now
+taken t = length-take-le _ t.args.buffer.now (room t)
+
+pub slice_bounds-copy_from_slice-end : goal.slice_bounds-copy_from_slice-end
+slice_bounds-copy_from_slice-end c = room c
+
+pub slice_bounds-copy_from_slice-end-2 : goal.slice_bounds-copy_from_slice-end-2
+slice_bounds-copy_from_slice-end-2 c = sym (taken (goal.at.slice_bounds-copy_from_slice-end-2 c).After-bytes-bytes)
+
+pub copy_from_slice-requires : goal.copy_from_slice-requires
+copy_from_slice-requires c = taken (goal.at.copy_from_slice-requires c).After-bytes-bytes
 
 pub returns : goal.returns
 returns c =
     let k = kept (goal.at.returns c).In_ok-close in
-    encoded_written c.args.text.now c.args.buffer.now (omega arith) k.variables k.clauses _ _ (closes (goal.at.returns c).In_ok-take_lines ∙ k.reads) (rw (c.bytes.ensures, k.holds.starts) at c.put_word.ensures)
+    rw (c.copy_from_slice.ensures.after, c.bytes-bytes.ensures, k.holds.starts)
+    (encoded_written c.args.text.now c.args.buffer.now (omega arith) k.variables k.clauses (closes (goal.at.returns c).In_ok-take_lines ∙ k.reads))

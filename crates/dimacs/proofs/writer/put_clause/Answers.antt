@@ -5,8 +5,7 @@ use Rattle.dimacs.proofs.writer.put_clause.Goals.{At-loop-i, In-loop-i}
 use Rattle.dimacs.proofs.writer.put_clause.Goals as goal
 
 -- how far the line of the clause that stands there is written
-going : (l : At-loop-i)
-    → (Lining l.args.input.now l.requires.rest l.requires.clause l.args.place.at l.args.buffer.now l.loop-i.buffer l.loop-i.line.seen l.loop-i.i l.loop-i.line.at)
+going : (l : At-loop-i) → (Lining l.args.input.now l.requires.rest l.requires.clause l.args.w.now l.loop-i.w l.loop-i.seen l.loop-i.i)
 going l = let v = l.requires in l.loop-i.invariant v.clause v.rest v.bytes v.over
 
 -- the literal at i
@@ -17,7 +16,7 @@ literal t =
     ahead _ _ t.loop-i.i (going d).left (going d).bytes t.loop-i-test.true
 
 pub loop-i-init : goal.loop-i-init
-loop-i-init c = λ w rest e o. let a = c.args in lining_first a.input.now rest a.place.from w a.place.at a.buffer.now e o
+loop-i-init c = let r = c.requires.room in λ v rest e o. lining_first c.args.input.now rest c.args.from v c.args.w.now e o (omega arith)
 
 pub bounds-input-i : goal.bounds-input-i
 bounds-input-i c = lining_inside (going (goal.at.bounds-input-i c).At-loop-i)
@@ -31,23 +30,19 @@ overflow_add-i c = omega (arith, (literal (goal.at.overflow_add-i c).In-loop-i).
 pub bounds-input-i-in-loop-i-2 : goal.bounds-input-i-in-loop-i-2
 bounds-input-i-in-loop-i-2 c = omega (arith, (literal (goal.at.bounds-input-i-in-loop-i-2 c).In-loop-i).inside)
 
-pub put_once-line-requires : goal.put_once-line-requires
-put_once-line-requires c =
-    literal_room (going (goal.at.put_once-line-requires c).At-loop-i) (literal (goal.at.put_once-line-requires c).In-loop-i) c.requires.room
+pub put_once-seen-requires : goal.put_once-seen-requires
+put_once-seen-requires c =
+    literal_room (going (goal.at.put_once-seen-requires c).At-loop-i) (literal (goal.at.put_once-seen-requires c).In-loop-i) c.requires.room
 
 pub loop-i-preserved : goal.loop-i-preserved
 loop-i-preserved c =
-    let r = c.requires.room in
-    λ w rest e o.
-    let g = c.loop-i.invariant w rest e o in
-    rw c.put_once-line.ensures.1
-    (lining_more g _ _ (ahead _ _ c.loop-i.i g.left g.bytes c.loop-i-test.true) (omega arith) c.put_once-line.ensures.0)
+    λ v rest e o.
+    let g = c.loop-i.invariant v rest e o in
+    rw c.put_once-seen.ensures.1 (lining_more g _ (ahead _ _ c.loop-i.i g.left g.bytes c.loop-i-test.true) c.put_once-seen.ensures.0)
 
 pub put_word-requires : goal.put_word-requires
 put_word-requires c =
     end_room (going (goal.at.put_word-requires c).At-loop-i) c.loop-i-test.false c.requires.room
 
 pub returns : goal.returns
-returns c =
-    let r = c.requires.room in
-    λ w rest d o. lining_last (c.loop-i.invariant w rest d o) _ _ c.loop-i-test.false (omega arith) c.put_word.ensures
+returns c = λ v rest e o. lining_last (c.loop-i.invariant v rest e o) _ c.loop-i-test.false c.put_word.ensures

@@ -9,8 +9,8 @@ use Rattle.dimacs.proofs.LineLaws.{Lining}
 use Rattle.dimacs.proofs.writer.put_clause.Given as goal
 
 abbrev pub invariant-loop-i : goal.invariant-loop-i
-invariant-loop-i l = (w : List Literal) (rest : List ℕ) → drop l.fn.place.from l.input ≡ clause_bytes w ++ rest → WrittenOver max_variables w
-    → Lining l.input rest w l.fn.place.at l.initial.buffer l.buffer l.line.seen l.i l.line.at
+invariant-loop-i l = (v : List Literal) (rest : List ℕ) → drop l.from l.input ≡ clause_bytes v ++ rest → WrittenOver max_variables v
+    → Lining l.input rest v l.initial.w l.w l.seen l.i
 
 abbrev pub decreases-loop-i : goal.decreases-loop-i
 decreases-loop-i l = length l.input - l.i

@@ -11,4 +11,4 @@ use Rattle.dimacs.proofs.writer.put_clauses.Given as goal
 
 abbrev pub invariant-loop : goal.invariant-loop
 invariant-loop l = (ws : List (List Literal)) (rest : List ℕ) → drop 2 l.input ≡ clauses_bytes ws ++ rest → Every (WrittenOver max_variables) ws → l.count ≡ length ws
-    → Listing l.input rest ws l.at l.initial.buffer l.buffer l.place.from l.place.at (l.count - l.counter)
+    → Listing l.input rest ws l.initial.w l.w l.from (l.count - l.counter)

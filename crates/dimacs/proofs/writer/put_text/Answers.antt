@@ -2,13 +2,11 @@
 use Rattle.dimacs.proofs.LineLaws.{opening_room, readable_clauses, readable_written}
 use Rattle.dimacs.proofs.writer.put_text.Goals as goal
 
-pub put_opening-next-requires : goal.put_opening-next-requires
-put_opening-next-requires c = opening_room c.requires
+pub put_opening-requires : goal.put_opening-requires
+put_opening-requires c = opening_room c.requires
 
 pub put_clauses-requires : goal.put_clauses-requires
-put_clauses-requires c =
-    readable_clauses c.requires c.put_opening-next.ensures
+put_clauses-requires c = readable_clauses c.requires c.put_opening.ensures
 
 pub returns : goal.returns
-returns c =
-    readable_written c.requires c.put_opening-next.ensures _ _ c.put_clauses.ensures
+returns c = readable_written c.requires c.put_opening.ensures _ c.put_clauses.ensures
