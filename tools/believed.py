@@ -32,7 +32,7 @@ CRATES = ROOT / 'crates'
 PROOFS = ROOT / 'docs' / 'PROOFS.md'
 STATEMENTS = ('Demands', 'Theorems', 'ListTheorems', 'AssumedCases', 'MarkedCases', 'StrippedCases', 'TextCases')
 APART = ('exhaustive', 'vectors')  # for tests: no statement rests on them
-OURS = ('assumptions::none_assumed', 'assumptions::stated', 'enumeration::root', 'enumeration::visible_in', 'formula::decode', 'formula::empty_clause', 'formula::other_side', 'masks::lowest', 'masks::meets', 'masks::minus', 'masks::size', 'matched::assigned_by', 'splitting::choose_free', 'splitting::is_satisfied', 'splitting::no_assignment')  # ask nothing, and are for our own crates all the same
+OURS = ('assumptions::stated', 'formula::all_hold', 'formula::decode', 'masks::lowest', 'masks::meets', 'masks::minus', 'masks::size', 'matched::named', 'splitting::all_satisfied', 'splitting::choose_free')  # ask nothing, and are for our own crates all the same
 
 USE = re.compile(r'Rattle\.(\w+)\.(specs|proofs)\.([\w.-]+?)(?:\.\{(.*)\}|\s+as\s+(\S+?))?;?$')
 MODIFIERS = ('pub', 'abbrev', 'unfoldable')
