@@ -32,7 +32,13 @@ CRATES = ROOT / 'crates'
 PROOFS = ROOT / 'docs' / 'PROOFS.md'
 STATEMENTS = ('Demands', 'Theorems', 'ListTheorems', 'AssumedCases', 'MarkedCases', 'StrippedCases', 'TextCases')
 APART = ('exhaustive', 'vectors')  # for tests: no statement rests on them
-OURS = ('assumptions::stated', 'formula::all_hold', 'formula::decode', 'masks::lowest', 'masks::meets', 'masks::minus', 'masks::size', 'matched::named', 'splitting::all_satisfied', 'splitting::choose_free')  # ask nothing, and are for our own crates all the same
+OURS = (  # ask nothing, and are for our own crates all the same
+    'assumptions::stated', 'enumeration::Checkpoint::is_well_formed', 'enumeration::Task::new', 'enumeration::Task::root',
+    'enumeration::Task::visible', 'formula::Assignment::none', 'formula::Assignment::satisfies', 'formula::Assignment::variables',
+    'formula::Clause::empty', 'formula::Clause::other_side', 'formula::Clause::variables', 'formula::all_hold', 'formula::decode',
+    'masks::lowest', 'masks::meets', 'masks::minus', 'masks::size', 'matched::named', 'splitting::all_satisfied', 'splitting::choose_free',
+    'writing::Writer::behind', 'writing::Writer::new',
+)
 
 USE = re.compile(r'Rattle\.(\w+)\.(specs|proofs)\.([\w.-]+?)(?:\.\{(.*)\}|\s+as\s+(\S+?))?;?$')
 MODIFIERS = ('pub', 'abbrev', 'unfoldable')
@@ -230,17 +236,22 @@ def contracts(asking):
             for module, names in re.findall(r'^pub use (\w+)::\{?([\w,\s]+)\}?;', lib.read_text(encoding='utf-8'), re.M)
             for name in names.split(',')
         ]
-        for path in [] if crate in APART else sorted({lib} | {lib.parent / f'{module}.rt' for module, _ in handed_on}):
-            lines, scope = code_lines(path, '//'), Scope()
+        types = {name for _, name in handed_on} | set(re.findall(r'^pub (?:struct|enum) (\w+)', lib.read_text(encoding='utf-8'), re.M))
+        for path in [] if crate in APART else sorted(lib.parent.glob('*.rt')):
+            lines, scope, inside = code_lines(path, '//'), Scope(), ''
             for line in lines:
-                if line.startswith('ghost use'):
+                if line.lstrip().startswith('ghost use'):
                     scope.use(line)
             for at, line in enumerate(lines):
-                found = re.match(r'pub (?:extern "C" )?fn (\w+)', line)
-                if found and (path == lib or (path.stem, found.group(1)) in handed_on):
-                    head = '\n'.join(lines[at:lines.index('{', at)])
+                block = re.match(r"impl(?:<[^>]*>)? (\w+)(?:<[^>]*>)? \{", line)
+                inside = block.group(1) if block else '' if line == '}' else inside
+                found = re.match(r'(    )?pub (?:const )?(?:extern "C" )?fn (\w+)', line)
+                if not found or bool(found.group(1)) != bool(inside):
+                    continue
+                if inside in types if inside else path == lib or (path.stem, found.group(2)) in handed_on:
+                    head = '\n'.join(lines[at:at + [it.strip() for it in lines[at:]].index('{')]) if '{' not in line else line
                     contract = head[re.search(r'\n +(requires|ensures)|$', head).start():]
-                    name = f'{crate}::{found.group(1)}'
+                    name = '::'.join([crate, *[inside] * bool(inside), found.group(2)])
                     if asking == ('requires' in contract or name in OURS):
                         yield name, scope, words_of([contract])
 
