@@ -1,10 +1,15 @@
 -- Laws of `run_from`: what a run with some bytes left has still to do.
-use Rattle.std.proofs.Common.{ℕ, zero, suc, ◌≡◌, ◌-◌, ◌≤◌, List, length, None, Some, refl, sym, ◌∙◌, arith}
+use Rattle.std.specs.Prelude as std
+use Rattle.std.proofs.Common.{Bool, IfOk, ℕ, zero, suc, ◌≡◌, ◌-◌, ◌≤◌, List, length, None, Some, refl, sym, ◌∙◌, arith}
+use Rattle.std.proofs.lemmas.Result.{IfOk-weaker}
 use Rattle.walk.specs.Checkpoints.{Checkpoint, start}
+use Rattle.enumeration.specs.declared.checkpoint.Checkpoint as checkpoint
+use Rattle.enumeration.specs.Values.{checkpoint_values}
 use Rattle.cases.specs.declared.runs.Act.{Act}
 use Rattle.vectors.specs.declared.totals.Totals.{Totals}
 use Rattle.vectors.specs.Corpus.{Parts, framed}
 use Rattle.cases.specs.Runs.{size_of, act_agrees, leaves, run_from, run_of}
+use Rattle.cases.specs.Walking.{Leaves}
 use Rattle.vectors.specs.Totals.{counted}
 use Rattle.vectors.proofs.FrameLaws.{within}
 
@@ -29,9 +34,6 @@ pub record Stands (act : Act) (s : List ℕ) (first : Totals) (left : List ℕ) 
   pub enough : length left ≤ fuel
   pub rest : run_from fuel act left t last ≡ run_from (length s) act s first start
 
-pub stands-first : (act : Act) (s : List ℕ) (first : Totals) → Stands act s first s first start
-stands-first act s first = record { fuel = length s; enough = omega arith; rest = refl }
-
 module _
     (act : Act) (s : List ℕ) (first : Totals) (left : List ℕ) (t : Totals) (last : Checkpoint)
     (p : Stands act s first left t last) where
@@ -54,3 +56,10 @@ module _
       framed left (size_of act) ≡ Some (v, rest) →
       Stands act s first rest (counted t (act_agrees act v last)) (leaves act v last)
   stands_next v rest e = step p.fuel v rest p.enough p.rest e
+
+-- an act that leaves the last checkpoint as it is
+pub kept :
+    {E : Type 0} (r : std.Result Bool E) (agreeing : Bool) (last : checkpoint.Checkpoint) →
+    IfOk r (λ agrees. agrees ≡ agreeing) → IfOk r (Leaves agreeing (checkpoint_values last) last)
+kept r agreeing last h =
+    IfOk-weaker r (λ (agrees : Bool). agrees ≡ agreeing) (Leaves agreeing (checkpoint_values last) last) (λ agrees e. record { agrees = e; leaves = refl }) h

@@ -1,6 +1,9 @@
 -- The vectors of the conversions: the answer and the buffer of their definitions (S15, S16), compared with those that the corpus has.
-use Rattle.std.specs.Prelude.{ℕ, ◌+◌, Bool, true, false, List, ◌≡◌, get_or, take, replicate}
-use Rattle.dimacs.specs.Convert.{ConvertedValues, Conversion, to_encoded, to_text}
+use Rattle.std.specs.Prelude as std
+use Rattle.std.specs.Prelude.{ℕ, ◌+◌, Bool, List, ◌≡◌, get_or, take, replicate}
+use Rattle.std.specs.Borrow.{Bor, MutBor}
+use Rattle.formula.specs.declared.Refusal.{Refusal}
+use Rattle.dimacs.specs.Convert.{ConvertedValues, converted_values, Conversion}
 use Rattle.vectors.specs.declared.answers.Says.TheVariants.{Written}
 use Rattle.vectors.specs.declared.answers.Answer.{Answer}
 use Rattle.vectors.specs.Answers.{plain, expected}
@@ -12,20 +15,16 @@ use Rattle.cases.specs.Judging.{unless_refused}
 abbrev pub convert_written : ConvertedValues → Answer
 convert_written a = plain (unless_refused Written a.number) a.number (a.place + a.count)
 
--- a text is read, or an encoded formula written
-abbrev pub converting : Bool → List ℕ → List ℕ → Conversion
-converting true given buffer = to_encoded given buffer
-converting false given buffer = to_text given buffer
+-- what a call of a conversion tells is the answer of this, and the buffer as it is left
+abbrev pub Converts : (Bor (List ℕ) → MutBor (List ℕ) → std.Result ℕ Refusal → MutBor (List ℕ) → Type 0) → (List ℕ → List ℕ → Conversion) → Type 0
+Converts told conversion =
+    (given : Bor (List ℕ)) (before after : MutBor (List ℕ)) (r : std.Result ℕ Refusal) →
+    told given before r after → conversion given.now before.now ≡ record { answer = converted_values r; buffer = after.now }
 
--- the answer of a conversion, and the buffer as it is left
-pub record Converts (reads : Bool) (given before : List ℕ) (r : Answer) (after : List ℕ) : Type 0 where
-  pub answer : r ≡ convert_written (converting reads given before).answer
-  pub buffer : after ≡ (converting reads given before).buffer
-
--- the conversion of the vector's input has the expected answer, and leaves the expected bytes and behind them the fill. The fields behind the
+-- a conversion of the vector's input has the expected answer, and leaves the expected bytes and behind them the fill. The fields behind the
 -- answer: the length of the buffer, which has the fill everywhere before the call, and the fill
-unfoldable pub convert_agrees : Bool → Parts → Bool
-convert_agrees reads v =
+unfoldable pub convert_agrees : (List ℕ → List ℕ → Conversion) → Parts → Bool
+convert_agrees conversion v =
     let fill = get_or v.fields 8 0 in
-    let c = converting reads v.input (take (two_bytes v.fields 6) (replicate 65536 fill)) in
+    let c = conversion v.input (take (two_bytes v.fields 6) (replicate 65536 fill)) in
     alike (expected v.fields) (convert_written c.answer) (λ i. get_or v.expected i fill) c.buffer

@@ -1,10 +1,11 @@
 -- The vectors of a file, each by its act.
-use Rattle.std.specs.Prelude.{ℕ, zero, suc, ◌-◌, Bool, true, false, List, None, Some, ◌≡◌, length}
+use Rattle.std.specs.Prelude.{ℕ, zero, suc, ◌-◌, Bool, List, None, Some, ◌≡◌, length}
 use Rattle.walk.specs.Checkpoints.{Checkpoint, start}
 use Rattle.cases.specs.declared.runs.Act.{Act}
 use Rattle.cases.specs.declared.runs.Act.TheVariants.{Check, Judge, Weigh, Deficiency, ReadText, WriteText, Start, Walk, Wait, Listing, Models, Page, Compare, Print}
 use Rattle.cases.specs.declared.runs.Run.{Run}
 use Rattle.vectors.specs.declared.totals.Totals.{Totals}
+use Rattle.dimacs.specs.Convert.{to_encoded, to_text}
 use Rattle.vectors.specs.Checking.{check_agrees}
 use Rattle.vectors.specs.Corpus.{Parts, framed}
 use Rattle.cases.specs.Converting.{convert_agrees}
@@ -42,8 +43,8 @@ act_agrees Check v last = check_agrees v
 act_agrees Judge v last = judge_agrees v
 act_agrees Weigh v last = weigh_agrees v
 act_agrees Deficiency v last = deficiency_agrees v
-act_agrees ReadText v last = convert_agrees true v
-act_agrees WriteText v last = convert_agrees false v
+act_agrees ReadText v last = convert_agrees to_encoded v
+act_agrees WriteText v last = convert_agrees to_text v
 act_agrees Start v last = start_agrees v
 act_agrees Walk v last = walk_agrees v last
 act_agrees Wait v last = waits_agree v

@@ -1,6 +1,6 @@
 // The vectors of the conversions: each answer and the lent buffer compared with the expected ones.
-ghost use Rattle.std.specs.Prelude.{◌≤◌, ◌≡◌, length, IfOk};
-ghost use Rattle.dimacs.specs.Convert.{converted_values};
+ghost use Rattle.std.specs.Prelude.{ℕ, List, ◌≤◌, ◌≡◌, length, IfOk};
+ghost use Rattle.dimacs.specs.Convert.{converted_values, Conversion};
 ghost use Rattle.vectors.specs.Corpus.{parts_of};
 ghost use Rattle.cases.specs.Converting.{convert_written, Converts, convert_agrees};
 
@@ -23,29 +23,22 @@ fn answer_of(converted: Result<usize, Refusal>) -> Answer
     }
 }
 
-// Converts what is given: a text if it is to be read, else an encoded formula.
-fn convert(reads: bool, given: &[u8], buffer: &mut [u8]) -> Answer
-    ensures { Converts reads given.now buffer.old result buffer.new }
-{
-    let converted = if reads {
-        dimacs::read(given, buffer)
-    } else {
-        dimacs::write(given, buffer)
-    };
-    answer_of(converted)
-}
-
-// Whether the conversion gives the expected answer and leaves, in a filled buffer, the expected bytes before the fill; a difference is
-// printed.
-#[tactic(auto, unfolding(crate::specs::Converting::convert_agrees))]
-pub fn convert_vector(rt: &impl Print, v: &Vector<'_>, reads: bool) -> io::Result<bool>
-    requires { 9 ≤ length v.now.fields.now }
-    ensures { IfOk result (λ agrees. agrees ≡ convert_agrees reads (parts_of v.now)) }
+// Whether a conversion of the vector's input gives the expected answer and leaves, in a filled buffer, the expected bytes before the fill; a
+// difference is printed.
+pub fn convert_vector<F: Fn(&[u8], &mut [u8]) -> Result<usize, Refusal>>(
+    rt: &impl Print,
+    v: &Vector<'_>,
+    convert: F,
+) -> io::Result<bool>
+    requires fields { 9 ≤ length v.now.fields.now }
+    requires callable { F.IsAlwaysCallable convert }
+    ensures { (conversion : List ℕ → List ℕ → Conversion) → Converts (F.post convert) conversion
+        → IfOk result (λ agrees. agrees ≡ convert_agrees conversion (parts_of v.now)) }
 {
     let size = usize::from(two_bytes(v.fields, 6));
     let fill = v.fields[8];
     let mut array = [fill; 65536];
     let buffer = &mut array[..size];
-    let got = convert(reads, v.input, buffer);
+    let got = answer_of(convert(v.input, buffer));
     compare_bytes(rt, v, got, buffer, |i| wanted_byte(v.expected, fill, i))
 }

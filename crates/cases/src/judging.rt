@@ -39,7 +39,6 @@ fn judge(v: &Vector<'_>, buffer: &mut [u8]) -> Result<Sizes, Refusal>
 }
 
 // Whether judge gives the expected answer and leaves the expected bytes; a difference is printed.
-#[tactic(auto, unfolding(crate::specs::Judging::judge_agrees))]
 pub fn judge_vector(rt: &impl Print, v: &Vector<'_>) -> io::Result<bool>
     requires { 104 ≤ length v.now.fields.now }
     ensures { IfOk result (λ agrees. agrees ≡ judge_agrees (parts_of v.now)) }

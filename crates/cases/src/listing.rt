@@ -89,7 +89,6 @@ fn agree(told: bool, count: usize, models: usize, other: usize) -> bool
 }
 
 // Whether the vector's list gives what it must; a difference is printed. The last checkpoint becomes the one that the list returned.
-#[tactic(auto, unfolding(crate::specs::Listing::listed_by, crate::specs::Listing::list_agrees, crate::specs::Listing::list_leaves))]
 pub fn list_vector(rt: &impl Print, v: &Vector<'_>, last: &mut Checkpoint) -> io::Result<bool>
     requires { 125 ≤ length v.now.fields.now }
     ensures { IfOk result (Leaves (list_agrees (parts_of v.now) (checkpoint_values last.old)) (list_leaves (parts_of v.now) (checkpoint_values last.old)) last.new) }

@@ -84,7 +84,6 @@ fn write_page(
 
 // Whether the vector's page, in a slice with the fill everywhere, gives what it must; a difference is printed. The last checkpoint becomes the
 // one that the page returned.
-#[tactic(auto, unfolding(crate::specs::Paging::paged, crate::specs::Paging::page_agrees, crate::specs::Paging::page_leaves))]
 pub fn page_vector(rt: &impl Print, v: &Vector<'_>, last: &mut Checkpoint) -> io::Result<bool>
     requires { 114 ≤ length v.now.fields.now }
     ensures { IfOk result (Leaves (page_agrees (parts_of v.now) (checkpoint_values last.old)) (page_leaves (parts_of v.now) (checkpoint_values last.old)) last.new) }

@@ -12,7 +12,6 @@ use vectors::report;
 const ROOM: usize = 65536;
 
 // Whether print writes the text that the vector expects; a difference is printed.
-#[tactic(auto, unfolding(crate::specs::Prints::print_agrees))]
 pub fn print_vector(rt: &impl Print, v: &Vector<'_>) -> io::Result<bool>
     ensures { IfOk result (λ agrees. agrees ≡ print_agrees (parts_of v.now)) }
 {

@@ -179,7 +179,6 @@ fn waits_of(v: &Vector<'_>) -> Waits
 }
 
 // Whether the waits of the vector's calls are right, and as many are over as it says; a difference is printed.
-#[tactic(auto, unfolding(crate::specs::Waiting::waits_agree))]
 pub fn wait_vector(rt: &impl Print, v: &Vector<'_>) -> io::Result<bool>
     requires fields { 4 ≤ length v.now.fields.now }
     requires calls { length v.now.expected.now ≤ 65536 }

@@ -186,7 +186,6 @@ pub fn start_vector(rt: &impl Print, v: &Vector<'_>) -> io::Result<bool>
 }
 
 // Whether the vector's call gives what it must; a difference is printed. The last checkpoint becomes the one that the call returned.
-#[tactic(auto, unfolding(crate::specs::Walking::called, crate::specs::Walking::walk_agrees, crate::specs::Walking::walk_leaves))]
 pub fn walk_vector(rt: &impl Print, v: &Vector<'_>, last: &mut Checkpoint) -> io::Result<bool>
     requires { 127 ≤ length v.now.fields.now }
     ensures { IfOk result (Leaves (walk_agrees (parts_of v.now) (checkpoint_values last.old)) (walk_leaves (parts_of v.now) (checkpoint_values last.old)) last.new) }

@@ -39,7 +39,6 @@ fn weigh(v: &Vector<'_>, buffer: &[u8]) -> Result<Weight, Refusal>
 
 // Whether weigh gives the expected answer; a difference is printed. The buffer is lent of an array that has the vector's marks, and the fill
 // behind them.
-#[tactic(auto, unfolding(crate::specs::Weighing::weigh_agrees))]
 pub fn weigh_vector(rt: &impl Print, v: &Vector<'_>) -> io::Result<bool>
     requires { 104 ≤ length v.now.fields.now }
     ensures { IfOk result (λ agrees. agrees ≡ weigh_agrees (parts_of v.now)) }

@@ -8,7 +8,7 @@ pub slice_bounds-buffer-end : goal.slice_bounds-buffer-end
 slice_bounds-buffer-end g c = sym (length-take-le _ _ (omega (arith, c.two_bytes.ensures, c.from-size.ensures)))
 
 pub returns : goal.returns
-returns g c =
+returns g c conversion h =
     let v = c.args.v.now in
-    rw (← compared _ (parts_of v) _ _ _ (c.from-size.ensures ∙ c.two_bytes.ensures) c.convert-got.ensures)
+    rw (← compared conversion (parts_of v) _ _ _ _ (c.from-size.ensures ∙ c.two_bytes.ensures) c.answer_of-got.ensures (h _ _ _ _ c.convert.ensures))
     (c.compare_bytes.ensures (λ i. get_or v.expected.now i (get_or v.fields.now 8 0)) (λ i r lt p. search rules))
