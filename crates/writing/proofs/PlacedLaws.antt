@@ -8,7 +8,7 @@ use lib.Seq.{length-take-le, take_at, drop-append-add, drop-drop}
 use Rattle.lists.specs.Over.{over}
 use Rattle.std.specs.Borrow.{MutBor}
 use Rattle.writing.specs.declared.Writer.{Writer}
-use Rattle.writing.specs.Placed.{placed, Room, Wrote, Lent, RoomIn, Puts}
+use Rattle.writing.specs.Placed.{placed, Wrote, Lent, RoomIn, Puts}
 
 module _ {A : Type 0} where
   -- the length stays
@@ -56,11 +56,7 @@ module _ {A : Type 0} where
 
 -- ---- what writers did
 
--- the buffer keeps its length
-pub wrote_length : {xs : List ℕ} {at : ℕ} {b c : List ℕ} {r : ℕ} → Room at xs b → Wrote xs at b c r → length c ≡ length b
-wrote_length {xs} {at} {b} {c} h w = ap length w.buffer ∙ placed_length at xs b h
-
--- and the answer lies within it
+-- the answer lies within the buffer
 pub wrote_within : {xs : List ℕ} {at : ℕ} {b c : List ℕ} {r : ℕ} → at ≤ length b → Wrote xs at b c r → r ≤ length c
 wrote_within {xs} {at} {b} h w =
     let t : length (take at b) ≡ at = length-take-le at b h in
@@ -74,20 +70,6 @@ wrote_more {xs} {ys} {at} {p} {r} {b} {c} {d} h v w =
       buffer = w.buffer ∙ ap (λ (t : ℕ). placed t ys c) v.next ∙ ap (placed (at + length xs) ys) v.buffer ∙ placed_placed at xs ys b h;
       next = (let l = length-append xs ys in let m = v.next in let n = w.next in omega arith);
     }
-
--- ---- room
-
--- for the first part of a list
-pub room_front : (at : ℕ) (xs ys ws b : List ℕ) → ws ≡ xs ++ ys → Room at ws b → Room at xs b
-room_front at xs ys ws b e h = let l = ap length e ∙ length-append xs ys in omega arith
-
--- and for the part behind it
-pub room_behind : (at : ℕ) (xs ys ws b c : List ℕ) (p : ℕ) → ws ≡ xs ++ ys → Room at ws b → Wrote xs at b c p → Room p ys c
-room_behind at xs ys ws b c p e h w =
-    let l = ap length e ∙ length-append xs ys in
-    let n = w.next in
-    let k = wrote_length (room_front at xs ys ws b e h) w in
-    omega arith
 
 -- ---- what a writer's methods did
 

@@ -3,8 +3,8 @@
 // A writer is lent a buffer and stands at an offset in it, behind what it wrote. Its callers show that the buffer has room.
 #![tactic(auto)]
 
-ghost use Rattle.std.specs.Prelude.{◌≡◌, [], ◌∷◌, ◌+◌, ◌<◌, ◌≤◌, length};
-ghost use Rattle.writing.specs.Placed.{Lent, Puts, Room, RoomFor, RoomIn, Wrote};
+ghost use Rattle.std.specs.Prelude.{◌≡◌, [], ◌∷◌, ◌<◌, ◌≤◌, length};
+ghost use Rattle.writing.specs.Placed.{Lent, Puts, RoomFor, RoomIn};
 ghost use Rattle.writing.specs.Text.{decimal, digit, column, columns, line_of, blanks, right};
 
 // The digit of bit i of a mask.
@@ -133,44 +133,4 @@ impl<'a> Writer<'a> {
         self.put_blanks(wide - width_of(x));
         self.put_decimal(x);
     }
-}
-
-// One byte, written at an offset: the one behind it.
-pub fn put_byte(x: u8, buffer: &mut [u8], at: usize) -> usize
-    requires { at < length buffer.old }
-    ensures { Wrote (x ∷ []) at buffer.old buffer.new result }
-{
-    let mut w = Writer::new(buffer, at);
-    w.put_byte(x);
-    w.behind()
-}
-
-// A word.
-pub fn put_word(word: &[u8], buffer: &mut [u8], at: usize) -> usize
-    requires { Room at word.now buffer.old }
-    ensures { Wrote word.now at buffer.old buffer.new result }
-{
-    let mut w = Writer::new(buffer, at);
-    w.put_word(word);
-    w.behind()
-}
-
-// A number in decimal.
-pub fn put_decimal(x: u64, buffer: &mut [u8], at: usize) -> usize
-    requires { Room at (decimal x) buffer.old }
-    ensures { Wrote (decimal x) at buffer.old buffer.new result }
-{
-    let mut w = Writer::new(buffer, at);
-    w.put_decimal(x);
-    w.behind()
-}
-
-// The last two words of a line, numbers.
-pub fn put_numbers(x: u64, y: u64, buffer: &mut [u8], at: usize) -> usize
-    requires { Room at (line_of (decimal x ∷ decimal y ∷ [])) buffer.old }
-    ensures { Wrote (line_of (decimal x ∷ decimal y ∷ [])) at buffer.old buffer.new result }
-{
-    let mut w = Writer::new(buffer, at);
-    w.put_numbers(x, y);
-    w.behind()
 }
