@@ -2,9 +2,12 @@
 use Prim.Native.Nat.{ℕ, ◌%◌}
 use mathlib.Core.Bool.{Bool, cond, ◌&&◌}
 use mathlib.Core.List.{List}
-use mathlib.Core.Path.{◌≡◌, sym, ap, ◌∙◌}
+use mathlib.Core.Logic.{◌⊎◌, ⊎_elim}
+use mathlib.Core.Path.{◌≡◌, ap, ◌∙◌}
 use lib.ListN.{length}
 use borrow.Author.Tests.{eq-eqb, ne_eqb}
+use Rattle.std.specs.Prelude as std
+use Rattle.formula.specs.declared.Refusal.{Refusal}
 use Rattle.formula.specs.Check as check
 use Rattle.formula.specs.Check.{checked}
 use Rattle.assumptions.specs.Bytes.{of_bytes}
@@ -18,12 +21,11 @@ use Rattle.walk.specs.WalkCall.{walk_call}
 use Rattle.walk.specs.Results.{Result}
 use Rattle.enumeration.specs.declared.listing.Listed.{Listed}
 use Rattle.enumeration.specs.declared.calls.Walked.{Walked}
-use Rattle.enumeration.specs.Values.{checkpoint_values, walked_values, listed_values}
+use Rattle.enumeration.specs.Values.{call_values, list_values, list_count}
 use Rattle.enumeration.specs.Lists.{Delivered, next_models}
 use Rattle.page.specs.declared.Paged.{Paged}
-use Rattle.page.specs.Pages.{page_values, page_told, page_call}
+use Rattle.page.specs.Pages.{page_values, page_checkpoint, page_told, page_call}
 use Rattle.capi.specs.Interface.{results_size, checkpoint_size, assumption_size, check_results, judge_results, weigh_results, deficiency_results, conversion_results, walk_results, list_results, page_results, checkpoint_bytes, checkpoint_in, results_sized, checkpoint_sized, assumptions_sized, check_called, judge_called, weigh_called, deficiency_called, conversion_called, start_called, walk_told, walk_called, list_told, list_called, page_shown, page_called}
-use Rattle.capi.proofs.ResultsLaws.{beside}
 
 module _ (s results : List ℕ) (a : ℕ) where
   pub check_unwritten : (length results ≡ results_size → ⊥) → check_called s a results ≡ (1, results)
@@ -76,32 +78,45 @@ module _ (checkpoint : List ℕ) where
   start_written c after h e f = rw (eq-eqb _ _ h, f, e)
 
 -- the lengths that a function with assumptions asks for: one of them is wrong, or all are right
-module _ {A : Type 0} (assumptions : List ℕ) (written unwritten : A) where
+module _ {A : Type 0} (assumptions results : List ℕ) (written unwritten : A) where
   abbrev asked : Bool → A
   asked others = cond (assumptions_sized assumptions && others) written unwritten
 
-  pub asked_assumptions : (others : Bool) → (length assumptions % assumption_size ≡ 0 → ⊥) → asked others ≡ unwritten
-  asked_assumptions others g = rw (ne_eqb _ _ g)
+  abbrev Even : Type 0
+  Even = length assumptions % assumption_size ≡ 0
 
-  module _ (results : List ℕ) (g : length assumptions % assumption_size ≡ 0) where
-    -- judge and weigh: that of the results, too
-    pub asked_results : (length results ≡ results_size → ⊥) → asked (results_sized results) ≡ unwritten
-    asked_results k = rw (eq-eqb _ _ g, ne_eqb _ _ k)
+  abbrev Six : Type 0
+  Six = length results ≡ results_size
 
-    asked_rightly : length results ≡ results_size → asked (results_sized results) ≡ written
-    asked_rightly k = rw (eq-eqb _ _ g, eq-eqb _ _ k)
+  -- judge and weigh: that of the results, too
+  pub asked_wrongly : (Even → ⊥) ⊎ (Even × (Six → ⊥)) → asked (results_sized results) ≡ unwritten
+  asked_wrongly w =
+      ⊎_elim
+      (λ (g : Even → ⊥). rw (ne_eqb _ _ g))
+      (λ (g : Even × (Six → ⊥)). rw (eq-eqb _ _ g.0, ne_eqb _ _ g.1))
+      w
 
-    -- walk, list and page: before it that of the checkpoint
-    module _ (checkpoint : List ℕ) where
-      pub asked_checkpoint : (length checkpoint ≡ checkpoint_size → ⊥) → asked (checkpoint_sized checkpoint && results_sized results) ≡ unwritten
-      asked_checkpoint h = rw (eq-eqb _ _ g, ne_eqb _ _ h)
+  asked_rightly : Even → Six → asked (results_sized results) ≡ written
+  asked_rightly g k = rw (eq-eqb _ _ g, eq-eqb _ _ k)
 
-      module _ (h : length checkpoint ≡ checkpoint_size) where
-        pub asked_results_behind : (length results ≡ results_size → ⊥) → asked (checkpoint_sized checkpoint && results_sized results) ≡ unwritten
-        asked_results_behind k = rw (eq-eqb _ _ h) (asked_results k)
+  -- walk, list and page: before it that of the checkpoint
+  module _ (checkpoint : List ℕ) where
+    abbrev Fifty : Type 0
+    Fifty = length checkpoint ≡ checkpoint_size
 
-        asked_rightly_behind : length results ≡ results_size → asked (checkpoint_sized checkpoint && results_sized results) ≡ written
-        asked_rightly_behind k = rw (eq-eqb _ _ h) (asked_rightly k)
+    pub asked_wrongly_behind : (Even → ⊥) ⊎ ((Even × (Fifty → ⊥)) ⊎ (Even × Fifty × (Six → ⊥))) → asked (checkpoint_sized checkpoint && results_sized results) ≡ unwritten
+    asked_wrongly_behind w =
+        ⊎_elim
+        (λ (g : Even → ⊥). rw (ne_eqb _ _ g))
+        (λ (o : (Even × (Fifty → ⊥)) ⊎ (Even × Fifty × (Six → ⊥))).
+        ⊎_elim
+        (λ (g : Even × (Fifty → ⊥)). rw (eq-eqb _ _ g.0, ne_eqb _ _ g.1))
+        (λ (g : Even × Fifty × (Six → ⊥)). rw (eq-eqb _ _ g.0, eq-eqb _ _ g.1, ne_eqb _ _ g.2))
+        o)
+        w
+
+    asked_rightly_behind : Even → Fifty → Six → asked (checkpoint_sized checkpoint && results_sized results) ≡ written
+    asked_rightly_behind g h k = rw (eq-eqb _ _ g, eq-eqb _ _ h, eq-eqb _ _ k)
 
 module _ (s assumptions buffer results : List ℕ) (g : length assumptions % assumption_size ≡ 0) (k : length results ≡ results_size) where
   -- all lengths are right
@@ -109,7 +124,7 @@ module _ (s assumptions buffer results : List ℕ) (g : length assumptions % ass
       (let j = judge s (of_bytes assumptions) buffer in
       judge_called s assumptions buffer results ≡ (0, j.buffer, judge_results j.answer))
   unfolding judge_called
-  judge_called_is = asked_rightly assumptions _ _ results g k
+  judge_called_is = asked_rightly assumptions results _ _ g k
 
   pub judge_written :
       (r : judging.JudgementValues) (left after : List ℕ) →
@@ -120,7 +135,7 @@ module _ (s assumptions buffer results : List ℕ) (g : length assumptions % ass
 
   pub weigh_called_is : weigh_called s assumptions buffer results ≡ (0, weigh_results (weighed s (of_bytes assumptions) buffer))
   unfolding weigh_called
-  weigh_called_is = asked_rightly assumptions _ _ results g k
+  weigh_called_is = asked_rightly assumptions results _ _ g k
 
   pub weigh_written :
       (r : WeighedValues) (after : List ℕ) →
@@ -136,20 +151,19 @@ module _ (s assumptions checkpoint results : List ℕ) (budget : ℕ) where
       length results ≡ results_size →
       walk_called s assumptions checkpoint budget results ≡ walk_told (walk_call s (of_bytes assumptions) (checkpoint_in checkpoint) budget)
   unfolding walk_called
-  walk_called_is g h k = asked_rightly_behind assumptions _ _ results g checkpoint h k
+  walk_called_is g h k = asked_rightly_behind assumptions results _ _ checkpoint g h k
 
   pub walk_written :
-      (from : Checkpoint) (w : Walked) (left after : List ℕ) →
+      (from : Checkpoint) (w : std.Result Walked Refusal) (left after : List ℕ) →
       length assumptions % assumption_size ≡ 0 →
       length checkpoint ≡ checkpoint_size →
       length results ≡ results_size →
       from ≡ checkpoint_in checkpoint →
-      walked_values w ≡ walk_call s (of_bytes assumptions) from budget →
-      left ≡ checkpoint_bytes (checkpoint_values w.checkpoint) →
-      after ≡ walk_results (walked_values w) →
+      call_values from w ≡ walk_call s (of_bytes assumptions) from budget →
+      left ≡ checkpoint_bytes (call_values from w).checkpoint →
+      after ≡ walk_results (call_values from w) →
       walk_called s assumptions checkpoint budget results ≡ (0, left, after)
-  walk_written from w left after g h k f e l r =
-      rw (walk_called_is g h k, ← f, ← e, l, r, beside w.answer w.steps w.expansions (checkpoint_values w.checkpoint))
+  walk_written from w left after g h k f e l r = rw (walk_called_is g h k, ← f, ← e, l, r)
 
 module _ (s assumptions checkpoint models results : List ℕ) where
   -- all lengths are right
@@ -160,25 +174,23 @@ module _ (s assumptions checkpoint models results : List ℕ) where
       list_called s assumptions checkpoint models results
       ≡ list_told models (next_models s (of_bytes assumptions) (checkpoint_in checkpoint) (length models))
   unfolding list_called
-  list_called_is g h k = asked_rightly_behind assumptions _ _ results g checkpoint h k
+  list_called_is g h k = asked_rightly_behind assumptions results _ _ checkpoint g h k
 
   pub list_written :
-      (from : Checkpoint) (r : Listed) (left brought after : List ℕ) →
+      (from : Checkpoint) (r : std.Result Listed Refusal) (left brought after : List ℕ) →
       length assumptions % assumption_size ≡ 0 →
       length checkpoint ≡ checkpoint_size →
       length results ≡ results_size →
       from ≡ checkpoint_in checkpoint →
-      Delivered (next_models s (of_bytes assumptions) from (length models)) models brought r →
-      left ≡ checkpoint_bytes (checkpoint_values r.checkpoint) →
-      after ≡ list_results r.count (listed_values r) →
+      Delivered (next_models s (of_bytes assumptions) from (length models)) from models brought r →
+      left ≡ checkpoint_bytes (list_values from r).checkpoint →
+      after ≡ list_results (list_count r) (list_values from r) →
       list_called s assumptions checkpoint models results ≡ (0, left, brought, after)
   list_written from r left brought after g h k f e l w =
       let x = next_models s (of_bytes assumptions) from (length models) in
-      let c : x.last.checkpoint ≡ checkpoint_values r.checkpoint =
-      ap (λ (q : Result). q.checkpoint) (sym e.last) ∙ beside r.answer 0 0 (checkpoint_values r.checkpoint) in
-      let p : left ≡ checkpoint_bytes x.last.checkpoint = l ∙ ap checkpoint_bytes (sym c) in
+      let p : left ≡ checkpoint_bytes x.last.checkpoint = l ∙ ap (λ (q : Result). checkpoint_bytes q.checkpoint) e.last in
       let q : after ≡ list_results (length x.models) x.last =
-      w ∙ ap (list_results r.count) e.last ∙ ap (λ (n : ℕ). list_results n x.last) e.count in
+      w ∙ ap (list_results (list_count r)) e.last ∙ ap (λ (n : ℕ). list_results n x.last) e.count in
       rw (list_called_is g h k, ← f, p, q, e.written)
 
 module _ (s assumptions checkpoint page results : List ℕ) (serial : ℕ) where
@@ -190,16 +202,16 @@ module _ (s assumptions checkpoint page results : List ℕ) (serial : ℕ) where
       page_called s assumptions checkpoint serial page results
       ≡ page_shown (page_call s (of_bytes assumptions) (checkpoint_in checkpoint) serial page)
   unfolding page_called
-  page_called_is g h k = asked_rightly_behind assumptions _ _ results g checkpoint h k
+  page_called_is g h k = asked_rightly_behind assumptions results _ _ checkpoint g h k
 
   pub page_written :
-      (from : Checkpoint) (r : Paged) (left filled after : List ℕ) →
+      (from : Checkpoint) (r : std.Result Paged Refusal) (left filled after : List ℕ) →
       length assumptions % assumption_size ≡ 0 →
       length checkpoint ≡ checkpoint_size →
       length results ≡ results_size →
       from ≡ checkpoint_in checkpoint →
-      page_call s (of_bytes assumptions) from serial page ≡ page_told r filled →
-      left ≡ checkpoint_bytes (checkpoint_values r.checkpoint) →
-      after ≡ page_results (page_values r.answer) →
+      page_call s (of_bytes assumptions) from serial page ≡ page_told from r filled →
+      left ≡ checkpoint_bytes (page_checkpoint from r) →
+      after ≡ page_results (page_values r) →
       page_called s assumptions checkpoint serial page results ≡ (0, left, filled, after)
   page_written from r left filled after g h k f e l w = rw (page_called_is g h k, ← f, e, l, w)

@@ -7,15 +7,13 @@ ghost use Rattle.std.specs.Prelude.{◌≡◌, [], ◌∷◌, length, Ok};
 ghost use Rattle.formula.specs.Check as check;
 ghost use Rattle.assumptions.specs.Bytes.{of_bytes};
 ghost use Rattle.assumptions.specs.InnerAssumed.{MasksOf};
-ghost use Rattle.dimacs.specs.Convert.{converted_values};
-ghost use Rattle.matched.specs.Deficiency.{measured_values};
 ghost use Rattle.matched.specs.Judge as judging;
 ghost use Rattle.matched.specs.Weigh.{weighed_values};
 ghost use Rattle.walk.specs.Checkpoints as walk;
 ghost use Rattle.enumeration.specs.Values.{checkpoint_values, answer_values, walked_values, listed_values};
 ghost use Rattle.page.specs.Pages.{page_values};
 ghost use Rattle.capi.specs.InnerResults.{refusal_results, told_results};
-ghost use Rattle.capi.specs.Interface.{results_size, check_results, judge_results, weigh_results, deficiency_results, conversion_results, walk_results, list_results, page_results, checkpoint_size, checkpoint_bytes, checkpoint_in, check_called, judge_called, weigh_called, deficiency_called, from_dimacs_called, to_dimacs_called, start_called, walk_called, list_called, page_called};
+ghost use Rattle.capi.specs.Interface.{results_size, check_results, judge_results, weigh_results, walk_results, list_results, page_results, checkpoint_size, checkpoint_bytes, checkpoint_in, check_called, judge_called, weigh_called, deficiency_called, from_dimacs_called, to_dimacs_called, start_called, walk_called, list_called, page_called};
 
 use enumeration::{Answer, Checkpoint, Listed, Walked};
 use formula::{Assignment, Refusal};
@@ -44,25 +42,28 @@ fn plain_results(answer: u64, model: u64, steps: u64, expansions: u64) -> Result
     [answer, model, 0, 0, steps, expansions]
 }
 
-// A refusal.
+// A refusal: its number and its place.
 fn refusal_results(refusal: Refusal) -> Results
     ensures { result ≡ refusal_results refusal }
 {
     [3, 0, refusal.number(), refusal.place() as u64, 0, 0]
 }
 
+// A verdict: model or not.
 fn check_results(model: bool) -> Results
     ensures { result ≡ check_results (check.verdict_values (Ok model)) }
 {
     plain_results(u64::from(!model), 0, 0, 0)
 }
 
+// An accepted input.
 fn judge_results(sizes: Sizes) -> Results
     ensures { result ≡ judge_results (judging.judgement_values (Ok sizes)) }
 {
     plain_results(0, 0, sizes.variables as u64, sizes.clauses as u64)
 }
 
+// Weighed marks.
 fn weigh_results(weight: Weight) -> Results
     ensures { result ≡ weigh_results (weighed_values (Ok weight)) }
 {
@@ -71,8 +72,7 @@ fn weigh_results(weight: Weight) -> Results
 
 // The deficiency, or how many bytes were written.
 fn number_results(number: usize) -> Results
-    ensures measured { result ≡ deficiency_results (measured_values (Ok number)) }
-    ensures converted { result ≡ conversion_results (converted_values (Ok number)) }
+    ensures { result ≡ 0 ∷ 0 ∷ 0 ∷ 0 ∷ number ∷ 0 ∷ [] }
 {
     plain_results(0, 0, number as u64, 0)
 }
@@ -88,18 +88,21 @@ fn answer_results(answer: Answer, steps: u64, expansions: u64) -> Results
     }
 }
 
+// A walk call.
 fn walk_results(walked: Walked) -> Results
     ensures { result ≡ walk_results (walked_values walked) }
 {
     answer_results(walked.answer, walked.steps, walked.expansions)
 }
 
+// A list: the last call's answer, and how many models were brought.
 fn list_results(listed: Listed) -> Results
     ensures { result ≡ list_results listed.count (listed_values listed) }
 {
     answer_results(listed.answer, listed.count as u64, 0)
 }
 
+// A page: filled, or not to its end, so that no model is left.
 fn page_results(paged: Paged) -> Results
     ensures { result ≡ page_results (page_values (Ok paged)) }
 {
@@ -154,7 +157,10 @@ pub extern "C" fn norwythai_check(input: &[u8], assignment: u64, results: &mut [
     if results.len() != RESULTS_SIZE {
         return 1;
     }
-    put_results(formula::check(input, assignment).map(check_results), results);
+    put_results(
+        formula::check(input, assignment).map(check_results),
+        results,
+    );
     0
 }
 

@@ -18,20 +18,13 @@ same_is [] (y ∷ t) = refl
 same_is (x ∷ s) [] = refl
 same_is (x ∷ s) (y ∷ t) = rw (same_is s t)
 
--- a word that differs from another, or does not
-pub word_differs : (s t u : List ℕ) (b : Bool) → b ≡ not (pointwise eqb s t) → b ≡ true → t ≡ u → same s u ≡ false
-word_differs s t u b e f g = go (same s u) (sym f ∙ e ∙ rw (g, same_is s u))
+-- whether a word differs from another
+pub word_compared : (s t u : List ℕ) (b c : Bool) → b ≡ not (pointwise eqb s t) → b ≡ c → t ≡ u → same s u ≡ not c
+word_compared s t u b c f e g = go (same s u) (sym e ∙ f ∙ rw (g, same_is s u))
   where
-    go : (x : Bool) → true ≡ not x → x ≡ false
-    go true h = bool_clash {x = false} (sym h) refl
-    go false h = refl
-
-pub word_same : (s t u : List ℕ) (b : Bool) → b ≡ not (pointwise eqb s t) → b ≡ false → t ≡ u → same s u ≡ true
-word_same s t u b e f g = go (same s u) (sym f ∙ e ∙ rw (g, same_is s u))
-  where
-    go : (x : Bool) → false ≡ not x → x ≡ true
-    go true h = refl
-    go false h = bool_clash {x = true} refl (sym h)
+    go : (x : Bool) → c ≡ not x → x ≡ not c
+    go true h = rw h
+    go false h = rw h
 
 -- ---- words of the p line
 

@@ -11,13 +11,13 @@ use crate::piece::Piece;
 // Numbers above this one are taken for it: it is above every number that a formula has.
 const CAP: usize = 1000;
 
-// The lines of a text that are no comments; of those before `rest` all are taken.
+// The lines of a text that are no comments, from `rest` on.
 #[derive(Clone, Copy)]
 pub struct Lines<'a> {
     rest: Option<Piece<'a>>,
 }
 
-// The words of a line; of those before `rest` all are taken.
+// The words of a line, from `rest` on.
 #[derive(Clone, Copy)]
 pub struct Words<'a> {
     rest: Piece<'a>,

@@ -2,7 +2,7 @@
 use Prim.Native.Nat.{ℕ, suc, ◌+◌, ◌≤◌, ◌<◌}
 use mathlib.Core.Bool.{Bool, true, false, not, cond, ◌&&◌, ◌||◌}
 use mathlib.Core.List.{List, [], ◌∷◌, map, Memᴰ}
-use mathlib.Core.Path.{◌≡◌, refl, sym, ap, ap₂, ◌∙◌, subst}
+use mathlib.Core.Path.{◌≡◌, refl, sym, ap, ap₂, ◌∙◌}
 use native.Mathlib.Decide.{dec_lt}
 use native.Mathlib.Numerals.{add-one}
 use native.Mathlib.Omega.{arith}
@@ -12,7 +12,7 @@ use Rattle.limits.specs.Limits.{max_variables, max_clauses}
 use Rattle.lists.specs.Padded.{padded}
 use Rattle.lists.specs.Every.{Every}
 use Rattle.lists.proofs.EveryLaws.{every_get_or}
-use Rattle.lists.proofs.PaddedLaws.{padded_none, length_padded, get_or_padded, get_or_padded_past, take_padded}
+use Rattle.lists.proofs.PaddedLaws.{length_padded, get_or_padded, get_or_padded_past, take_padded}
 use Rattle.lists.proofs.SublistLaws.{get_or_element}
 use Rattle.lists.proofs.TabulatedLaws.{tabulated_of}
 use Rattle.masks.specs.Mask.{with}
@@ -29,7 +29,6 @@ use Rattle.formula.specs.Masked.{variables}
 use Rattle.formula.specs.InnerAssignment.{set_to, satisfied_under}
 use Rattle.formula.specs.InnerMasked.{no_clause, with_literal, with_literals, clause_of, formula_of}
 use Rattle.formula.specs.InnerFits.{clause_variables, FormulaFits}
-use Rattle.formula.proofs.ClauseLaws.{variables-named}
 use Rattle.formula.proofs.Demands.{accepted_only}
 use Rattle.formula.proofs.MaskedLaws.{formula_fits}
 use Rattle.assumptions.specs.declared.Assumption.{Assumption}
@@ -40,7 +39,7 @@ use Rattle.matching.specs.declared.Matching.{Matching}
 use Rattle.matching.specs.declared.Violator.{Violator}
 use Rattle.matching.specs.Result.{packed}
 use Rattle.matching.specs.Search.{Outcome, success, failure, outcome, marks}
-use Rattle.matching.proofs.MatchedLaws.{length-marks, marks_le}
+use Rattle.matching.proofs.MatchedLaws.{length-marks}
 use Rattle.matching.proofs.Theorems.{success_matches}
 use Rattle.splitting.specs.declared.Stripping.{Stripping}
 use Rattle.splitting.specs.Nodes.{remaining, satisfied_by}

@@ -4,7 +4,6 @@ use mathlib.Core.List.{List, [], ◌∷◌, ◌++◌, map, map-append, Sublist�
 use mathlib.Core.Logic.{◌↔◌}
 use mathlib.Core.Path.{◌≡◌, refl, sym, ap, ◌∙◌, subst}
 use native.Mathlib.Decide.{dec_lt}
-use native.Mathlib.Numerals.{add-one}
 use native.Mathlib.Omega.{arith}
 use lib.LanesLaws.{map-replicate}
 use lib.ListN.{length, get_or, take, length-map}
@@ -40,7 +39,7 @@ use Rattle.matched.specs.Judge.{judge}
 use Rattle.matched.specs.Pairing.{Pairs, Pairable}
 use Rattle.matched.proofs.AcceptanceLaws.{pairable_walkable}
 use Rattle.matched.proofs.JudgeLaws.{judged_unmatched, unmatched_long, walkable_numberless}
-use Rattle.matched.proofs.PairingLaws.{array_masks, masks_words, matches_pairs, pairs_matches}
+use Rattle.matched.proofs.PairingLaws.{masks_words, matches_pairs, pairs_matches}
 
 -- ---- what is counted
 

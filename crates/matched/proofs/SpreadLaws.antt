@@ -5,8 +5,8 @@ use mathlib.Core.List.{List, [], ◌∷◌, ◌++◌, map}
 use mathlib.Core.Path.{◌≡◌, refl, sym, ap, ◌∙◌}
 use native.Mathlib.Numerals.{add-one}
 use native.Mathlib.Omega.{arith}
-use lib.ListN.{length, take, get_or, set, drop, length-map, get_or-map}
-use lib.Seq.{length-take-le, take-suc, get_or-drop}
+use lib.ListN.{length, get_or, set, drop, length-map, get_or-map}
+use lib.Seq.{get_or-drop}
 use Rattle.limits.specs.Limits.{max_clauses}
 use Rattle.lists.specs.Every.{Every}
 use Rattle.lists.specs.Padded.{padded}

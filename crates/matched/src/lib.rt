@@ -1,7 +1,7 @@
 // Which inputs are accepted, each with its matching or a violator; the acts judge and deficiency (S5.6, S5.7, S17.2, S18, S20, S22).
 //
-// `accept` says what comes of an input (`acceptance`) to judge, walk, list, page and print, which have read it; judge writes it into a
-// lent buffer. `weigh_marks` counts the clauses that a buffer marks and the variables that they name. `deficiency` asks nothing of these.
+// `accept` reads an input and says what comes of it (`acceptance`) to judge, walk, list, page and print; judge writes it into a lent
+// buffer. `weigh_marks` counts the clauses that a buffer marks and the variables that they name. `deficiency` asks nothing of these.
 #![tactic(auto)]
 
 ghost use Rattle.std.specs.Prelude.{List, map, count_by, not, ◌==◌, ◌≡◌, ℕ, ◌+◌, ◌<◌, ◌≤◌, length, get_or, take};
@@ -9,7 +9,6 @@ ghost use Rattle.limits.specs.Limits.{max_clauses};
 ghost use Rattle.lists.specs.Over.{over};
 ghost use Rattle.lists.specs.Padded.{padded};
 ghost use Rattle.formula.specs.Format.{Literal, Sized, ClauseOver};
-ghost use Rattle.formula.specs.InnerAssignment.{satisfied_under};
 ghost use Rattle.formula.specs.InnerMasked.{formula_of};
 ghost use Rattle.formula.specs.InnerFits.{clause_variables, FormulaFits};
 ghost use Rattle.assumptions.specs.declared.Assumption.{Assumption};
@@ -20,7 +19,7 @@ ghost use Rattle.splitting.specs.Nodes.{remaining};
 ghost use Rattle.splitting.specs.Stripping.{stripped};
 ghost use Rattle.matched.specs.Acceptance.{acceptance, by_stripped, formula_acceptance};
 ghost use Rattle.matched.specs.Deficiency.{measured_values, deficiency_of};
-ghost use Rattle.matched.specs.InnerAccept.{held_acceptance, held_row, row_held, refused_row};
+ghost use Rattle.matched.specs.InnerAccept.{held_acceptance, held_row, refused_row};
 ghost use Rattle.matched.specs.InnerSpread.{bytes_at, NotesFit, first_noted, told_byte, told_bytes};
 ghost use Rattle.matched.specs.Judge.{judgement_values, judge};
 ghost use Rattle.matched.specs.Weigh.{weighed_values, weighed};

@@ -1,16 +1,14 @@
 -- S19.1: every line of a page has 60 bytes, and is the part that was lent for it.
-use Prim.Native.Nat.{ℕ, ◌+◌, ◌*◌, ◌-◌, ◌≤◌, ◌<◌}
-use mathlib.Core.List.{List, [], ◌∷◌, ◌++◌, append_assoc}
-use mathlib.Core.Path.{◌≡◌, ap, ◌∙◌}
+use Prim.Native.Nat.{ℕ, ◌+◌, ◌-◌, ◌≤◌, ◌<◌}
+use mathlib.Core.List.{List, [], ◌∷◌}
+use mathlib.Core.Path.{◌≡◌, ◌∙◌}
 use native.Mathlib.Omega.{arith}
-use lib.ListN.{length, get_or, take, drop, length-append, get_or-append}
+use lib.ListN.{length, get_or, length-append, get_or-append}
 use Rattle.limits.specs.Limits.{max_variables}
 use Rattle.lists.proofs.TabulatedLaws.{length_tabulated}
-use Rattle.writing.specs.Placed.{placed}
-use Rattle.writing.specs.Text.{line_feed, blank, decimal, column, columns, line_of, blanks, right}
+use Rattle.writing.specs.Text.{line_feed, decimal, column, columns, line_of, blanks, right}
 use Rattle.writing.proofs.BlankLaws.{blanks-length, right-length}
 use Rattle.writing.proofs.DecimalLaws.{decimal-length}
-use Rattle.writing.proofs.PlacedLaws.{placed_part}
 use Rattle.page.specs.PageLines.{line_size, serial_width, steps_width, page_columns, page_line, blank_line}
 
 -- the words of a line are as wide as their columns

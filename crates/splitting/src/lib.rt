@@ -116,7 +116,7 @@ pub fn strip(f: &Formula, a: Assignment) -> Stripping
 fn highest(mask: u64) -> usize
     ensures { result ≡ greatest mask }
 {
-    63usize.saturating_sub(u64::leading_zeros(mask) as usize)
+    63usize.saturating_sub(mask.leading_zeros() as usize)
 }
 
 // The choice where some clause is open, whichever variables are to be assigned.

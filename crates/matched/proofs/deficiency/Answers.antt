@@ -1,7 +1,6 @@
 -- `matched::deficiency` meets its contract: by the reader's answer, and by the most clauses that can be matched.
 use borrow.Author.Rules.{rules}
 use Prim.Native.Nat.{ℕ, ◌<◌}
-use mathlib.Core.List.{map}
 use mathlib.Core.Path.{◌≡◌, sym, ◌∙◌}
 use lib.ListN.{get_or}
 use Rattle.std.proofs.lemmas.Result.{err_from_is_err_and}

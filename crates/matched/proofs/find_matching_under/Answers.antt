@@ -1,6 +1,5 @@
 -- `matched::find_matching_under` meets its contract: by the buffer's length, then by what comes of the input.
 use borrow.Author.Rules.{rules}
-use native.Mathlib.Omega.{arith}
 use mathlib.Core.Path.{refl, sym, ◌∙◌}
 use Rattle.matched.proofs.AcceptanceLaws.{accepted_few, declined_few}
 use Rattle.matched.proofs.JudgeLaws.{told, judge_short, accepted_judged, declined_judged}

@@ -1,6 +1,5 @@
 -- `matched::first_noted` meets its contract: the first of the noted variables that the clause names, or none.
 use borrow.Author.Rules.{rules}
-use native.Mathlib.Omega.{arith}
 use mathlib.Core.Path.{sym, ◌∙◌}
 use lib.ListN.{take}
 use Rattle.matched.proofs.TellLaws.{noted_here, noted_later, noted_none}

@@ -3,7 +3,7 @@ use Rattle.std.proofs.Common.{◌≡◌, refl, sym, ◌∙◌}
 use Rattle.std.specs.Prelude.{true}
 use Rattle.dimacs.specs.Text.{opening, same, p_word, cnf_word}
 use Rattle.dimacs.specs.InnerPiece.{piece_of}
-use Rattle.dimacs.proofs.OpeningLaws.{word_differs, word_same, opening-first, opening_second, opening_more, words_end, opening_third, opening_fourth, opening_all}
+use Rattle.dimacs.proofs.OpeningLaws.{word_compared, opening-first, opening_second, opening_more, words_end, opening_third, opening_fourth, opening_all}
 use Rattle.dimacs.proofs.ScanLaws.{number-none, number-some}
 use Rattle.dimacs.proofs.opening.read_opening.Goals as goal
 
@@ -12,7 +12,7 @@ unfolding opening
 returns-in_err-next c = rw (c.from_residual.ensures, ← c.new-words.ensures, c.in_err-next.ensures.steps.0) refl
 
 pub returns-then-ne : goal.returns-then-ne
-returns-then-ne c = rw (← c.new-words.ensures, c.in_ok-next.ensures.steps, opening-first (piece_of c.in_ok-next.field-0) _ (word_differs _ _ _ _ c.ne.ensures c.if-ne.true c.as_slice.ensures)) refl
+returns-then-ne c = rw (← c.new-words.ensures, c.in_ok-next.ensures.steps, opening-first (piece_of c.in_ok-next.field-0) _ (word_compared _ _ _ _ _ c.ne.ensures c.if-ne.true c.as_slice.ensures)) refl
 
 pub returns-in_err-next-2 : goal.returns-in_err-next-2
 unfolding opening
@@ -20,7 +20,7 @@ returns-in_err-next-2 c = rw (c.from_residual-in_err-next-2.ensures, ← c.new-w
 
 pub returns-then-ne-2 : goal.returns-then-ne-2
 returns-then-ne-2 c =
-    rw (← c.new-words.ensures, c.in_ok-next.ensures.steps, c.in_ok-next-2.ensures.steps, opening_second (piece_of c.in_ok-next.field-0) (piece_of c.in_ok-next-2.field-0) _ (word_differs _ _ _ _ c.ne-2.ensures c.if-ne-2.true c.as_slice-2.ensures)) refl
+    rw (← c.new-words.ensures, c.in_ok-next.ensures.steps, c.in_ok-next-2.ensures.steps, opening_second (piece_of c.in_ok-next.field-0) (piece_of c.in_ok-next-2.field-0) _ (word_compared _ _ _ _ _ c.ne-2.ensures c.if-ne-2.true c.as_slice-2.ensures)) refl
 
 pub returns-in_err-third : goal.returns-in_err-third
 unfolding opening
@@ -70,8 +70,8 @@ returns-in_err-number-2 c =
 
 pub returns : goal.returns
 returns c =
-    let p : same c.in_ok-next.field-0.bytes.now p_word ≡ true = word_same _ _ _ _ c.ne.ensures c.if-ne.false c.as_slice.ensures in
-    let q : same c.in_ok-next-2.field-0.bytes.now cnf_word ≡ true = word_same _ _ _ _ c.ne-2.ensures c.if-ne-2.false c.as_slice-2.ensures in
+    let p : same c.in_ok-next.field-0.bytes.now p_word ≡ true = word_compared _ _ _ _ _ c.ne.ensures c.if-ne.false c.as_slice.ensures in
+    let q : same c.in_ok-next-2.field-0.bytes.now cnf_word ≡ true = word_compared _ _ _ _ _ c.ne-2.ensures c.if-ne-2.false c.as_slice-2.ensures in
     let m = number-some _ _ (sym c.number.ensures ∙ c.in_ok-number.was) in
     let n = number-some _ _ (sym c.number-2.ensures ∙ c.in_ok-number-2.was) in
     rw (

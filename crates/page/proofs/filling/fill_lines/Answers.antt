@@ -1,6 +1,5 @@
 -- `fill_lines` writes the lines of the next models. The invariant: i lines are written, and the others go on from the state.
-use Prim.Native.Nat.{ℕ, ◌<◌}
-use mathlib.Core.Path.{◌≡◌}
+use Prim.Native.Nat.{◌<◌}
 use native.Mathlib.Omega.{arith}
 use Rattle.walk.specs.Gaps.{ample_budget}
 use Rattle.walk.specs.InnerStack.{Tree}
