@@ -3,7 +3,7 @@ ghost use Rattle.std.specs.Prelude.{◌≡◌, ◌-◌, ◌<◌, ◌≤◌, get_
 ghost use Rattle.limits.specs.Limits.{max_variables};
 ghost use Rattle.walk.specs.InnerStack.{empty, Tree};
 ghost use Rattle.walk.specs.InnerTest.{mode_of, shown};
-ghost use Rattle.enumeration.specs.InnerState.{position_in, Holds, Numbered, pushing, popping, marked_as};
+ghost use Rattle.enumeration.specs.InnerState.{position_in, Holds, Numbered, turning, pushing, popping, marked_as};
 ghost use Rattle.enumeration.specs.InnerRead.{Node, noted};
 ghost use Rattle.enumeration.specs.Values.{checkpoint_values};
 
@@ -69,6 +69,14 @@ impl Task {
 }
 
 impl State {
+    // Whether false was undone and true is open after it.
+    pub fn turns(&self) -> bool
+        requires { self.now.length < 64 }
+        ensures { result ≡ turning self.now }
+    {
+        matches!(self.place, Place::UndoneFalse) && masks::member(self.open_true, self.length)
+    }
+
     // Whether true is open at the state's depth, and whether no clause is left there.
     pub fn note(&mut self, true_open: bool, free: bool)
         requires { self.old.length < max_variables }
