@@ -64,6 +64,7 @@ fn last_call(listed: Result<Listed, Refusal>) -> Result<Walked, Refusal>
     })
 }
 
+// How many models a list has; none beside a refusal.
 fn count_of(listed: Result<Listed, Refusal>) -> usize
     ensures { result ≡ list_count listed }
 {

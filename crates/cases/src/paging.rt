@@ -82,8 +82,8 @@ fn write_page(
     }
 }
 
-// Whether the vector's page, in a slice with the fill everywhere, gives what it must; a difference is printed. The last checkpoint becomes the
-// one that the page returned.
+// Whether the vector's page, in a slice with the fill everywhere, gives what it must; a difference is printed. The last checkpoint becomes
+// the one that the page returned.
 pub fn page_vector(rt: &impl Print, v: &Vector<'_>, last: &mut Checkpoint) -> io::Result<bool>
     requires { 114 ≤ length v.now.fields.now }
     ensures { IfOk result (Leaves (page_agrees (parts_of v.now) (checkpoint_values last.old)) (page_leaves (parts_of v.now) (checkpoint_values last.old)) last.new) }
