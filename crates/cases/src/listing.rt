@@ -111,8 +111,8 @@ pub fn list_vector(rt: &impl Print, v: &Vector<'_>, last: &mut Checkpoint) -> io
         return Ok(true);
     }
     report_call(rt, v.number, expected, got.told)?;
-    report::numbers(rt, "models", models as u64, count as u64)?;
-    report::numbers(rt, "first other model", 256, other as u64)?;
+    report::numbers(rt, b"models", models as u64, count as u64)?;
+    report::numbers(rt, b"first other model", 256, other as u64)?;
     report_checkpoint(rt, stored, got.checkpoint, wrong)?;
     Ok(false)
 }

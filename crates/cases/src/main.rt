@@ -78,7 +78,7 @@ fn run_file<R: Files + Print>(rt: &R, t: Totals, name: &str, act: Act) -> io::Re
     let n = reading::read_full(&mut file, &mut buffer)?;
     let run = run_all(rt, &buffer[..n], act, t)?;
     if run.at < n {
-        report::broken(rt, name, run.at)?;
+        report::broken(rt, name.as_bytes(), run.at)?;
     }
     Ok(run.totals)
 }
@@ -87,7 +87,7 @@ fn run_file<R: Files + Print>(rt: &R, t: Totals, name: &str, act: Act) -> io::Re
 const MAX_NAME: usize = 16;
 
 // The files of an act, whose names end in a, b and so on up to z, and then the line that sums them up.
-fn run_files<R: Files + Print>(rt: &R, name: &str, act: Act, unit: &str) -> io::Result<()>
+fn run_files<R: Files + Print>(rt: &R, name: &str, act: Act, unit: &[u8]) -> io::Result<()>
     requires { length name.now < 16 }
 {
     let mut t = Totals::none();
@@ -97,44 +97,44 @@ fn run_files<R: Files + Print>(rt: &R, name: &str, act: Act, unit: &str) -> io::
         path.push(char::from(b'a' + i));
         t = run_file(rt, t, path.as_str(), act)?;
     }
-    report::summary(rt, name, unit, t)
+    report::summary(rt, name.as_bytes(), unit, t)
 }
 
 // A file of its own, and its line.
 fn run_alone(rt: &(impl Files + Print), name: &str, act: Act) -> io::Result<()> {
     let t = run_file(rt, Totals::none(), name, act)?;
-    report::summary(rt, name, "vectors", t)
+    report::summary(rt, name.as_bytes(), b"vectors", t)
 }
 
 fn main(rt: HostRuntime) -> io::Result<()> {
-    run_files(&rt, "check", Act::Check, "vectors")?;
+    run_files(&rt, "check", Act::Check, b"vectors")?;
     run_alone(&rt, "check_edges", Act::Check)?;
-    run_files(&rt, "judge", Act::Judge, "vectors")?;
+    run_files(&rt, "judge", Act::Judge, b"vectors")?;
     run_alone(&rt, "judge_edges", Act::Judge)?;
     run_alone(&rt, "judge_assumed", Act::Judge)?;
-    run_files(&rt, "weigh", Act::Weigh, "vectors")?;
+    run_files(&rt, "weigh", Act::Weigh, b"vectors")?;
     run_alone(&rt, "weigh_edges", Act::Weigh)?;
     run_alone(&rt, "weigh_assumed", Act::Weigh)?;
-    run_files(&rt, "deficiency", Act::Deficiency, "vectors")?;
+    run_files(&rt, "deficiency", Act::Deficiency, b"vectors")?;
     run_alone(&rt, "deficiency_edges", Act::Deficiency)?;
-    run_files(&rt, "read_text", Act::ReadText, "vectors")?;
+    run_files(&rt, "read_text", Act::ReadText, b"vectors")?;
     run_alone(&rt, "read_text_edges", Act::ReadText)?;
-    run_files(&rt, "write_text", Act::WriteText, "vectors")?;
+    run_files(&rt, "write_text", Act::WriteText, b"vectors")?;
     run_alone(&rt, "write_text_edges", Act::WriteText)?;
     run_alone(&rt, "start", Act::Start)?;
-    run_files(&rt, "walk", Act::Walk, "vectors")?;
+    run_files(&rt, "walk", Act::Walk, b"vectors")?;
     run_alone(&rt, "walk_edges", Act::Walk)?;
     run_alone(&rt, "walk_assumed", Act::Walk)?;
-    run_files(&rt, "chain", Act::Walk, "calls")?;
-    run_files(&rt, "wait", Act::Wait, "chains")?;
+    run_files(&rt, "chain", Act::Walk, b"calls")?;
+    run_files(&rt, "wait", Act::Wait, b"chains")?;
     run_alone(&rt, "wait_edges", Act::Wait)?;
-    run_files(&rt, "listing", Act::Listing, "calls")?;
-    run_files(&rt, "list", Act::Models, "vectors")?;
+    run_files(&rt, "listing", Act::Listing, b"calls")?;
+    run_files(&rt, "list", Act::Models, b"vectors")?;
     run_alone(&rt, "list_edges", Act::Models)?;
-    run_files(&rt, "page", Act::Page, "vectors")?;
+    run_files(&rt, "page", Act::Page, b"vectors")?;
     run_alone(&rt, "page_edges", Act::Page)?;
-    run_files(&rt, "printed", Act::Print, "vectors")?;
+    run_files(&rt, "printed", Act::Print, b"vectors")?;
     run_alone(&rt, "printed_edges", Act::Print)?;
-    run_files(&rt, "formulas", Act::Compare, "vectors")?;
+    run_files(&rt, "formulas", Act::Compare, b"vectors")?;
     run_alone(&rt, "formulas_edges", Act::Compare)
 }

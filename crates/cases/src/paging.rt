@@ -109,6 +109,8 @@ pub fn page_vector(rt: &impl Print, v: &Vector<'_>, last: &mut Checkpoint) -> io
     }
     report::difference(rt, v.number, expected, got)?;
     report_checkpoint(rt, stored, returned, other)?;
-    report::wrong_byte(rt, page, wrong, wanted)?;
+    if let Some(byte) = page.get(wrong) {
+        report::wrong_byte(rt, wrong, wanted(wrong), *byte)?;
+    }
     Ok(false)
 }

@@ -190,6 +190,6 @@ pub fn wait_vector(rt: &impl Print, v: &Vector<'_>) -> io::Result<bool>
         return Ok(true);
     }
     report::other_waits(rt, v.number)?;
-    report::numbers(rt, "waits over", wanted, w.closed)?;
+    report::numbers(rt, b"waits over", wanted, w.closed)?;
     Ok(false)
 }

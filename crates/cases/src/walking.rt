@@ -155,19 +155,17 @@ pub fn report_checkpoint(
     c: Checkpoint,
     wrong: usize,
 ) -> io::Result<()> {
-    report::wrong_byte(
-        rt,
-        &checkpoint_bytes(c),
-        wrong,
-        |i| wanted_byte(expected, 0, i),
-    )
+    if let Some(byte) = checkpoint_bytes(c).get(wrong) {
+        report::wrong_byte(rt, wrong, wanted_byte(expected, 0, wrong), *byte)?;
+    }
+    Ok(())
 }
 
-pub fn report_call(rt: &impl Print, vector: u16, wanted: Told, got: Told) -> io::Result<()> {
+pub fn report_call(rt: &impl Print, vector: u64, wanted: Told, got: Told) -> io::Result<()> {
     report::difference(rt, vector, wanted.answer, got.answer)?;
-    report::numbers(rt, "model", wanted.model, got.model)?;
-    report::numbers(rt, "steps", wanted.steps, got.steps)?;
-    report::numbers(rt, "expansions", wanted.expansions, got.expansions)
+    report::numbers(rt, b"model", wanted.model, got.model)?;
+    report::numbers(rt, b"steps", wanted.steps, got.steps)?;
+    report::numbers(rt, b"expansions", wanted.expansions, got.expansions)
 }
 
 // Whether the start checkpoint is the expected one; a difference is printed.

@@ -60,6 +60,8 @@ pub fn compare_bytes<F: Fn(usize) -> u8>(
         return Ok(true);
     }
     report::difference(rt, v.number, expected, got)?;
-    report::wrong_byte(rt, bytes, wrong, wanted)?;
+    if let Some(byte) = bytes.get(wrong) {
+        report::wrong_byte(rt, wrong, wanted(wrong), *byte)?;
+    }
     Ok(false)
 }

@@ -5,7 +5,7 @@ ghost use Rattle.vectors.specs.Corpus.{two_bytes, four_bytes, eight_bytes, parts
 // A vector: its number, its input, its assumptions, the bytes that it expects, and its fields.
 #[derive(Clone, Copy)]
 pub struct Vector<'a> {
-    pub number: u16,
+    pub number: u64,
     pub input: &'a [u8],
     pub assumptions: &'a [u8],
     pub expected: &'a [u8],
@@ -43,7 +43,7 @@ pub fn frame(bytes: &[u8], fields: usize) -> Option<(Vector<'_>, &[u8])>
     let (expected, rest) = rest.split_at_checked(usize::from(two_bytes(head, 6)))?;
     let (fields, rest) = rest.split_at_checked(fields)?;
     let vector = Vector {
-        number: two_bytes(head, 0),
+        number: u64::from(two_bytes(head, 0)),
         input,
         assumptions,
         expected,

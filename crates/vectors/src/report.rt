@@ -1,6 +1,4 @@
 // The lines that the program `cases` prints.
-ghost use Rattle.std.specs.Prelude.{◌≤◌, length};
-
 use crate::answers::{Answer, Says};
 use crate::totals::Totals;
 use std::{fmt, io};
@@ -43,24 +41,24 @@ impl fmt::Display for Answer {
 }
 
 // A vector that gives another answer, buffer or checkpoint than it expects.
-pub fn difference(rt: &impl Print, vector: u16, wanted: Answer, got: Answer) -> io::Result<()> {
+pub fn difference(rt: &impl Print, vector: u64, wanted: Answer, got: Answer) -> io::Result<()> {
     println!(rt; "vector {vector}: expected {wanted}, got {got}")
 }
 
 // A vector that has no answer, and gives another checkpoint than it expects.
-pub fn other_checkpoint(rt: &impl Print, vector: u16) -> io::Result<()> {
+pub fn other_checkpoint(rt: &impl Print, vector: u64) -> io::Result<()> {
     println!(rt; "vector {vector}: another checkpoint")
 }
 
 // A vector whose calls have other steps between two models than their trails say, or another number of models.
-pub fn other_waits(rt: &impl Print, vector: u16) -> io::Result<()> {
+pub fn other_waits(rt: &impl Print, vector: u64) -> io::Result<()> {
     println!(rt; "vector {vector}: other waits")
 }
 
 // A vector whose printed text is another from a byte on, counted from 0.
 pub fn other_text(
     rt: &impl Print,
-    vector: u16,
+    vector: u64,
     at: usize,
     wanted: &[u8],
     got: &[u8],
@@ -72,34 +70,27 @@ pub fn other_text(
 }
 
 // One of the vector's numbers.
-pub fn numbers(rt: &impl Print, name: &str, wanted: u64, got: u64) -> io::Result<()> {
-    println!(rt; "  {name}: expected {wanted}, got {got}")
+pub fn numbers(rt: &impl Print, name: &[u8], wanted: u64, got: u64) -> io::Result<()> {
+    rt.write_all(b"  ")?;
+    rt.write_all(name)?;
+    println!(rt; ": expected {wanted}, got {got}")
 }
 
-// The first wrong byte of the vector's buffer or checkpoint, from 0, if one is wrong.
-pub fn wrong_byte<F: Fn(usize) -> u8>(
-    rt: &impl Print,
-    got: &[u8],
-    at: usize,
-    wanted: F,
-) -> io::Result<()>
-    requires { F.IsAlwaysCallable wanted }
-{
-    if at < got.len() {
-        println!(rt; "  byte {at}: expected {}, got {}", wanted(at), got[at])?;
-    }
-    Ok(())
+// The first wrong byte of the vector's buffer or checkpoint, from 0.
+pub fn wrong_byte(rt: &impl Print, at: usize, wanted: u8, got: u8) -> io::Result<()> {
+    println!(rt; "  byte {at}: expected {wanted}, got {got}")
 }
 
 // A file whose vector at an offset runs past its end.
-pub fn broken(rt: &impl Print, name: &str, at: usize) -> io::Result<()> {
-    println!(rt; "{name}: broken at {at}")
+pub fn broken(rt: &impl Print, name: &[u8], at: usize) -> io::Result<()> {
+    rt.write_all(name)?;
+    println!(rt; ": broken at {at}")
 }
 
 // How many vectors, or calls, were run.
-pub fn summary(rt: &impl Print, name: &str, unit: &str, t: Totals) -> io::Result<()> {
-    println!(rt;
-        "{name}: {} {unit}, {} differences",
-        t.vectors, t.differences
-    )
+pub fn summary(rt: &impl Print, name: &[u8], unit: &[u8], t: Totals) -> io::Result<()> {
+    rt.write_all(name)?;
+    print!(rt; ": {} ", t.vectors)?;
+    rt.write_all(unit)?;
+    println!(rt; ", {} differences", t.differences)
 }
