@@ -2,7 +2,6 @@
 use Prim.Native.Nat.{◌-◌}
 use mathlib.Core.Bool.{Bool}
 use mathlib.Core.Path.{◌≡◌, sym, ◌∙◌}
-use native.Mathlib.Omega.{arith}
 use Rattle.masks.specs.Mask.{bit}
 use Rattle.masks.proofs.MembersLaws.{with_member}
 use Rattle.writing.proofs.PlacedLaws.{puts_none}
