@@ -6,14 +6,13 @@ use mathlib.Core.Path.{◌≡◌, refl, sym, ap, ◌∙◌}
 use native.Mathlib.Omega.{arith}
 use borrow.Author.Tests.{le-leb, lt-leb, lt-ltb, le-ltb, eq-eqb, ne_eqb}
 use lib.Dec.{eqb}
-use lib.ListN.{length, set, length-append, length-set}
-use Rattle.std.proofs.lemmas.List.{take_more_set}
+use lib.ListN.{length, length-append}
 use Rattle.limits.specs.Limits.{max_variables, max_clauses}
 use Rattle.lists.proofs.TestLaws.{bool_clash}
 use Rattle.masks.specs.Mask.{bit}
 use Rattle.formula.specs.declared.Refusal.TheVariants.{Truncated, NoSuchVariable, ComplementaryLiteral, TooManyClauses, ClauseCountDiffers}
 use Rattle.formula.specs.Decoding.{refused}
-use Rattle.formula.specs.Format.{Literal, literal_kind, literal_bytes, literals_bytes, clause_bytes, clauses_bytes, formula_bytes, names, names_as, has_complement, add, ClauseOver, Sized}
+use Rattle.formula.specs.Format.{Literal, literal_bytes, literals_bytes, clause_bytes, clauses_bytes, formula_bytes, names, names_as, has_complement, add, ClauseOver, Sized}
 use Rattle.formula.specs.InnerDecode.{none_yet}
 use Rattle.formula.specs.declared.Clause.{Clause}
 use Rattle.formula.specs.InnerFits.{side, clause_variables}
@@ -27,18 +26,7 @@ use Rattle.dimacs.specs.declared.reader.Reader.{Reader}
 use Rattle.dimacs.specs.Text.{Piece, value, Progress, progress_start, next, stop, take_literal, take_end, closing}
 use Rattle.dimacs.specs.InnerScan.{capped, numbers_of}
 use Rattle.dimacs.specs.declared.opening.Numbers.{Numbers}
-use Rattle.dimacs.specs.InnerReader.{kept_room, kept_bytes, with_byte, with_record, Holds, Keeps, Stands, Kept}
-
--- ---- a byte more
-
--- the bytes that are kept, and one more
-pub holds_byte : {xs b : List ℕ} {n : ℕ} → Holds xs n b → n < kept_room → (x : ℕ) → Holds (xs ++ (x ∷ [])) (n + 1) (set b n x)
-holds_byte {xs} {b} {n} h l x =
-    record {
-      long = omega (arith, h.long, length-append xs (x ∷ []));
-      starts = take_more_set b n x (omega (arith, h.room)) ∙ ap (λ (ys : List ℕ). ys ++ (x ∷ [])) h.starts;
-      room = length-set b n x ∙ h.room;
-    }
+use Rattle.dimacs.specs.InnerReader.{kept_room, kept_bytes, with_byte, with_record, Keeps, Stands, Kept}
 
 -- ---- how many bytes are kept
 
@@ -87,8 +75,8 @@ module _ {n : ℕ} {s : Progress} {r : Reader} (k : Keeps n s r) where
   has_none = ap (λ (c : Clause). eqb (clause_variables c) 0) k.current ∙ clause_empty s.current
 
   -- room for the end of a clause
-  pub end_room : r.length < kept_room
-  end_room = omega (arith, k.holds.long, kept_le n s k.sized k.over)
+  pub end_room : length r.kept.items < kept_room
+  end_room = rw k.bytes (omega (arith, kept_le n s k.sized k.over))
 
   -- ---- a literal
 
@@ -129,19 +117,17 @@ module _ {n : ℕ} {s : Progress} {r : Reader} (k : Keeps n s r) where
           over = clause_more literal k.over (omega (arith, fits)) unnamed
 
           -- there is room for it
-          pub literal_room : r.length + 2 ≤ kept_room
+          pub literal_room : length r.kept.items + 2 ≤ kept_room
           literal_room =
               let s' = with_current s (s.current ++ (literal ∷ [])) in
               let l = length-append s.current (literal ∷ []) in
-              omega (arith, k.holds.long, kept_length n s, kept_length n s', kept_le n s' k.sized over)
+              rw k.bytes (omega (arith, kept_length n s, kept_length n s', kept_le n s' k.sized over))
 
           -- it is kept
           pub literal_kept : Stands n (take_literal n at s sign v) (with_record r sign v)
           unfolding add literal_bytes
           literal_kept =
               let one : v - 1 + 1 ≡ v = omega (arith, some) in
-              let first = holds_byte k.holds (omega (arith, literal_room)) (literal_kind sign) in
-              let both = holds_byte first (omega (arith, literal_room)) v in
               record {
                 progress = with_current s (s.current ++ (literal ∷ []));
                 taken = rw (le-leb v n fits, fine, unnamed);
@@ -149,7 +135,7 @@ module _ {n : ℕ} {s : Progress} {r : Reader} (k : Keeps n s r) where
                   variables = k.variables;
                   count = k.count;
                   current = ap (λ (c : Clause). with_literal c (v - 1) sign) k.current ∙ sym (with_literals-last no_clause s.current literal);
-                  holds = rw (kept_literal n s literal, one) (rw append_assoc at both);
+                  bytes = rw (kept_literal n s literal, one, append_assoc, k.bytes);
                   sized = k.sized;
                   over = over;
                 };
@@ -170,7 +156,7 @@ module _ {n : ℕ} {s : Progress} {r : Reader} (k : Keeps n s r) where
           variables = k.variables;
           count = omega (arith, k.count, length-append s.ended (s.current ∷ []));
           current = q;
-          holds = rw (kept_end n s) (holds_byte k.holds end_room 4);
+          bytes = rw (kept_end n s, k.bytes);
           sized = sized_more k.sized k.over (omega (arith, k.count));
           over = over_none;
         };
@@ -209,22 +195,21 @@ module _ {n : ℕ} {s : Progress} {r : Reader} (k : Keeps n s r) where
             variables = n;
             clauses = s.ended;
             reads = rw (closed, eq-eqb (length s.ended) (value d.bytes) f);
-            holds = rw (kept_all n s closed) (holds_byte k.holds end_room 5);
+            bytes = rw (kept_all n s closed, k.bytes);
             sized = k.sized;
           }
 
 -- ---- behind the p line
 
-pub keeps-start : (n : ℕ) (e : Clause) (z : List ℕ) → 1 ≤ n → n ≤ max_variables → length z ≡ kept_room → e ≡ no_clause
-    → Keeps n progress_start (with_byte (with_byte (record { variables = n; count = 0; current = e; length = 0; kept = z }) 1) n)
+pub keeps-start : (n : ℕ) (e : Clause) → 1 ≤ n → n ≤ max_variables → e ≡ no_clause
+    → Keeps n progress_start (record { variables = n; count = 0; current = e; kept = record { items = 1 ∷ n ∷ [] } })
 unfolding with_literals clauses_bytes literals_bytes
-keeps-start n e z some most room q =
-    let none : Holds [] 0 z = record { long = refl; starts = refl; room = room } in
+keeps-start n e some most q =
     record {
       variables = refl;
       count = refl;
       current = q;
-      holds = holds_byte (holds_byte none (omega arith) 1) (omega arith) n;
+      bytes = refl;
       sized = record { some = some; most = most; few = omega arith; clauses = tt };
       over = over_none;
     }

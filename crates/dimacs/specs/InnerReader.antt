@@ -1,5 +1,5 @@
 -- What reading keeps, word by word; proofs/KeepLaws.antt ties it to Text.
-use Rattle.std.specs.Prelude.{ℕ, ◌+◌, ◌*◌, ◌-◌, ◌≤◌, Bool, List, Result, MatchResult, ◌≡◌, length, take, set}
+use Rattle.std.specs.Prelude.{ℕ, ◌+◌, ◌*◌, ◌-◌, ◌≤◌, Bool, List, [], ◌∷◌, ◌++◌, Result, MatchResult, ◌≡◌, length}
 use Rattle.limits.specs.Limits.{max_variables, max_clauses}
 use Rattle.formula.specs.declared.Refusal.{Refusal}
 use Rattle.formula.specs.Format.{Literal, literal_kind, formula_bytes, ClauseOver, Sized, max_clause_bytes}
@@ -17,17 +17,11 @@ kept_room = 2 + (max_clauses + 1) * max_clause_bytes
 
 -- a reader that has kept a byte more
 abbrev pub with_byte : Reader → ℕ → Reader
-with_byte r x = record r { length = r.length + 1; kept = set r.kept r.length x }
+with_byte r x = record r { kept = record { items = r.kept.items ++ (x ∷ []) } }
 
 -- and one that has kept a literal's record more, of variable k, from 1
 abbrev pub with_record : Reader → Bool → ℕ → Reader
 with_record r sign k = record (with_byte (with_byte r (literal_kind sign)) k) { current = with_literal r.current (k - 1) sign }
-
--- the bytes xs are kept, the first n of b
-pub record Holds (xs : List ℕ) (n : ℕ) (b : List ℕ) : Type 0 where
-  pub long : n ≡ length xs
-  pub starts : take n b ≡ xs
-  pub room : length b ≡ kept_room
 
 -- the bytes of what is read so far
 abbrev pub kept_bytes : ℕ → Progress → List ℕ
@@ -38,7 +32,7 @@ pub record Keeps (n : ℕ) (s : Progress) (r : Reader) : Type 0 where
   pub variables : r.variables ≡ n
   pub count : r.count ≡ length s.ended
   pub current : r.current ≡ clause_of s.current
-  pub holds : Holds (kept_bytes n s) r.length r.kept
+  pub bytes : r.kept.items ≡ kept_bytes n s
   pub sized : Sized n s.ended
   pub over : ClauseOver n s.current
 
@@ -75,7 +69,7 @@ pub record Kept (d : Decoding) (r : Reader) : Type 0 where
   pub variables : ℕ
   pub clauses : List (List Literal)
   pub reads : d ≡ readable variables clauses
-  pub holds : Holds (formula_bytes variables clauses) r.length r.kept
+  pub bytes : r.kept.items ≡ formula_bytes variables clauses
   pub sized : Sized variables clauses
 
 -- or it is refused

@@ -1,18 +1,19 @@
 // The act read: a text into an encoded formula (S15).
 //
-// A refusal may come behind any word, and leaves the lent buffer as it was: so the bytes are first kept in an array.
-ghost use Rattle.std.specs.Prelude.{◌≡◌, ◌+◌, ◌-◌, ◌<◌, ◌≤◌, ℕ, take};
+// A refusal may come behind any word, and leaves the lent buffer as it was: so the bytes are first kept apart.
+ghost use Rattle.std.specs.Prelude.{◌≡◌, ◌+◌, ◌-◌, ◌≤◌, ℕ, length};
 ghost use Rattle.limits.specs.Limits.{max_variables};
 ghost use Rattle.formula.specs.Format.{literal_kind};
 ghost use Rattle.dimacs.specs.Text.{words, all_words, Progress, progress_start, take_literal, take_end, take_word, take_words, next, closing};
 ghost use Rattle.dimacs.specs.Convert.{converted_values, to_encoded};
 ghost use Rattle.dimacs.specs.InnerPiece.{piece_of};
 ghost use Rattle.dimacs.specs.InnerScan.{lines_left, numbers_of};
-ghost use Rattle.dimacs.specs.InnerReader.{kept_room, with_byte, with_record, Keeps, Ready, Takes, Opens, Reads};
+ghost use Rattle.dimacs.specs.InnerReader.{kept_room, with_record, Keeps, Ready, Takes, Opens, Reads};
 
 use crate::opening::{Numbers, read_opening};
 use crate::piece::Piece;
 use crate::scan::{Lines, Token, Words, read_token};
+use arrayvec::ArrayVec;
 use formula::{Clause, Refusal};
 use limits::{MAX_CLAUSES, MAX_VARIABLES};
 
@@ -25,15 +26,13 @@ const MAX_BYTES: usize = 3 + MAX_CLAUSES * MAX_CLAUSE_BYTES;
 // Room for the most clauses and one that has not ended: its end is what is refused.
 const KEPT_ROOM: usize = 2 + (MAX_CLAUSES + 1) * MAX_CLAUSE_BYTES;
 
-// Where reading stands: the number of variables, how many clauses have ended, what the current one names, and the bytes that are kept,
-// the first `length`.
+// Where reading stands: the number of variables, how many clauses have ended, what the current one names, and the bytes that are kept.
 #[derive(Drop)]
 struct Reader {
     variables: usize,
     count: usize,
     current: Clause,
-    length: usize,
-    kept: [u8; KEPT_ROOM],
+    kept: ArrayVec<u8, KEPT_ROOM>,
 }
 
 impl Reader {
@@ -42,34 +41,24 @@ impl Reader {
         requires { (1 ≤ variables) × (variables ≤ max_variables) }
         ensures { Keeps variables progress_start result }
     {
-        let mut reader = Reader {
+        let mut kept = ArrayVec::new();
+        kept.push(1);
+        kept.push(variables as u8);
+        Reader {
             variables,
             count: 0,
             current: Clause::empty(),
-            length: 0,
-            kept: [0; KEPT_ROOM],
-        };
-        reader.keep(1);
-        reader.keep(variables as u8);
-        reader
-    }
-
-    // Keeps a byte.
-    fn keep(&mut self, byte: u8)
-        requires { self.old.length < kept_room }
-        ensures { self.new ≡ with_byte self.old byte }
-    {
-        self.kept[self.length] = byte;
-        self.length += 1;
+            kept,
+        }
     }
 
     // Keeps a literal's record: of variable k, from 1.
     fn keep_literal(&mut self, sign: bool, k: usize)
-        requires { (1 ≤ k) × (k ≤ max_variables) × (self.old.length + 2 ≤ kept_room) }
+        requires { (1 ≤ k) × (k ≤ max_variables) × (length self.old.kept.items + 2 ≤ kept_room) }
         ensures { self.new ≡ with_record self.old sign k }
     {
-        self.keep(kind_of(sign));
-        self.keep(k as u8);
+        self.kept.push(kind_of(sign));
+        self.kept.push(k as u8);
         self.current = self.current.with_literal(k - 1, sign);
     }
 
@@ -99,7 +88,7 @@ impl Reader {
         if MAX_CLAUSES <= self.count {
             return Err(Refusal::TooManyClauses(at));
         }
-        self.keep(4);
+        self.kept.push(4);
         self.count += 1;
         self.current = Clause::empty();
         Ok(())
@@ -150,16 +139,8 @@ impl Reader {
         if self.count != p.clauses {
             return Err(Refusal::ClauseCountDiffers(p.fourth));
         }
-        self.keep(5);
+        self.kept.push(5);
         Ok(())
-    }
-
-    // The bytes that are kept.
-    fn bytes(&self) -> &[u8]
-        requires { self.now.length ≤ kept_room }
-        ensures { result.now ≡ take self.now.length self.now.kept }
-    {
-        &self.kept[..self.length]
     }
 }
 
@@ -198,7 +179,7 @@ pub fn read(text: &[u8], buffer: &mut [u8]) -> Result<usize, Refusal>
     let mut reader = Reader::new(p.variables);
     reader.take_lines(lines)?;
     reader.close(text.len(), p)?;
-    let bytes = reader.bytes();
+    let bytes = reader.kept.as_slice();
     buffer[..bytes.len()].copy_from_slice(bytes);
     Ok(bytes.len())
 }

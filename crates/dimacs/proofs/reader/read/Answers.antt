@@ -11,7 +11,7 @@ use Rattle.dimacs.specs.InnerScan.{lines_left}
 use Rattle.dimacs.specs.InnerReader.{Opened, Stands, Kept}
 use Rattle.dimacs.proofs.GoesLaws.{stands_ready}
 use Rattle.dimacs.proofs.ReadLaws.{text_lines, encoded_short, encoded_refused, encoded_written}
-use Rattle.dimacs.proofs.reader.read.Goals.{After-new-lines, In_ok-p, In_ok-take_lines, In_ok-close, After-bytes-bytes}
+use Rattle.dimacs.proofs.reader.read.Goals.{After-new-lines, In_ok-p, In_ok-take_lines, In_ok-close, After-as_slice-bytes}
 use Rattle.dimacs.proofs.reader.read.Goals as goal
 
 -- the lines decide
@@ -81,31 +81,26 @@ returns-in_err-close c =
     (encoded_refused c.args.text.now c.args.buffer.now (omega arith) _
     (closes d ∙ c.in_err-close.ensures (n (before d)) s.progress o.third o.fourth s.keeps o.numbers))
 
-pub bytes-bytes-requires : goal.bytes-bytes-requires
-bytes-bytes-requires c =
-    let k = kept (goal.at.bytes-bytes-requires c).In_ok-close in
-    omega (arith, k.holds.long, formula_le k.sized)
-
 -- the buffer has room for them
-room : (t : After-bytes-bytes) → length t.bytes-bytes.result.now ≤ length t.args.buffer.now
+room : (t : After-as_slice-bytes) → length t.as_slice-bytes.result.now ≤ length t.args.buffer.now
 room t =
-    let k = kept (goal.at.After-bytes-bytes t).In_ok-close in
-    rw (t.bytes-bytes.ensures, k.holds.starts) (omega (arith, formula_le k.sized))
+    let k = kept (goal.at.After-as_slice-bytes t).In_ok-close in
+    rw (t.as_slice-bytes.ensures.value, k.bytes) (omega (arith, formula_le k.sized))
 
-taken : (t : After-bytes-bytes) → length (take (length t.bytes-bytes.result.now) t.args.buffer.now) ≡ length t.bytes-bytes.result.now
+taken : (t : After-as_slice-bytes) → length (take (length t.as_slice-bytes.result.now) t.args.buffer.now) ≡ length t.as_slice-bytes.result.now
 taken t = length-take-le _ t.args.buffer.now (room t)
 
 pub slice_bounds-copy_from_slice-end : goal.slice_bounds-copy_from_slice-end
 slice_bounds-copy_from_slice-end c = room c
 
 pub slice_bounds-copy_from_slice-end-2 : goal.slice_bounds-copy_from_slice-end-2
-slice_bounds-copy_from_slice-end-2 c = sym (taken (goal.at.slice_bounds-copy_from_slice-end-2 c).After-bytes-bytes)
+slice_bounds-copy_from_slice-end-2 c = sym (taken (goal.at.slice_bounds-copy_from_slice-end-2 c).After-as_slice-bytes)
 
 pub copy_from_slice-requires : goal.copy_from_slice-requires
-copy_from_slice-requires c = taken (goal.at.copy_from_slice-requires c).After-bytes-bytes
+copy_from_slice-requires c = taken (goal.at.copy_from_slice-requires c).After-as_slice-bytes
 
 pub returns : goal.returns
 returns c =
     let k = kept (goal.at.returns c).In_ok-close in
-    rw (c.copy_from_slice.ensures.after, c.bytes-bytes.ensures, k.holds.starts)
+    rw (c.copy_from_slice.ensures.after, c.as_slice-bytes.ensures.value, k.bytes)
     (encoded_written c.args.text.now c.args.buffer.now (omega arith) k.variables k.clauses (closes (goal.at.returns c).In_ok-take_lines ∙ k.reads))

@@ -1,5 +1,6 @@
 -- `close`: a clause is open, the number differs, or the last record is kept.
 use mathlib.Core.Path.{◌≡◌, sym, ◌∙◌}
+use borrow.Author.Rules.{rules}
 use Rattle.formula.specs.InnerFits.{clause_variables}
 use Rattle.dimacs.proofs.KeepLaws.{end_room, close_open, close_differs, close_done}
 use Rattle.dimacs.proofs.reader.Reader.close.Goals.{After-variables}
@@ -17,10 +18,10 @@ returns-then-self-p c =
     let t = (goal.at.returns-then-self-p c).After-variables in
     λ n s c' d k e. close_differs k c.args.len d (none t c.if-variables-ne0.false) c' c.args.p e c.if-self-p.true
 
-pub keep-requires : goal.keep-requires
-keep-requires c = end_room c.requires.keeps
+pub push-requires : goal.push-requires
+push-requires c = (search rules, end_room c.requires.keeps)
 
 pub returns : goal.returns
 returns c =
     let t = (goal.at.returns c).After-variables in
-    λ n s c' d k e. rw c.keep.ensures (close_done k c.args.len d (none t c.if-variables-ne0.false) c' c.args.p e c.if-self-p.false)
+    λ n s c' d k e. rw c.push.ensures.items (close_done k c.args.len d (none t c.if-variables-ne0.false) c' c.args.p e c.if-self-p.false)
