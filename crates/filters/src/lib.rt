@@ -26,7 +26,7 @@ pub fn put_converted(
         Err(refusal) => {
             let mut line = [0u8; MAX_LINE];
             let mut w = Writer::new(&mut line, 0);
-            printing::put_refusal_line(&mut w, refusal);
+            printing::put_refused_line(&mut w, refusal.number(), refusal.place() as u64);
             let count = w.behind();
             errors.write_all(&line[..count])
         }

@@ -34,4 +34,4 @@ returns c =
     (c.from-2.ensures ∙ c.two_bytes-2.ensures) c.in_ok-assumptions.ensures.cases
     (c.from-3.ensures ∙ c.two_bytes-3.ensures) c.in_ok-expected.ensures.cases
     c.in_ok-fields.ensures.cases
-    c.two_bytes-4.ensures
+    (c.from-4.ensures ∙ c.two_bytes-4.ensures)
