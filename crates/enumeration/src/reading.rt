@@ -14,7 +14,7 @@ use crate::scope::Task;
 use crate::state::{Place, State, mark};
 use splitting::Choice;
 
-// Whether the value is open to the chosen variable.
+// The value is open to the chosen variable.
 fn is_open(c: Choice, value: bool) -> bool
     ensures { result ≡ opened c value }
 {
@@ -29,8 +29,8 @@ fn at_root(s: State) -> Option<State>
 }
 
 impl Task {
-    // Assigns a byte's variable again, if it is the chosen one and its value open.
-    fn replay_byte(&self, s: State, b: u8) -> Option<State>
+    // The state with a byte's variable assigned again, if it is the chosen one and its value open.
+    fn replay_byte(&self, mut s: State, b: u8) -> Option<State>
         requires { FormulaFits self.now.formula × Valid self.now.formula self.now.scope s × (1 ≤ byte_number b) }
         ensures { (K : Tree) → Follows self.now.formula self.now.scope K → Holds K s → Replayed K (push (byte_number b - 1) (byte_value b) (stack_in s)) result }
     {
@@ -43,13 +43,12 @@ impl Task {
         if number_of(b) != c.variable + 1 || !is_open(c, value) {
             return None;
         }
-        let mut after = s;
-        after.note(c.true_open, p.free);
-        after.push(c.variable, value);
-        Some(after)
+        s.note(c.true_open, p.free);
+        s.push(c.variable, value);
+        Some(s)
     }
 
-    // Assigns the checkpoint's variables again.
+    // The state with the checkpoint's variables assigned again, if a walk assigns them.
     fn replay(&self, c: Checkpoint) -> Option<State>
         requires { FormulaFits self.now.formula × HasTree self.now.formula self.now.scope × (formed (checkpoint_values c) ≡ true) }
         ensures { (K : Tree) → Follows self.now.formula self.now.scope K → Replayed K (read (checkpoint_values c)) result }
@@ -61,7 +60,7 @@ impl Task {
         Some(s)
     }
 
-    // The state at a node where a value of the chosen variable was undone, if a walk comes there.
+    // S7.4: the state at a node where a value of the chosen variable was undone, if a walk comes there.
     fn take_undone(&self, s: State, value: bool) -> Option<State>
         requires { FormulaFits self.now.formula × Valid self.now.formula self.now.scope s }
         ensures { (K : Tree) → Follows self.now.formula self.now.scope K → Node K (stack_in s) s → PlaceTaken K (undone_mode value) (stack_in s) (fits K (undone_mode value) (stack_in s)) result }
@@ -90,7 +89,7 @@ impl Task {
         })
     }
 
-    // The state of a checkpoint's mode at the node of its trail, if a walk comes there.
+    // S7.4: the state of a checkpoint's mode at the node of its trail, if a walk comes there.
     fn take_place(&self, s: State, mode: u8) -> Option<State>
         requires { FormulaFits self.now.formula × Valid self.now.formula self.now.scope s }
         ensures { (K : Tree) → Follows self.now.formula self.now.scope K → Node K (stack_in s) s → PlaceTaken K mode (stack_in s) (fits K mode (stack_in s)) result }

@@ -77,7 +77,7 @@ impl State {
         matches!(self.place, Place::UndoneFalse) && masks::member(self.open_true, self.length)
     }
 
-    // Whether true is open at the state's depth, and whether no clause is left there.
+    // Notes whether true is open at the state's depth, and whether no clause is left there.
     pub fn note(&mut self, true_open: bool, free: bool)
         requires { self.old.length < max_variables }
         ensures { self.new ≡ noted self.old true_open free }
@@ -87,7 +87,7 @@ impl State {
         self.clear = mark(self.clear, self.length, free);
     }
 
-    // v is assigned as well.
+    // Assigns v as well.
     pub fn push(&mut self, v: usize, value: bool)
         requires { (v < max_variables) × (self.old.length < max_variables) }
         ensures { self.new ≡ pushing self.old v value }
@@ -101,7 +101,7 @@ impl State {
         self.clear = mark(self.clear, at + 1, masks::member(self.clear, at));
     }
 
-    // The last assigned variable is undone.
+    // Undoes the last assigned variable.
     pub fn pop(&mut self)
         requires { (0 < self.old.length) × (self.old.length ≤ max_variables) × Numbered (get_or self.old.bytes (self.old.length - 1) 0) }
         ensures { self.new ≡ popping self.old }
@@ -121,7 +121,7 @@ impl State {
         self.bytes[at] = 0;
     }
 
-    // S7.2: the mode of the state's checkpoint.
+    // S7.3: the mode of the state's checkpoint.
     fn mode(self) -> u8
         ensures { (K : Tree) → Holds K self → result ≡ mode_of (position_in self) }
     {
