@@ -3,7 +3,7 @@ use Prim.Native.Nat.{ℕ, zero, suc, ◌+◌, ◌*◌, ◌-◌, ◌/◌, ◌%◌
 use mathlib.Core.Bool.{Bool, true, false, cond}
 use mathlib.Core.List.{List, [], ◌∷◌, ◌++◌}
 use mathlib.Core.Path.{◌≡◌, refl, ap, ◌∙◌}
-use native.Mathlib.Nat.{pow-suc, div-lt_iff_lt-mul, div-lt_self, div-add-mod'}
+use native.Mathlib.Nat.{pow-suc, div-lt_iff_lt-mul, le-div_iff_mul-le, div-lt_self, div-add-mod'}
 use native.Mathlib.Omega.{arith}
 use lib.Dec.{ltb}
 use lib.ListN.{length, get_or, length-append, get_or-append}
@@ -81,6 +81,25 @@ decimal_more (suc y) h =
 -- one digit more
 pub more_length : (x : ℕ) → 10 ≤ x → length (decimal x) ≡ length (decimal (x / 10)) + 1
 more_length x h = ap length (decimal_more x h) ∙ length-append (decimal (x / 10)) ((digit_zero + (x % 10)) ∷ [])
+
+-- how many digits a power of ten and more has
+power_some : (k : ℕ) → 1 ≤ 10 ^ k
+power_some zero = omega arith
+power_some (suc k) = let h = power_some k in rw pow-suc (omega arith)
+
+-- a number of 10 ^ k or more has more than k digits
+pub decimal_long : (k x : ℕ) → 10 ^ k ≤ x → suc k ≤ length (decimal x)
+decimal_long zero x h = decimal_some x
+decimal_long (suc k) x h =
+    let p = power_some k in
+    let g : 10 ^ k * 10 ≤ x = rw pow-suc at h in
+    let i = decimal_long k (x / 10) ((le-div_iff_mul-le (omega arith)).1 g) in
+    let m = more_length x (omega arith) in
+    omega arith
+
+-- how many digits a number has
+pub decimal_width : (k x : ℕ) → 10 ^ k ≤ x → x < 10 * 10 ^ k → length (decimal x) ≡ suc k
+decimal_width k x h l = let a = decimal_long k x h in let b = decimal-length k x (rw pow-suc (omega arith)) in omega arith
 
 -- ---- the digits tell the number, the first is not 0, and there is nothing else
 

@@ -1,9 +1,9 @@
 -- Laws of a list written into another at an offset.
 use Prim.Native.Nat.{ℕ, ◌+◌, ◌≤◌}
-use mathlib.Core.List.{List, [], ◌++◌, append_assoc}
+use mathlib.Core.List.{List, [], ◌++◌, append-nil, append_assoc}
 use mathlib.Core.Path.{◌≡◌, refl, sym, ap, ◌∙◌}
 use native.Mathlib.Omega.{arith}
-use lib.ListN.{length, take, drop, take-append-drop, length-append, length-drop}
+use lib.ListN.{length, take, drop, take-append-drop, length-append, length-drop, drop_of_length-le}
 use lib.Seq.{length-take-le, take_at, drop-append-add, drop-drop}
 use Rattle.lists.specs.Over.{over}
 use Rattle.std.specs.Borrow.{MutBor}
@@ -70,6 +70,12 @@ wrote_more {xs} {ys} {at} {p} {r} {b} {c} {d} h v w =
       buffer = w.buffer ∙ ap (λ (t : ℕ). placed t ys c) v.next ∙ ap (placed (at + length xs) ys) v.buffer ∙ placed_placed at xs ys b h;
       next = (let l = length-append xs ys in let m = v.next in let n = w.next in omega arith);
     }
+
+-- a buffer that is written whole
+pub wrote_whole : {xs : List ℕ} {b c : List ℕ} {r : ℕ} → length b ≡ length xs → Wrote xs 0 b c r → c ≡ xs
+wrote_whole {xs} {b} h w =
+    let e : drop (0 + length xs) b ≡ [] = drop_of_length-le b {i = 0 + length xs} (omega arith) in
+    w.buffer ∙ rw e (append-nil xs)
 
 -- ---- what a writer's methods did
 

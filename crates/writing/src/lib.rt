@@ -31,13 +31,10 @@ fn column_of(visible: u64, a: u64, i: usize) -> u8
 fn width_of(x: u64) -> usize
     ensures { result ≡ length (decimal x) }
 {
-    let mut width: usize = 1;
-    let mut left = x;
-    while 9 < left {
-        left /= 10;
-        width += 1;
+    match x.checked_ilog10() {
+        Some(power) => power as usize + 1,
+        None => 1,
     }
-    width
 }
 
 // A lent buffer, and the offset of the next byte in it.
