@@ -31,7 +31,7 @@ pub struct Choice {
 }
 
 // Stripping at a node: the assignment with the noted variables, each the way that it is named, and these in order.
-#[derive(Drop)]
+#[derive(Clone, Drop)]
 pub struct Stripping {
     pub assignment: Assignment,
     pub order: ArrayVec<u8, MAX_VARIABLES>,
