@@ -24,10 +24,7 @@ pub struct Assumption {
 pub fn stated(input: &[u8]) -> usize
     ensures { result ≡ stated_in input.now }
 {
-    if input.len() < 2 {
-        return 0;
-    }
-    usize::from(input[1]).min(MAX_VARIABLES)
+    input.get(1).map_or(0, |n| usize::from(*n).min(MAX_VARIABLES))
 }
 
 // The variable s, from 1, can't be assumed: it is 0, above n, or assumed before, with whichever value.

@@ -13,7 +13,7 @@ pub struct Scope {
 }
 
 // What a walk goes over.
-#[derive(Drop)]
+#[derive(Clone, Drop)]
 pub struct Task {
     pub formula: Formula,
     pub scope: Scope,

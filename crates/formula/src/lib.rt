@@ -25,7 +25,7 @@ pub struct Clause {
 }
 
 // A formula (request: sheet): its number of variables, and its clauses in order.
-#[derive(Drop)]
+#[derive(Clone, Drop)]
 pub struct Formula {
     pub variables: usize,
     pub clauses: ArrayVec<Clause, MAX_CLAUSES>,

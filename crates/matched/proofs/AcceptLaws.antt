@@ -6,13 +6,13 @@ use mathlib.Core.Path.{◌≡◌, refl, sym, ap, ap₂, ◌∙◌}
 use native.Mathlib.Decide.{dec_lt}
 use native.Mathlib.Numerals.{add-one}
 use native.Mathlib.Omega.{arith}
-use lib.ListN.{length, take, get_or, length-map}
+use lib.ListN.{length, get_or, length-map}
 use Rattle.std.specs.Prelude.{Result, Ok, Err}
-use Rattle.limits.specs.Limits.{max_variables, max_clauses}
+use Rattle.limits.specs.Limits.{max_clauses}
 use Rattle.lists.specs.Padded.{padded}
 use Rattle.lists.specs.Every.{Every}
 use Rattle.lists.proofs.EveryLaws.{every_get_or}
-use Rattle.lists.proofs.PaddedLaws.{length_padded, get_or_padded, get_or_padded_past, take_padded}
+use Rattle.lists.proofs.PaddedLaws.{get_or_padded, get_or_padded_past}
 use Rattle.lists.proofs.SublistLaws.{get_or_element}
 use Rattle.lists.proofs.TabulatedLaws.{tabulated_of}
 use Rattle.masks.specs.Mask.{with}

@@ -5,7 +5,6 @@ use mathlib.Core.List.{List, [], map}
 use mathlib.Core.Path.{◌≡◌, refl, ap, ◌∙◌}
 use native.Mathlib.Omega.{arith}
 use lib.ListN.{length}
-use Rattle.std.specs.Prelude.{Ok, Err}
 use Rattle.limits.specs.Limits.{max_clauses}
 use Rattle.formula.specs.declared.Refusal.{Refusal}
 use Rattle.formula.specs.declared.Refusal.TheVariants.{Unmatched, BadAssumption}
@@ -25,10 +24,8 @@ use Rattle.splitting.specs.Nodes.{remaining}
 use Rattle.splitting.specs.Stripping.{stripped}
 use Rattle.splitting.specs.Terms.{Sound}
 use Rattle.splitting.proofs.Theorems.{matched_sound}
-use Rattle.matched.specs.declared.Accepted.{Accepted}
-use Rattle.matched.specs.declared.Declined.{Declined}
 use Rattle.matched.specs.Acceptance.{Acceptance, accepted, declined, whole_byte, stripped_byte, spread, by_left_outcome, by_outcome, formula_acceptance, by_assumed, by_decoding, acceptance}
-use Rattle.matched.specs.InnerAccept.{row_of, held_acceptance}
+use Rattle.matched.specs.InnerAccept.{row_of}
 use Rattle.matched.specs.Pairing.{Pairs, noted_of, left_of, Pairable, Walkable, Violator, marked}
 use Rattle.matched.proofs.PairingLaws.{masks_words, matches_pairs, pairs_matches}
 use Rattle.matched.proofs.SizedLaws.{remaining_sized, left_sized}

@@ -6,12 +6,10 @@ use mathlib.Core.Path.{◌≡◌, refl, sym, ap, ◌∙◌, subst}
 use native.Mathlib.Decide.{dec_lt}
 use native.Mathlib.Numerals.{add-one}
 use native.Mathlib.Omega.{arith}
-use lib.LanesLaws.{map-replicate}
 use lib.ListN.{set, length, get_or, take, length-map}
-use lib.Seq.{length-take-le, take-suc, ext_get_or}
+use lib.Seq.{length-take-le, take-suc}
 use Rattle.limits.specs.Limits.{max_clauses}
 use Rattle.lists.specs.Padded.{padded}
-use Rattle.lists.proofs.MapLaws.{get_or-map_in}
 use Rattle.lists.proofs.PaddedLaws.{length_padded, get_or_padded, get_or_padded_past, padded_set, take_padded}
 use Rattle.lists.proofs.SublistLaws.{sub_length, sub_map}
 use Rattle.masks.specs.Mask.{size}
@@ -35,7 +33,6 @@ use Rattle.matching.specs.Deficiency.{most, deficiency}
 use Rattle.matching.proofs.SelectedLaws.{selected_map, selected_sub, sub_selected}
 use Rattle.matching.proofs.Theorems.{most_attained, most_bound, excess_attained, excess_bound, one_more, deficiency-none}
 use Rattle.splitting.specs.Nodes.{remaining}
-use Rattle.splitting.proofs.MaskClauseLaws.{sets_variables}
 use Rattle.matched.specs.Deficiency.{MeasuredValues, measured, unmeasured, deficiency_of}
 use Rattle.matched.specs.Judge.{judge}
 use Rattle.matched.specs.Pairing.{Pairs, Pairable}

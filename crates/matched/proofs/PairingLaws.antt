@@ -5,12 +5,10 @@ use mathlib.Core.List.{List, [], ◌∷◌, map}
 use mathlib.Core.Path.{◌≡◌, refl, sym, ap, ap₂, ◌∙◌}
 use native.Mathlib.Omega.{arith}
 use lib.Bits.{bit_or}
-use lib.ListN.{length, get_or, take, length-map, get_or-map}
+use lib.ListN.{length, get_or, length-map, get_or-map}
 use lib.Pow.{pow_mono}
-use Rattle.limits.specs.Limits.{max_clauses}
 use Rattle.lists.proofs.EveryLaws.{every_get_or}
 use Rattle.lists.proofs.MapLaws.{get_or-map_in}
-use Rattle.lists.proofs.PaddedLaws.{take_padded}
 use Rattle.lists.proofs.TestLaws.{and_left, and_right}
 use Rattle.masks.specs.Mask.{bit, minus}
 use Rattle.masks.proofs.BitLaws.{bit-minus, bit-none, bit-or, minus_lt}
@@ -18,7 +16,7 @@ use Rattle.masks.proofs.MembersLaws.{mask_same}
 use Rattle.formula.specs.declared.Formula.{Formula}
 use Rattle.formula.specs.Format.{Literal, names, names_as, ClauseOver, Sized}
 use Rattle.formula.specs.InnerFits.{clause_variables}
-use Rattle.formula.specs.InnerMasked.{no_clause, clause_of, formula_of}
+use Rattle.formula.specs.InnerMasked.{clause_of, formula_of}
 use Rattle.formula.specs.Masked.{variables}
 use Rattle.formula.proofs.ClauseLaws.{clause_names, clause_side, variables-bit, variables_lt}
 use Rattle.matching.specs.Sets.{Words, union}

@@ -5,20 +5,20 @@ use mathlib.Core.List.{List, [], ◌∷◌, ◌++◌, map}
 use mathlib.Core.Path.{◌≡◌, refl, sym, ap, ◌∙◌}
 use native.Mathlib.Numerals.{add-one}
 use native.Mathlib.Omega.{arith}
-use lib.ListN.{length, get_or, set, drop, length-map, get_or-map}
+use lib.ListN.{length, get_or, set, drop, get_or-map}
 use lib.Seq.{get_or-drop}
 use Rattle.limits.specs.Limits.{max_clauses}
 use Rattle.lists.specs.Every.{Every}
 use Rattle.lists.specs.Padded.{padded}
 use Rattle.lists.proofs.EveryLaws.{every_get_or}
 use Rattle.lists.proofs.MapLaws.{get_or-map_in}
-use Rattle.lists.proofs.PaddedLaws.{padded_set, padded_filled, get_or_padded}
+use Rattle.lists.proofs.PaddedLaws.{padded_set, get_or_padded}
 use Rattle.lists.proofs.TabulatedLaws.{length_tabulated, tabulated_more, tabulated_of}
 use Rattle.formula.specs.declared.assignment.Assignment.{Assignment}
 use Rattle.formula.specs.declared.Clause.{Clause}
 use Rattle.formula.specs.Format.{Literal, distinct}
 use Rattle.formula.specs.InnerAssignment.{satisfied_under}
-use Rattle.formula.specs.InnerMasked.{no_clause, with_literals, clause_of, formula_of}
+use Rattle.formula.specs.InnerMasked.{no_clause, with_literals, clause_of}
 use Rattle.splitting.specs.Nodes.{assign, remaining, satisfied_by}
 use Rattle.splitting.specs.InnerChoose.{assignment_of}
 use Rattle.splitting.proofs.SatisfiedLaws.{less_all, remaining_cons, satisfied_masks}

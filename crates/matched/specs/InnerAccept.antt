@@ -1,5 +1,5 @@
 -- What comes of an input as the code holds it.
-use Rattle.std.specs.Prelude.{ℕ, ◌+◌, List, [], map, ◌≡◌, length, Result, Ok, Err}
+use Rattle.std.specs.Prelude.{ℕ, ◌+◌, List, [], map, ◌≡◌, Result, Ok, Err}
 use Rattle.arrayvec.specs.ArrayVec.{ArrayVec as Items}
 use Rattle.formula.specs.declared.Formula.{Formula}
 use Rattle.formula.specs.declared.Refusal.{Refusal}

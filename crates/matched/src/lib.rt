@@ -4,7 +4,7 @@
 // buffer. `weigh_marks` counts the clauses that a buffer marks and the variables that they name. `deficiency` asks nothing of these.
 #![tactic(auto)]
 
-ghost use Rattle.std.specs.Prelude.{List, map, count_by, not, ◌==◌, ◌≡◌, ℕ, ◌+◌, ◌<◌, ◌≤◌, length, get_or, take};
+ghost use Rattle.std.specs.Prelude.{List, map, count_by, not, ◌==◌, ◌≡◌, ℕ, ◌+◌, ◌<◌, ◌≤◌, length, get_or};
 ghost use Rattle.limits.specs.Limits.{max_clauses};
 ghost use Rattle.lists.specs.Over.{over};
 ghost use Rattle.lists.specs.Padded.{padded};
@@ -94,7 +94,7 @@ fn spread(
 {
     let mut row = ArrayVec::new();
     let mut next: usize = 0;
-    for c in f.clauses.as_slice() {
+    for c in f.clauses.iter() {
         if a.satisfies(*c) {
             row.push(0);
         } else {
@@ -135,8 +135,8 @@ fn tell_dropped(f: &Formula, a: Assignment, s: &Stripping, row: &[u8]) -> ArrayV
     ensures { result.items ≡ told_bytes f.now.clauses.items a s.now row.now (length f.now.clauses.items) }
 {
     let mut told = ArrayVec::new();
-    for (i, c) in f.clauses.as_slice().iter().enumerate() {
-        told.push(tell(a, s, *c, row[i]));
+    for (c, byte) in f.clauses.iter().zip(row) {
+        told.push(tell(a, s, *c, *byte));
     }
     told
 }
@@ -246,7 +246,7 @@ fn named_by(f: &Formula, marks: &[u8]) -> u64
     ensures { result ≡ union (selected marks.now (map clause_variables f.now.clauses.items)) }
 {
     let mut named: u64 = 0;
-    for (c, mark) in f.clauses.as_slice().iter().zip(marks) {
+    for (c, mark) in f.clauses.iter().zip(marks) {
         if *mark != 0 {
             named |= c.variables();
         }
@@ -297,7 +297,7 @@ fn clause_masks(f: &Formula) -> [u64; MAX_CLAUSES]
     ensures { result ≡ padded max_clauses 0 (map clause_variables f.now.clauses.items) }
 {
     let mut sets = [0u64; MAX_CLAUSES];
-    for (i, c) in f.clauses.as_slice().iter().enumerate() {
+    for (i, c) in f.clauses.iter().enumerate() {
         sets[i] = c.variables();
     }
     sets

@@ -58,6 +58,11 @@ unfoldable pub added : List ℕ → ℕ → List ℕ
 added [] k = []
 added (d ∷ ds) k = bit_xor d k ∷ added ds (bit_and d k)
 
+pub length_added : (ds : List ℕ) (k : ℕ) → length (added ds k) ≡ length ds
+unfolding added
+length_added [] k = refl
+length_added (d ∷ ds) k = ap suc (length_added ds (bit_and d k))
+
 -- the count of v that is not the greatest goes up by one, if v is a member
 pub count_added : (ds : List ℕ) (k v : ℕ) → (bit k v ≡ true → suc (count_of ds v) < 2 ^ length ds)
     → count_of (added ds k) v ≡ cond (bit k v) (suc (count_of ds v)) (count_of ds v)

@@ -103,7 +103,7 @@ impl Clauses {
         ensures { formula_in self.new ≡ formula_at f.now a }
     {
         let mut count = 0;
-        for c in f.clauses.as_slice() {
+        for c in f.clauses.iter() {
             if !a.satisfies(*c) {
                 self.put(count, left(a, *c));
                 count += 1;

@@ -26,18 +26,17 @@ impl Counts {
     }
 
     // One more for each member of the mask: each digit passes on what it carries.
-    pub fn with(self, mask: u64) -> Self
+    pub fn with(mut self, mask: u64) -> Self
         requires { (v : ℕ) → count_at self v < max_count }
         ensures { (v : ℕ) → count_at result v ≡ cond (bit mask v) (suc (count_at self v)) (count_at self v) }
     {
-        let mut digits = self.digits;
         let mut carry = mask;
-        for digit in &mut digits {
+        for digit in &mut self.digits {
             let carried = *digit & carry;
             *digit ^= carry;
             carry = carried;
         }
-        Counts { digits }
+        self
     }
 
     // The variables whose count is not 0.

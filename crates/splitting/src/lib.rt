@@ -6,8 +6,7 @@
 // leaves is counted for all variables at once, to try the busiest first.
 #![tactic(auto)]
 
-ghost use Rattle.std.specs.Prelude.{◌≡◌, true, ℕ, ◌≤◌};
-ghost use Rattle.limits.specs.Limits.{max_clauses};
+ghost use Rattle.std.specs.Prelude.{◌≡◌, true, ℕ};
 ghost use Rattle.formula.specs.InnerFits.{FormulaFits};
 ghost use Rattle.splitting.specs.Choosing.{both_open};
 ghost use Rattle.splitting.specs.InnerChoose.{node, survey_of, matching_at, Small, stripping_at, greatest, all_satisfied, free_choice, mask_choice};
@@ -31,7 +30,7 @@ pub struct Choice {
 }
 
 // Stripping at a node: the assignment with the noted variables, each the way that it is named, and these in order.
-#[derive(Drop)]
+#[derive(Clone, Drop)]
 pub struct Stripping {
     pub assignment: Assignment,
     pub order: ArrayVec<u8, MAX_VARIABLES>,
@@ -73,7 +72,7 @@ fn survey_open(f: &Formula, a: Assignment) -> Survey
     ensures { result ≡ survey_of (node f.now a) }
 {
     let mut s = Survey::none();
-    for c in f.clauses.as_slice() {
+    for c in f.clauses.iter() {
         if !a.satisfies(*c) {
             s = s.with(clauses::left(a, *c));
         }

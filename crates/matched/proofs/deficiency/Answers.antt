@@ -1,13 +1,9 @@
 -- `matched::deficiency` meets its contract: by the reader's answer, and by the most clauses that can be matched.
-use borrow.Author.Rules.{rules}
-use Prim.Native.Nat.{ℕ, ◌<◌}
-use mathlib.Core.List.{map}
+use Prim.Native.Nat.{ℕ}
 use mathlib.Core.Path.{sym, ap, ◌∙◌}
 use lib.ListN.{take}
 use Rattle.matching.specs.Deficiency.{most}
 use Rattle.std.proofs.lemmas.Result.{err_from_is_err_and}
-use Rattle.formula.specs.InnerFits.{clause_variables}
-use Rattle.formula.specs.InnerMasked.{no_clause}
 use Rattle.formula.proofs.MaskedLaws.{Accepts, decoded_accepted, decoded_refused}
 use Rattle.matched.proofs.DeficiencyLaws.{unreadable_deficiency, masks_clauses, counted_deficiency, counted_few}
 use Rattle.matched.proofs.deficiency.Goals.{In_ok-f}

@@ -1,5 +1,5 @@
 -- `matched::first_noted` meets its contract: the first of the noted variables that the clause names, or none.
-use Prim.Native.Nat.{ℕ, ◌<◌, ◌≤◌}
+use Prim.Native.Nat.{ℕ}
 use native.Mathlib.Omega.{arith}
 use borrow.Author.Rules.{rules}
 use mathlib.Core.Bool.{true, false}

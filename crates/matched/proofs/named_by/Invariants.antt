@@ -2,7 +2,6 @@
 use mathlib.Core.List.{map}
 use mathlib.Core.Path.{◌≡◌}
 use lib.Bits.{bit_or}
-use lib.ListN.{take}
 use Rattle.formula.specs.InnerFits.{clause_variables}
 use Rattle.matching.specs.Sets.{union, selected}
 use Rattle.matched.proofs.named_by.Given as goal

@@ -22,7 +22,7 @@ room : (c : In-loop-c) → length c.loop-c.row.items < max_clauses
 room c =
     let b = c.args in
     let n = ap length c.loop-c.invariant.2 ∙ length_tabulated (byte_at b.f.now.clauses.items b.a b.answers.now b.k) c.loop-c.c-index in
-    omega (arith, c.as_slice-c-items.ensures.fits, c.loop-c-test.true, n)
+    omega (arith, c.deref-c-items.ensures.1, c.loop-c-test.true, n)
 
 pub loop-c-init : goal.loop-c-init
 unfolding tabulated open_before
@@ -40,7 +40,7 @@ loop-c-preserved c =
     let cs = b.f.now.clauses.items in
     let i = c.loop-c.c-index in
     let gone : c.satisfies.result ≡ satisfied_under b.a (get_or cs i no_clause) =
-    c.satisfies.ensures ∙ ap (λ (l : List Clause). satisfied_under b.a (get_or l i no_clause)) c.as_slice-c-items.ensures.value in
+    c.satisfies.ensures ∙ ap (λ (l : List Clause). satisfied_under b.a (get_or l i no_clause)) c.deref-c-items.ensures.0 in
     elim c.if-satisfies.branch [
       | then-satisfies w ↦
           let g = spread_gone cs b.a b.answers.now b.k i c.loop-c.next c.loop-c.row.items c.loop-c.invariant.1 c.loop-c.invariant.2 (sym gone ∙ w.if-satisfies.true) in

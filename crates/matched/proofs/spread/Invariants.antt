@@ -1,8 +1,6 @@
 -- `matched::spread` meets its contract. The loop's invariant: the bytes of the first i clauses are written.
 use Prim.Native.Nat.{◌≤◌}
 use mathlib.Core.Path.{◌≡◌}
-use Rattle.limits.specs.Limits.{max_clauses}
-use Rattle.lists.specs.Padded.{padded}
 use Rattle.matched.specs.InnerSpread.{open_before, bytes_at}
 use Rattle.matched.proofs.spread.Given as goal
 

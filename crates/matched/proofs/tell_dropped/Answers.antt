@@ -1,31 +1,35 @@
 -- `matched::tell_dropped` meets its contract.
 use native.Mathlib.Omega.{arith}
 use borrow.Author.Rules.{rules}
-use mathlib.Core.List.{List}
-use mathlib.Core.Path.{◌≡◌, ap, ◌∙◌}
-use lib.ListN.{length, get_or}
+use mathlib.Core.List.{◌∷◌}
+use mathlib.Core.Logic.{inl, inr, ⊎_elim}
+use mathlib.Core.Path.{◌≡◌, refl, ap}
+use lib.ListN.{length}
 use Rattle.lists.specs.Tabulated.{tabulated}
-use Rattle.lists.proofs.TabulatedLaws.{length_tabulated}
-use Rattle.formula.specs.declared.Clause.{Clause}
-use Rattle.formula.specs.InnerMasked.{no_clause}
-use Rattle.matched.specs.InnerSpread.{told_byte}
-use Rattle.matched.proofs.TellLaws.{told_more}
+use Rattle.matched.proofs.TellLaws.{tells_room, tells_next, tells_all}
+use Rattle.matched.proofs.tell_dropped.Goals.{In-Some}
 use Rattle.matched.proofs.tell_dropped.Goals as goal
 
-pub loop-i-init : goal.loop-i-init
+-- the clause and the byte stand first in what was left
+clause : (e : In-Some) → e.loop-c.c-iterator.a.rest.now ≡ e.in-Some.c.now ∷ e.next.new.self.a.rest.now
+clause e = search rules
+
+byte : (e : In-Some) → e.loop-c.c-iterator.b.rest.now ≡ e.in-Some.byte.now ∷ e.next.new.self.b.rest.now
+byte e = search rules
+
+pub loop-c-init : goal.loop-c-init
 unfolding tabulated
-loop-i-init c = c.new-told.ensures
+loop-c-init c = rw c.new-told.ensures (refl, search rules, search rules, omega arith)
+
+pub loop-c-preserved : goal.loop-c-preserved
+loop-c-preserved c =
+    let e = (goal.at.loop-c-preserved c).In-Some in
+    rw c.push.ensures.items (tells_next _ _ _ _ _ c.loop-c.invariant (clause e) (byte e) _ c.tell.ensures)
 
 pub push-requires : goal.push-requires
 push-requires c =
-    let b = c.args in
-    let n = ap length c.loop-i.invariant ∙ length_tabulated (λ i. told_byte b.a b.s.now (get_or b.f.now.clauses.items i no_clause) (get_or b.row.now i 0)) c.loop-i.i in
-    (search rules, omega (arith, c.as_slice-c-items.ensures.fits, c.loop-i-test.true, n))
+    let e = (goal.at.push-requires c).In-Some in
+    (search rules, omega (arith, tells_room _ _ _ _ _ c.loop-c.invariant (clause e) (byte e), c.deref.ensures.1, ap length c.deref.ensures.0))
 
-pub loop-i-preserved : goal.loop-i-preserved
-loop-i-preserved c =
-    let b = c.args in
-    let i = c.loop-i.i in
-    c.push.ensures.items
-    ∙ told_more b.f.now.clauses.items b.a b.s.now b.row.now i c.tell.result c.loop-i.told.items c.loop-i.invariant
-    (c.tell.ensures ∙ ap (λ (l : List Clause). told_byte b.a b.s.now (get_or l i no_clause) (get_or b.row.now i 0)) c.as_slice-c-items.ensures.value)
+pub returns : goal.returns
+returns c = tells_all _ _ _ _ _ c.loop-c.invariant (⊎_elim (λ w. inl w.1.0) (λ w. inr w.1.0) c.in-None.ensures.steps) c.requires.0

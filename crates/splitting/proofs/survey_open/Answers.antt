@@ -19,11 +19,11 @@ loop-c-preserved c =
     let cs = c.args.f.now.clauses.items in
     let a = c.args.a in
     let i = c.loop-c.c-index in
-    let at = ap (λ (l : List Clause). get_or l i no_clause) (sym c.as_slice-c-items.ensures.value) in
+    let at = ap (λ (l : List Clause). get_or l i no_clause) (sym c.deref-c-items.ensures.0) in
     elim c.if-not-satisfies.branch [
       | then-not-satisfies w ↦ rw (w.s-is, w.with-s.ensures, w.left.ensures) (survey_open cs a i _ at _ c.loop-c.invariant (sym c.satisfies.ensures ∙ w.if-not-satisfies.true))
       | else-not-satisfies w ↦ w.s-is ∙ survey_gone cs a i _ at _ c.loop-c.invariant (sym c.satisfies.ensures ∙ w.if-not-satisfies.false)
     ]
 
 pub returns : goal.returns
-returns c = let e : c.loop-c.c-index ≡ length c.args.f.now.clauses.items = omega (arith, ap length c.as_slice-c-items.ensures.value) in rw e at c.loop-c.invariant
+returns c = let e : c.loop-c.c-index ≡ length c.args.f.now.clauses.items = omega (arith, ap length c.deref-c-items.ensures.0) in rw e at c.loop-c.invariant

@@ -1,7 +1,6 @@
 -- A refusal makes a declined input without bytes.
 use mathlib.Core.List.{List}
 use mathlib.Core.Path.{ap}
-use Rattle.matched.specs.declared.Declined.{Declined}
 use Rattle.matched.proofs.DeclinedFromRefusal.from.Goals as goal
 
 pub returns : goal.returns

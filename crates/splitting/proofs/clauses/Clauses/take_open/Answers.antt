@@ -20,7 +20,7 @@ loop-c-preserved c =
     let cs = c.args.f.now.clauses.items in
     let a = c.args.a in
     let i = c.loop-c.c-index in
-    let at = ap (λ (l : List Clause). get_or l i no_clause) (sym c.as_slice-c-items.ensures.value) in
+    let at = ap (λ (l : List Clause). get_or l i no_clause) (sym c.deref-c-items.ensures.0) in
     elim c.if-not-satisfies.branch [
       | then-not-satisfies w ↦ (
         omega arith,
@@ -35,5 +35,5 @@ loop-c-preserved c =
 
 pub returns : goal.returns
 returns c =
-    let e : c.loop-c.c-index ≡ length c.args.f.now.clauses.items = omega (arith, ap length c.as_slice-c-items.ensures.value) in
+    let e : c.loop-c.c-index ≡ length c.args.f.now.clauses.items = omega (arith, ap length c.deref-c-items.ensures.0) in
     formula_held c.loop-c.self.positives c.loop-c.self.negatives c.loop-c.count _ (rw e at c.loop-c.invariant.1)
