@@ -119,7 +119,7 @@ impl Task {
     }
 
     // S7.4: the state that a checkpoint stands for, if the walk has such a checkpoint.
-    pub fn read_checkpoint(&self, c: Checkpoint) -> Option<State>
+    pub(crate) fn read_checkpoint(&self, c: Checkpoint) -> Option<State>
         requires { FormulaFits self.now.formula × HasTree self.now.formula self.now.scope }
         ensures { (K : Tree) → Follows self.now.formula self.now.scope K → PlaceTaken K c.mode (read (checkpoint_values c)) (accepts K (checkpoint_values c)) result }
     {
