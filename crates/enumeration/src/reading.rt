@@ -12,6 +12,7 @@ ghost use Rattle.enumeration.specs.Values.{checkpoint_values};
 use crate::checkpoint::{Checkpoint, number_of};
 use crate::scope::Task;
 use crate::state::{Place, State, mark};
+use crate::steps::Picked;
 use splitting::Choice;
 
 // Whether the value is open to the chosen variable.
@@ -25,7 +26,7 @@ fn is_open(c: Choice, value: bool) -> bool
 fn at_root(s: State) -> Option<State>
     ensures { result ≡ cond (eqb s.length 0) (Some s) None }
 {
-    if s.length == 0 { Some(s) } else { None }
+    (s.length == 0).then_some(s)
 }
 
 impl Task {
@@ -37,15 +38,14 @@ impl Task {
         if s.length == self.scope.size {
             return None;
         }
-        let p = self.pick(&s);
-        let c = p.choice;
+        let Picked { choice, free } = self.pick(&s);
         let value = 128 <= b;
-        if number_of(b) != c.variable + 1 || !is_open(c, value) {
+        if number_of(b) != choice.variable + 1 || !is_open(choice, value) {
             return None;
         }
         let mut after = s;
-        after.note(c.true_open, p.free);
-        after.push(c.variable, value);
+        after.note(choice.true_open, free);
+        after.push(choice.variable, value);
         Some(after)
     }
 
