@@ -66,7 +66,7 @@ fn has_zeros(bytes: &[u8]) -> bool
 
 impl Checkpoint {
     // The checkpoint's mode, length and bytes have the form of one: a number in each byte before the end, and 0 in each from the end on.
-    pub fn is_well_formed(self) -> bool
+    pub(crate) fn is_well_formed(self) -> bool
         ensures { result ≡ formed (checkpoint_values self) }
     {
         let length = usize::from(self.length);

@@ -12,6 +12,7 @@ ghost use Rattle.enumeration.specs.Values.{checkpoint_values};
 use crate::checkpoint::{Checkpoint, number_of};
 use crate::scope::Task;
 use crate::state::{Place, State, mark};
+use crate::steps::Picked;
 use splitting::Choice;
 
 // The value is open to the chosen variable.
@@ -25,7 +26,7 @@ fn is_open(c: Choice, value: bool) -> bool
 fn at_root(s: State) -> Option<State>
     ensures { result ≡ cond (eqb s.length 0) (Some s) None }
 {
-    if s.length == 0 { Some(s) } else { None }
+    (s.length == 0).then_some(s)
 }
 
 impl Task {
@@ -37,14 +38,13 @@ impl Task {
         if s.length == self.scope.size {
             return None;
         }
-        let p = self.pick(&s);
-        let c = p.choice;
+        let Picked { choice, free } = self.pick(&s);
         let value = 128 <= b;
-        if number_of(b) != c.variable + 1 || !is_open(c, value) {
+        if number_of(b) != choice.variable + 1 || !is_open(choice, value) {
             return None;
         }
-        s.note(c.true_open, p.free);
-        s.push(c.variable, value);
+        s.note(choice.true_open, free);
+        s.push(choice.variable, value);
         Some(s)
     }
 
@@ -118,7 +118,7 @@ impl Task {
     }
 
     // S7.4: the state that a checkpoint stands for, if the walk has such a checkpoint.
-    pub fn read_checkpoint(&self, c: Checkpoint) -> Option<State>
+    pub(crate) fn read_checkpoint(&self, c: Checkpoint) -> Option<State>
         requires { FormulaFits self.now.formula × HasTree self.now.formula self.now.scope }
         ensures { (K : Tree) → Follows self.now.formula self.now.scope K → PlaceTaken K c.mode (read (checkpoint_values c)) (accepts K (checkpoint_values c)) result }
     {

@@ -70,7 +70,7 @@ impl Task {
 
 impl State {
     // Whether false was undone and true is open after it.
-    pub fn turns(&self) -> bool
+    pub(crate) fn turns(&self) -> bool
         requires { self.now.length < 64 }
         ensures { result ≡ turning self.now }
     {
@@ -78,7 +78,7 @@ impl State {
     }
 
     // Notes whether true is open at the state's depth, and whether no clause is left there.
-    pub fn note(&mut self, true_open: bool, free: bool)
+    pub(crate) fn note(&mut self, true_open: bool, free: bool)
         requires { self.old.length < max_variables }
         ensures { self.new ≡ noted self.old true_open free }
     {
@@ -88,7 +88,7 @@ impl State {
     }
 
     // Assigns v as well.
-    pub fn push(&mut self, v: usize, value: bool)
+    pub(crate) fn push(&mut self, v: usize, value: bool)
         requires { (v < max_variables) × (self.old.length < max_variables) }
         ensures { self.new ≡ pushing self.old v value }
     {
@@ -102,7 +102,7 @@ impl State {
     }
 
     // Undoes the last assigned variable.
-    pub fn pop(&mut self)
+    pub(crate) fn pop(&mut self)
         requires { (0 < self.old.length) × (self.old.length ≤ max_variables) × Numbered (get_or self.old.bytes (self.old.length - 1) 0) }
         ensures { self.new ≡ popping self.old }
     {
