@@ -99,9 +99,9 @@ impl Reader {
         ensures { Takes (λ n s. take_word n (piece_of word.entry) s) self.old self.new result }
     {
         match read_token(word.bytes) {
-            Token::Ends => self.take_end(word.at),
-            Token::Literal(sign, k) => self.take_literal(word.at, sign, k),
-            Token::Bad => Err(Refusal::BadWord(word.at)),
+            Some(Token::Ends) => self.take_end(word.at),
+            Some(Token::Literal(sign, k)) => self.take_literal(word.at, sign, k),
+            None => Err(Refusal::BadWord(word.at)),
         }
     }
 
