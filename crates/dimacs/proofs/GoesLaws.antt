@@ -9,7 +9,8 @@ use lib.Dec.{eqb, leb, ltb}
 use Rattle.limits.specs.Limits.{max_variables}
 use Rattle.formula.specs.declared.Refusal.{Refusal}
 use Rattle.dimacs.specs.declared.reader.Reader.{Reader}
-use Rattle.dimacs.specs.declared.scan.Token.TheVariants.{Ends, Literal, Bad}
+use Rattle.dimacs.specs.declared.scan.Token.TheVariants.{Ends, Literal}
+use Rattle.std.specs.Prelude.{Some, None}
 use Rattle.dimacs.specs.Text.{Piece, words, all_words, run, value, Token, ends, names_variable, bad, minus_sign, signed, unsigned, token, Progress, Taking, next, stop, take_literal, take_token, take_word, take_words}
 use Rattle.dimacs.specs.InnerScan.{cap, capped, token_held}
 use Rattle.dimacs.specs.InnerReader.{Keeps, Ready, Stands}
@@ -77,12 +78,12 @@ no_words ms e = ap all_words e
 
 -- ---- tokens
 
-pub held_ends : (t : Token) → token_held t ≡ Ends → t ≡ ends
+pub held_ends : (t : Token) → token_held t ≡ Some Ends → t ≡ ends
 held_ends ends e = refl
 held_ends (names_variable sign k) e = cc
 held_ends bad e = cc
 
-pub held_bad : (t : Token) → token_held t ≡ Bad → t ≡ bad
+pub held_bad : (t : Token) → token_held t ≡ None → t ≡ bad
 held_bad ends e = cc
 held_bad (names_variable sign k) e = cc
 held_bad bad e = refl
@@ -92,7 +93,7 @@ pub record Named (t : Token) (sign : Bool) (k : ℕ) : Type 0 where
   pub is : t ≡ names_variable sign number
   pub cut : capped number ≡ k
 
-pub held_literal : (t : Token) (sign : Bool) (k : ℕ) → token_held t ≡ Literal sign k → Named t sign k
+pub held_literal : (t : Token) (sign : Bool) (k : ℕ) → token_held t ≡ Some (Literal sign k) → Named t sign k
 held_literal ends sign k e = let z : ◌≡◌ {A = ℕ} 0 1 = cc in absurd (omega arith)
 held_literal (names_variable sign' j) sign k e =
     let f : sign' ≡ sign = cc in

@@ -22,7 +22,9 @@ use Rattle.writing.proofs.DecimalLaws.{decimal_one}
 use Rattle.writing.proofs.PlacedLaws.{puts_none, puts_more, room_in_front, room_in_behind}
 use Rattle.formula.specs.Format.{Literal, literal_kind, literal_bytes, literals_bytes, clause_bytes, clauses_bytes, formula_bytes, names, add, without_repeats, WrittenOver, Encodes}
 use Rattle.formula.specs.Decoding.{readable, refused}
-use Rattle.formula.specs.InnerDecode.{decode}
+use Rattle.formula.specs.InnerDecode.{decode, kind_of}
+use Rattle.formula.specs.InnerReader.{kind_held}
+use Rattle.formula.specs.declared.Kind.TheVariants as codes
 use Rattle.formula.specs.declared.Refusal.{Refusal}
 use Rattle.formula.specs.declared.Refusal.TheVariants.{ShortBuffer}
 use Rattle.formula.specs.Masked.{variables}
@@ -30,7 +32,7 @@ use Rattle.formula.proofs.RepeatLaws.{over-most}
 use Rattle.formula.proofs.ClauseLaws.{variables-bit}
 use Rattle.formula.proofs.Demands.{accepted_only}
 use Rattle.formula.proofs.FormatLaws.{names-append}
-use Rattle.std.specs.Prelude.{Ok}
+use Rattle.std.specs.Prelude.{Ok, Some}
 use Rattle.dimacs.specs.Text.{minus_sign}
 use Rattle.dimacs.specs.Written.{literal_word, clause_line, clause_lines, opening_line, text_of, text_room}
 use Rattle.dimacs.specs.Convert.{converted_values, declined, to_text}
@@ -110,26 +112,38 @@ front s i x r e =
     let d = drop-cons s i 0 h in
     (cc, h)
 
--- at i stands a literal, and then the others, kind 4 and the rest
-pub record Ahead (s rest : List ℕ) (i : ℕ) (left : List Literal) : Type 0 where
+-- the record at i is a literal of this sign
+abbrev pub LiteralAt : List ℕ → ℕ → Bool → Type 0
+LiteralAt s i p = kind_held (kind_of (get_or s i 0)) ≡ Some (codes.Literal p)
+
+-- at i stands a literal of this sign, and then the others, kind 4 and the rest
+pub record Ahead (s rest : List ℕ) (i : ℕ) (left : List Literal) (p : Bool) : Type 0 where
   pub literal : Literal
   pub others : List Literal
   pub is : left ≡ literal ∷ others
-  pub sign : eqb (get_or s i 0) 2 ≡ literal.positive
+  pub sign : p ≡ literal.positive
   pub variable : get_or s (i + 1) 0 ≡ literal.variable + 1
   pub inside : i + 2 ≤ length s
   pub bytes : drop (i + 2) s ≡ literals_bytes others ++ (4 ∷ rest)
 
 -- the kind of a literal tells its sign
-kind_sign : (p : Bool) → eqb (literal_kind p) 2 ≡ p
-kind_sign true = refl
-kind_sign false = refl
+kind_literal : (p : Bool) → kind_held (kind_of (literal_kind p)) ≡ Some (codes.Literal p)
+kind_literal true = refl
+kind_literal false = refl
 
--- another kind than 4 is that of a literal
-pub ahead : (s rest : List ℕ) (i : ℕ) (left : List Literal) → drop i s ≡ literals_bytes left ++ (4 ∷ rest) → (get_or s i 0 ≡ 4 → ⊥) → Ahead s rest i left
+kind_sign : (q p : Bool) → kind_held (kind_of (literal_kind q)) ≡ Some (codes.Literal p) → p ≡ q
+kind_sign true p e = cc
+kind_sign false p e = cc
+
+-- kind 4 is not that of a literal
+kind_end : (p : Bool) → kind_held (kind_of 4) ≡ Some (codes.Literal p) → ⊥
+kind_end p e = let z : ◌≡◌ {A = ℕ} 0 1 = cc in absurd (omega arith)
+
+-- where the record is a literal it is the first of those that are left
+pub ahead : (s rest : List ℕ) (i : ℕ) (left : List Literal) (p : Bool) → drop i s ≡ literals_bytes left ++ (4 ∷ rest) → LiteralAt s i p → Ahead s rest i left p
 unfolding literals_bytes literal_bytes
-ahead s rest i [] e h = absurd (h (front s i 4 rest e).0)
-ahead s rest i (l ∷ left) e h =
+ahead s rest i [] p e h = absurd (kind_end p (rw (front s i 4 rest e).0 at h))
+ahead s rest i (l ∷ left) p e h =
     let n : i + 1 ≡ suc i = omega arith in
     let m : i + 2 ≡ suc (suc i) = omega arith in
     let f = drop_next i s e in
@@ -138,21 +152,17 @@ ahead s rest i (l ∷ left) e h =
       literal = l;
       others = left;
       is = refl;
-      sign = ap (λ (k : ℕ). eqb k 2) (front s i _ _ e).0 ∙ kind_sign l.positive;
+      sign = kind_sign l.positive p (rw (front s i _ _ e).0 at h);
       variable = rw n g.0;
       inside = omega (arith, g.1);
       bytes = rw m (drop_next (suc i) s f);
     }
 
--- and kind 4 ends the clause
-spent : (s rest : List ℕ) (i : ℕ) (left : List Literal) → drop i s ≡ literals_bytes left ++ (4 ∷ rest) → get_or s i 0 ≡ 4 → (left ≡ []) × (drop (i + 1) s ≡ rest)
+-- and another ends the clause
+spent : (s rest : List ℕ) (i : ℕ) (left : List Literal) → drop i s ≡ literals_bytes left ++ (4 ∷ rest) → ((p : Bool) → LiteralAt s i p → ⊥) → (left ≡ []) × (drop (i + 1) s ≡ rest)
 unfolding literals_bytes literal_bytes
 spent s rest i [] e h = let n : i + 1 ≡ suc i = omega arith in (refl, rw n (drop_next i s e))
-spent s rest i (l ∷ left) e h = go l.positive (sym (front s i _ _ e).0 ∙ h)
-  where
-    go : (p : Bool) → literal_kind p ≡ 4 → (l ∷ left ≡ []) × (drop (i + 1) s ≡ rest)
-    go true q = absurd (omega arith)
-    go false q = absurd (omega arith)
+spent s rest i (l ∷ left) e h = absurd (h l.positive (rw (front s i _ _ e).0 (kind_literal l.positive)))
 
 -- the line is written up to the literals that are left at i, behind the variables seen
 pub record Lining (s rest : List ℕ) (w : List Literal) (before now : Writer) (seen i : ℕ) : Type 0 where
@@ -182,70 +192,70 @@ module _ {s rest : List ℕ} {w : List Literal} {before now : Writer} {seen i : 
   pub lining_inside : i < length s
   lining_inside = omega (arith, ap length g.bytes, length-append (literals_bytes g.left) (4 ∷ rest), length-drop i s)
 
-  -- what comes of it
-  abbrev here : List ℕ
-  here = literal_once seen (eqb (get_or s i 0) 2) (get_or s (i + 1) 0 - 1)
-
-  -- the rest of the line is that, and then the others
-  rest_next : (a : Ahead s rest i g.left) → line_rest seen g.left ≡ here ++ line_rest (with seen (get_or s (i + 1) 0 - 1)) a.others
-  unfolding line_rest
-  rest_next a = let e : get_or s (i + 1) 0 - 1 ≡ a.literal.variable = omega (arith, a.variable) in rw (a.is, a.sign, e)
-
-  -- the literal and the others are over the most variables
-  below_next : (a : Ahead s rest i g.left) → (a.literal.variable < max_variables) × Every (λ l. l.variable < max_variables) a.others
-  below_next a = rw a.is at g.below
-
   -- there is room for what is left of the line
   lining_room : RoomIn (clause_line (without_repeats w)) before → RoomIn (line_rest seen g.left) now
   lining_room r = room_in_behind g.written (line_rest seen g.left) _ before now g.same r g.puts
 
-  -- and for the literal that comes, whose variable has a number from 1 to 48
-  pub literal_room : Ahead s rest i g.left → RoomIn (clause_line (without_repeats w)) before
-      → (1 ≤ get_or s (i + 1) 0) × (get_or s (i + 1) 0 ≤ max_variables) × RoomIn here now
-  literal_room a r = (
-    omega (arith, a.variable),
-    omega (arith, a.variable, (below_next a).0),
-    room_in_front here _ _ now (rest_next a) (lining_room r),
-  )
+  module _ {p : Bool} (a : Ahead s rest i g.left p) where
+    -- what comes of a literal
+    abbrev here : List ℕ
+    here = literal_once seen p (get_or s (i + 1) 0 - 1)
 
-  -- a literal more
-  pub lining_more : (now' : Writer) → Ahead s rest i g.left → Puts here now now' → Lining s rest w before now' (with seen (get_or s (i + 1) 0 - 1)) (i + 2)
-  lining_more now' a x =
-      record {
-        left = a.others;
-        bytes = a.bytes;
-        below = (below_next a).1;
-        written = g.written ++ here;
-        puts = puts_more g.puts x;
-        same = g.same ∙ ap (λ (l : List ℕ). g.written ++ l) (rest_next a) ∙ sym (append_assoc g.written here _);
-      }
+    -- the rest of the line is that, and then the others
+    rest_next : line_rest seen g.left ≡ here ++ line_rest (with seen (get_or s (i + 1) 0 - 1)) a.others
+    unfolding line_rest
+    rest_next = let e : get_or s (i + 1) 0 - 1 ≡ a.literal.variable = omega (arith, a.variable) in rw (a.is, a.sign, e)
 
-  -- at kind 4 the rest of the line is its end
-  line_end : get_or s i 0 ≡ 4 → line_rest seen g.left ≡ digit_zero ∷ line_feed ∷ []
-  unfolding line_rest
-  line_end h = rw (spent s rest i g.left g.bytes h).0
+    -- the literal and the others are over the most variables
+    below_next : (a.literal.variable < max_variables) × Every (λ l. l.variable < max_variables) a.others
+    below_next = rw a.is at g.below
 
-  -- for which there is room
-  pub end_room : get_or s i 0 ≡ 4 → RoomIn (clause_line (without_repeats w)) before → RoomIn (digit_zero ∷ line_feed ∷ []) now
-  end_room h r = rw (line_end h) at (lining_room r)
+    -- there is room for the literal, whose variable has a number from 1 to 48
+    pub literal_room : RoomIn (clause_line (without_repeats w)) before → (1 ≤ get_or s (i + 1) 0) × (get_or s (i + 1) 0 ≤ max_variables) × RoomIn here now
+    literal_room r = (
+      omega (arith, a.variable),
+      omega (arith, a.variable, below_next.0),
+      room_in_front here _ _ now rest_next (lining_room r),
+    )
 
-  -- and with which the line is whole
-  pub lining_last : (now' : Writer) → get_or s i 0 ≡ 4 → Puts (digit_zero ∷ line_feed ∷ []) now now'
-      → Puts (clause_line (without_repeats w)) before now' × (drop (i + 1) s ≡ rest)
-  lining_last now' h x = (rw (g.same, line_end h) (puts_more g.puts x), (spent s rest i g.left g.bytes h).1)
+    -- a literal more
+    pub lining_more : (now' : Writer) → Puts here now now' → Lining s rest w before now' (with seen (get_or s (i + 1) 0 - 1)) (i + 2)
+    lining_more now' x =
+        record {
+          left = a.others;
+          bytes = a.bytes;
+          below = below_next.1;
+          written = g.written ++ here;
+          puts = puts_more g.puts x;
+          same = g.same ∙ ap (λ (l : List ℕ). g.written ++ l) rest_next ∙ sym (append_assoc g.written here _);
+        }
+
+  module _ (h : (p : Bool) → LiteralAt s i p → ⊥) where
+    -- where no literal comes the rest of the line is its end
+    line_end : line_rest seen g.left ≡ digit_zero ∷ line_feed ∷ []
+    unfolding line_rest
+    line_end = rw (spent s rest i g.left g.bytes h).0
+
+    -- for which there is room
+    pub end_room : RoomIn (clause_line (without_repeats w)) before → RoomIn (digit_zero ∷ line_feed ∷ []) now
+    end_room r = rw line_end at (lining_room r)
+
+    -- and with which the line is whole
+    pub lining_last : (now' : Writer) → Puts (digit_zero ∷ line_feed ∷ []) now now' → Puts (clause_line (without_repeats w)) before now' × (drop (i + 1) s ≡ rest)
+    lining_last now' x = (rw (g.same, line_end) (puts_more g.puts x), (spent s rest i g.left g.bytes h).1)
 
 -- ---- the loop over the clauses
 
 -- a clause, and then others
-record Some (left : List (List Literal)) : Type 0 where
+record First (left : List (List Literal)) : Type 0 where
   clause : List Literal
   others : List (List Literal)
   is : left ≡ clause ∷ others
 
 -- so it is where there are any
-some : (left : List (List Literal)) → 0 < length left → Some left
-some [] h = absurd (omega arith)
-some (w ∷ ws) h = record { clause = w; others = ws; is = refl }
+first : (left : List (List Literal)) → 0 < length left → First left
+first [] h = absurd (omega arith)
+first (w ∷ ws) h = record { clause = w; others = ws; is = refl }
 
 -- the lines are written up to the clauses that are left at `from`, of which there are so many
 pub record Listing (s rest : List ℕ) (ws : List (List Literal)) (before now : Writer) (from more : ℕ) : Type 0 where
@@ -264,16 +274,16 @@ listing_first s rest from ws before more e o n r = record { left = ws; bytes = e
 
 module _ {s rest : List ℕ} {ws : List (List Literal)} {before now : Writer} {from more : ℕ} (g : Listing s rest ws before now from more) where
   -- the bytes of a clause, and then those of the others
-  clause_bytes_next : (a : Some g.left) → drop from s ≡ clause_bytes a.clause ++ (clauses_bytes a.others ++ rest)
+  clause_bytes_next : (a : First g.left) → drop from s ≡ clause_bytes a.clause ++ (clauses_bytes a.others ++ rest)
   unfolding clauses_bytes
   clause_bytes_next a = g.bytes ∙ rw a.is (append_assoc (clause_bytes a.clause) (clauses_bytes a.others) rest)
 
   -- each is a written clause
-  over_next : (a : Some g.left) → WrittenOver max_variables a.clause × Every (WrittenOver max_variables) a.others
+  over_next : (a : First g.left) → WrittenOver max_variables a.clause × Every (WrittenOver max_variables) a.others
   over_next a = rw a.is at g.over
 
   -- its line, and then those of the others
-  lines_next : (a : Some g.left)
+  lines_next : (a : First g.left)
       → clause_lines (map without_repeats g.left) ≡ clause_line (without_repeats a.clause) ++ clause_lines (map without_repeats a.others)
   unfolding clause_lines
   lines_next a = rw a.is
@@ -281,7 +291,7 @@ module _ {s rest : List ℕ} {ws : List (List Literal)} {before now : Writer} {f
   -- the next clause stands there, with room for its line
   pub listing_clause : 0 < more → RoomIn (clause_lines (map without_repeats ws)) before → ClauseAt s from now
   listing_clause h r =
-      let a = some g.left (omega (arith, g.many)) in
+      let a = first g.left (omega (arith, g.many)) in
       record {
         clause = a.clause;
         rest = clauses_bytes a.others ++ rest;
@@ -293,7 +303,7 @@ module _ {s rest : List ℕ} {ws : List (List Literal)} {before now : Writer} {f
   -- a line more
   pub listing_more : (now' : Writer) (next : ℕ) → 0 < more → AfterClause s from now now' next → Listing s rest ws before now' next (more - 1)
   listing_more now' next h f =
-      let a = some g.left (omega (arith, g.many)) in
+      let a = first g.left (omega (arith, g.many)) in
       let x = f a.clause (clauses_bytes a.others ++ rest) (clause_bytes_next a) (over_next a).0 in
       record {
         left = a.others;

@@ -3,7 +3,7 @@ use Rattle.std.specs.Prelude.{ℕ, Bool, not, cond, List, [], Option, Some, None
 use Rattle.dimacs.specs.declared.scan.Lines.{Lines}
 use Rattle.dimacs.specs.declared.scan.Words.{Words}
 use Rattle.dimacs.specs.declared.scan.Token as held
-use Rattle.dimacs.specs.declared.scan.Token.TheVariants.{Ends, Literal, Bad}
+use Rattle.dimacs.specs.declared.scan.Token.TheVariants.{Ends, Literal}
 use Rattle.dimacs.specs.declared.opening.Numbers.{Numbers}
 use Rattle.dimacs.specs.Text.{Piece, pieces, ends_line, parts_words, words, others, run, value, Token, ends, names_variable, bad, Opening, p_line, other_line}
 use Rattle.dimacs.specs.InnerPiece.{piece_of}
@@ -40,11 +40,11 @@ capped x = cond (ltb x cap) x cap
 abbrev pub number_held : List ℕ → Option ℕ
 number_held s = cond (run s) (Some (capped (value s))) None
 
--- a token with its number capped
-abbrev pub token_held : Token → held.Token
-token_held ends = Ends
-token_held (names_variable sign k) = Literal sign (capped k)
-token_held bad = Bad
+-- a token with its number capped, if it is one
+abbrev pub token_held : Token → Option held.Token
+token_held ends = Some Ends
+token_held (names_variable sign k) = Some (Literal sign (capped k))
+token_held bad = None
 
 -- the numbers of a p line's two words, capped
 abbrev pub numbers_of : Piece → Piece → Numbers

@@ -3,7 +3,6 @@
 // A refusal may come behind any word, and leaves the lent buffer as it was: so the bytes are first kept apart.
 ghost use Rattle.std.specs.Prelude.{◌≡◌, ◌+◌, ◌-◌, ◌≤◌, ℕ, length};
 ghost use Rattle.limits.specs.Limits.{max_variables};
-ghost use Rattle.formula.specs.Format.{literal_kind};
 ghost use Rattle.dimacs.specs.Text.{words, all_words, Progress, progress_start, take_literal, take_end, take_word, take_words, next, closing};
 ghost use Rattle.dimacs.specs.Convert.{converted_values, to_encoded};
 ghost use Rattle.dimacs.specs.InnerPiece.{piece_of};
@@ -14,7 +13,7 @@ use crate::opening::{Numbers, read_opening};
 use crate::piece::Piece;
 use crate::scan::{Lines, Token, Words, read_token};
 use arrayvec::ArrayVec;
-use formula::{Clause, Refusal};
+use formula::{Clause, Kind, Refusal};
 use limits::{MAX_CLAUSES, MAX_VARIABLES};
 
 // The bytes of a clause that names every variable once.
@@ -42,7 +41,7 @@ impl Reader {
         ensures { Keeps variables progress_start result }
     {
         let mut kept = ArrayVec::new();
-        kept.push(1);
+        kept.push(u8::from(Kind::VariableCount));
         kept.push(variables as u8);
         Reader {
             variables,
@@ -57,7 +56,7 @@ impl Reader {
         requires { (1 ≤ k) × (k ≤ max_variables) × (length self.old.kept.items + 2 ≤ kept_room) }
         ensures { self.new ≡ with_record self.old sign k }
     {
-        self.kept.push(kind_of(sign));
+        self.kept.push(u8::from(Kind::Literal(sign)));
         self.kept.push(k as u8);
         self.current = self.current.with_literal(k - 1, sign);
     }
@@ -88,7 +87,7 @@ impl Reader {
         if MAX_CLAUSES <= self.count {
             return Err(Refusal::TooManyClauses(at));
         }
-        self.kept.push(4);
+        self.kept.push(u8::from(Kind::ClauseEnd));
         self.count += 1;
         self.current = Clause::empty();
         Ok(())
@@ -100,9 +99,9 @@ impl Reader {
         ensures { Takes (λ n s. take_word n (piece_of word.entry) s) self.old self.new result }
     {
         match read_token(word.bytes) {
-            Token::Ends => self.take_end(word.at),
-            Token::Literal(sign, k) => self.take_literal(word.at, sign, k),
-            Token::Bad => Err(Refusal::BadWord(word.at)),
+            Some(Token::Ends) => self.take_end(word.at),
+            Some(Token::Literal(sign, k)) => self.take_literal(word.at, sign, k),
+            None => Err(Refusal::BadWord(word.at)),
         }
     }
 
@@ -139,16 +138,9 @@ impl Reader {
         if self.count != p.clauses {
             return Err(Refusal::ClauseCountDiffers(p.fourth));
         }
-        self.kept.push(5);
+        self.kept.push(u8::from(Kind::FormulaEnd));
         Ok(())
     }
-}
-
-// The kind of a literal's record.
-fn kind_of(sign: bool) -> u8
-    ensures { result ≡ literal_kind sign }
-{
-    if sign { 2 } else { 3 }
 }
 
 // The numbers of the p line, the first of the lines of a text of `len` bytes: it has one variable or more, at most 48.

@@ -23,12 +23,11 @@ pub struct Words<'a> {
     rest: Piece<'a>,
 }
 
-// A word after the p line: it ends a clause, or names a variable (from 1) as true or as false, or neither.
+// A word after the p line: it ends a clause, or names a variable (from 1) as true or as false.
 #[derive(Clone, Copy)]
 pub enum Token {
     Ends,
     Literal(bool, usize),
-    Bad,
 }
 
 impl<'a> Lines<'a> {
@@ -123,18 +122,17 @@ pub fn number(word: &[u8]) -> Option<usize>
 }
 
 // A word after the p line: digits, of which zero ends a clause, or a minus before digits that are not zero.
-pub fn read_token(word: &[u8]) -> Token
+pub fn read_token(word: &[u8]) -> Option<Token>
     ensures { result ≡ token_held (token word.now) }
 {
     if let [b'-', digits @ ..] = word {
-        return match number(digits) {
-            None | Some(0) => Token::Bad,
-            Some(k) => Token::Literal(false, k),
+        return match number(digits)? {
+            0 => None,
+            k => Some(Token::Literal(false, k)),
         };
     }
-    match number(word) {
-        None => Token::Bad,
-        Some(0) => Token::Ends,
-        Some(k) => Token::Literal(true, k),
+    match number(word)? {
+        0 => Some(Token::Ends),
+        k => Some(Token::Literal(true, k)),
     }
 }

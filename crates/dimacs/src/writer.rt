@@ -10,7 +10,7 @@ ghost use Rattle.dimacs.specs.Written.{opening_line, text_of};
 ghost use Rattle.dimacs.specs.Convert.{converted_values, to_text};
 ghost use Rattle.dimacs.specs.InnerWriter.{sign_bytes, literal_text, literal_once, ClauseAt, ClausesAt, AfterClause, Lined, Readable};
 
-use formula::Refusal;
+use formula::{Kind, Refusal};
 use limits::{MAX_CLAUSES, MAX_VARIABLES};
 use writing::Writer;
 
@@ -57,8 +57,8 @@ fn put_clause(w: &mut Writer, input: &[u8], from: usize) -> usize
 {
     let mut seen = 0;
     let mut i = from;
-    while input[i] != 4 {
-        seen = put_once(w, input[i] == 2, input[i + 1], seen);
+    while let Some(Kind::Literal(sign)) = Kind::of(input[i]) {
+        seen = put_once(w, sign, input[i + 1], seen);
         i += 2;
     }
     w.put_word(b"0\n");

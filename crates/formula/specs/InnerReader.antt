@@ -8,6 +8,7 @@ use Rattle.formula.specs.declared.Kind.TheVariants as codes
 use Rattle.formula.specs.declared.Reader.{Reader}
 use Rattle.formula.specs.declared.Refusal.{Refusal}
 use Rattle.formula.specs.declared.Refusal.TheVariants.{Truncated, UnknownKind, Misplaced, BadVariableCount, NoSuchVariable, ComplementaryLiteral, TooManyClauses, TrailingByte}
+use Rattle.formula.specs.Format.{literal_kind}
 use Rattle.formula.specs.InnerDecode.{Kind, variable_count, literal, clause_end, formula_end, unknown, kind_of, one_to, Reading, records, decode}
 use Rattle.formula.specs.InnerMasked.{no_clause, with_literal, clause_of}
 use Rattle.formula.specs.InnerFits.{clause_variables, side}
@@ -19,6 +20,13 @@ kind_held (literal sign) = Some (codes.Literal sign)
 kind_held clause_end = Some codes.ClauseEnd
 kind_held formula_end = Some codes.FormulaEnd
 kind_held unknown = None
+
+-- and its byte
+abbrev pub kind_byte : code.Kind → ℕ
+kind_byte codes.VariableCount = 1
+kind_byte (codes.Literal sign) = literal_kind sign
+kind_byte codes.ClauseEnd = 4
+kind_byte codes.FormulaEnd = 5
 
 -- kind 1
 abbrev pub count_event : List ℕ → Reader → Result (Option Reader) Refusal

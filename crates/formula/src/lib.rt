@@ -9,7 +9,7 @@ ghost use Rattle.formula.specs.InnerMasked.{no_clause, with_literal, decoded};
 ghost use Rattle.formula.specs.InnerFits.{side, clause_variables};
 ghost use Rattle.formula.specs.InnerDecode.{kind_of};
 ghost use Rattle.formula.specs.Refusals.{table_row};
-ghost use Rattle.formula.specs.InnerReader.{kind_held, count_event, variable_event, literal_event, end_event, finish_event, past_literal, record_event, PassesLiterals};
+ghost use Rattle.formula.specs.InnerReader.{kind_held, kind_byte, count_event, variable_event, literal_event, end_event, finish_event, past_literal, record_event, PassesLiterals};
 
 mod assignment;
 
@@ -55,8 +55,8 @@ pub enum Refusal {
 }
 
 // S2.2: what a record is, by its first byte; a literal by its sign.
-#[derive(Clone, Copy)]
-enum Kind {
+#[derive(Clone, Copy, PartialEq, Eq)]
+pub enum Kind {
     VariableCount,
     Literal(bool),
     ClauseEnd,
@@ -65,7 +65,7 @@ enum Kind {
 
 impl Kind {
     // The kind of a byte, if it is one.
-    fn of(byte: u8) -> Option<Self>
+    pub fn of(byte: u8) -> Option<Self>
         ensures { result ≡ kind_held (kind_of byte) }
     {
         match byte {
@@ -75,6 +75,21 @@ impl Kind {
             4 => Some(Kind::ClauseEnd),
             5 => Some(Kind::FormulaEnd),
             _ => None,
+        }
+    }
+}
+
+// The byte of a kind.
+impl From<Kind> for u8 {
+    ghost from_gives = { λ kind byte. byte ≡ kind_byte kind };
+
+    fn from(kind: Kind) -> u8 {
+        match kind {
+            Kind::VariableCount => 1,
+            Kind::Literal(true) => 2,
+            Kind::Literal(false) => 3,
+            Kind::ClauseEnd => 4,
+            Kind::FormulaEnd => 5,
         }
     }
 }

@@ -8,9 +8,9 @@ use Rattle.formula.specs.Format.{Literal, clause_bytes, WrittenOver}
 use Rattle.dimacs.proofs.LineLaws.{Lining}
 use Rattle.dimacs.proofs.writer.put_clause.Given as goal
 
-abbrev pub invariant-loop-i : goal.invariant-loop-i
-invariant-loop-i l = (v : List Literal) (rest : List ℕ) → drop l.from l.input ≡ clause_bytes v ++ rest → WrittenOver max_variables v
+abbrev pub invariant-loop-sign : goal.invariant-loop-sign
+invariant-loop-sign l = (v : List Literal) (rest : List ℕ) → drop l.from l.input ≡ clause_bytes v ++ rest → WrittenOver max_variables v
     → Lining l.input rest v l.initial.w l.w l.seen l.i
 
-abbrev pub decreases-loop-i : goal.decreases-loop-i
-decreases-loop-i l = length l.input - l.i
+abbrev pub decreases-loop-sign : goal.decreases-loop-sign
+decreases-loop-sign l = length l.input - l.i

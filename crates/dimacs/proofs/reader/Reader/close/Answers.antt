@@ -24,4 +24,4 @@ push-requires c = (search rules, end_room c.requires.keeps)
 pub returns : goal.returns
 returns c =
     let t = (goal.at.returns c).After-variables in
-    λ n s c' d k e. rw c.push.ensures.items (close_done k c.args.len d (none t c.if-variables-ne0.false) c' c.args.p e c.if-self-p.false)
+    λ n s c' d k e. rw (c.push.ensures.items, c.from.ensures) (close_done k c.args.len d (none t c.if-variables-ne0.false) c' c.args.p e c.if-self-p.false)

@@ -8,4 +8,4 @@ pub push-requires : goal.push-requires
 push-requires c = (search rules, end_room c.requires.keeps)
 
 pub returns : goal.returns
-returns c = λ n s k. rw c.push.ensures.items (end_kept k c.args.at _ (omega arith) c.empty-self.ensures)
+returns c = λ n s k. rw (c.push.ensures.items, c.from.ensures) (end_kept k c.args.at _ (omega arith) c.empty-self.ensures)
