@@ -2,7 +2,7 @@
 #![tactic(auto)]
 
 ghost use Rattle.std.specs.Prelude.{◌≡◌, ◌+◌, ◌<◌, ◌≤◌, ◌^◌, length, not};
-ghost use Rattle.limits.specs.Limits.{max_variables, max_clauses};
+ghost use Rattle.limits.specs.Limits.{max_variables};
 ghost use Rattle.formula.specs.Check.{verdict_values, checked};
 ghost use Rattle.formula.specs.InnerCheck.{clause_holds, clauses_hold};
 ghost use Rattle.formula.specs.InnerMasked.{no_clause, with_literal, decoded};

@@ -3,7 +3,7 @@ ghost use Rattle.std.specs.Prelude.{◌≡◌, true, ℕ, ◌+◌, ◌<◌, ◌�
 ghost use Rattle.limits.specs.Limits.{max_clauses};
 ghost use Rattle.lists.specs.Over.{over};
 ghost use Rattle.masks.specs.Mask.{bit};
-ghost use Rattle.formula.specs.InnerAssignment.{unassigned, set_to, left_under};
+ghost use Rattle.formula.specs.InnerAssignment.{unassigned, left_under};
 ghost use Rattle.formula.specs.InnerFits.{clause_variables};
 ghost use Rattle.splitting.specs.InnerWords.{Words};
 
