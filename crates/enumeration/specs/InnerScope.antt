@@ -1,5 +1,5 @@
 -- What a walk assigns, as the code holds it.
-use Rattle.std.specs.Prelude.{ℕ, map, take}
+use Rattle.std.specs.Prelude.{ℕ, map}
 use Rattle.std.specs.Int.Bits.{bit_or}
 use Rattle.masks.specs.Mask.{minus, size}
 use Rattle.formula.specs.declared.assignment.Assignment.{Assignment}
