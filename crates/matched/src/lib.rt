@@ -32,7 +32,7 @@ use splitting::Stripping;
 
 // An accepted input: its formula, what is assumed, and a byte for each clause: 0 if an assumption satisfies it, else its variable,
 // from 1, or, if stripping dropped it, 128 plus the variable that dropped it.
-#[derive(Drop)]
+#[derive(Clone, Drop)]
 pub struct Accepted {
     pub formula: Formula,
     pub assignment: Assignment,
@@ -41,7 +41,7 @@ pub struct Accepted {
 
 // A refused input: the refusal and, where what stripping leaves can't be matched, a byte for each clause: 1 if it is marked, else 0.
 // Beside another refusal are no bytes.
-#[derive(Drop)]
+#[derive(Clone, Drop)]
 pub struct Declined {
     pub refusal: Refusal,
     pub row: ArrayVec<u8, MAX_CLAUSES>,
