@@ -24,7 +24,9 @@ pub struct Assumption {
 pub fn stated(input: &[u8]) -> usize
     ensures { result ≡ stated_in input.now }
 {
-    input.get(1).map_or(0, |n| usize::from(*n).min(MAX_VARIABLES))
+    input
+        .get(1)
+        .map_or(0, |n| usize::from(*n).min(MAX_VARIABLES))
 }
 
 // The variable s, from 1, can't be assumed: it is 0, above n, or assumed before, with whichever value.
