@@ -7,8 +7,9 @@
 // of its input, of its assumptions and of the bytes that it expects (2 bytes each), these three, the expected answer and the act's own
 // fields. An assumption is two bytes: the variable, and 1 for true or 0 for false. Where there are just two, the act is called on a lent list
 // of them, else on the masks that are read from the bytes. An answer is what it says (1 byte: 0 no, 1 yes, 2 refused, 3 accepted, 4 model,
-// 5 spent, 6 ended, 10 written, 11 filled, 12 counted), the refusal's number (1 byte) and its place (2 bytes), and the numbers of variables
-// and of clauses (1 byte each): those of an accepted formula, or those that are counted. The own fields:
+// 5 spent, 6 ended, 7 not compared, 8 models, 9 other models, 10 written, 11 filled, 12 counted), the refusal's number (1 byte) and its
+// place (2 bytes), and the numbers of variables and of clauses (1 byte each): those of an accepted formula, or those that are counted. The
+// own fields:
 // - check: the assignment (8 bytes).
 // - judge: the length of the lent buffer (1 byte), the fill (1 byte) and the first 96 bytes after the call. The buffer is the first
 //   bytes of an array of 256, which has the fill everywhere before the call and from byte 96 on after it.
