@@ -4,7 +4,7 @@ ghost use Rattle.enumeration.specs.Values.{checkpoint_values, call_values};
 ghost use Rattle.walk.specs.WalkCall.{walk_call};
 ghost use Rattle.vectors.specs.Corpus.{parts_of};
 ghost use Rattle.cases.specs.Assuming.{assumptions_of};
-ghost use Rattle.cases.specs.Walking.{walk_written, expected_call, stored_checkpoint_size, checkpoint_in, checkpoint_bytes, origin, Tells, checkpoint_wrong, walk_alike, start_agrees, walk_agrees, walk_leaves, Leaves};
+ghost use Rattle.cases.specs.Walking.{expected_call, stored_checkpoint_size, checkpoint_in, checkpoint_bytes, origin, Tells, checkpoint_wrong, walk_alike, start_agrees, walk_agrees, walk_leaves, Leaves};
 
 use crate::assuming::{assumed, just_two};
 use enumeration::{Checkpoint, Walked};
