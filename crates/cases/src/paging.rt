@@ -8,7 +8,7 @@ ghost use Rattle.cases.specs.Paging.{page_written, written_size, page_byte, page
 ghost use Rattle.cases.specs.Walking.{Leaves};
 
 use crate::assuming::{assumed, just_two};
-use crate::walking::{CHECKPOINT_SIZE, checkpoint_wrong, origin, report_checkpoint};
+use crate::walking::{CHECKPOINT_SIZE, checkpoint_wrong, origin, report_byte, report_checkpoint};
 use enumeration::Checkpoint;
 use formula::Refusal;
 use page::{LINE_SIZE, PAGE_SIZE, Paged};
@@ -109,8 +109,6 @@ pub fn page_vector(rt: &impl Print, v: &Vector<'_>, last: &mut Checkpoint) -> io
     }
     report::difference(rt, v.number, expected, got)?;
     report_checkpoint(rt, stored, returned, other)?;
-    if let Some(byte) = page.get(wrong) {
-        report::wrong_byte(rt, wrong, wanted(wrong), *byte)?;
-    }
+    report_byte(rt, page, wrong, wanted)?;
     Ok(false)
 }

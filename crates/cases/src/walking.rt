@@ -148,6 +148,21 @@ pub fn checkpoint_wrong(expected: &[u8], c: Checkpoint) -> usize
     first_wrong(&checkpoint_bytes(c), |i| wanted_byte(expected, 0, i))
 }
 
+// The byte at the first wrong place, if one is wrong.
+pub fn report_byte<F: Fn(usize) -> u8>(
+    rt: &impl Print,
+    got: &[u8],
+    at: usize,
+    wanted: F,
+) -> io::Result<()>
+    requires { F.IsAlwaysCallable wanted }
+{
+    if let Some(byte) = got.get(at) {
+        report::wrong_byte(rt, at, wanted(at), *byte)?;
+    }
+    Ok(())
+}
+
 // The first wrong byte of a checkpoint, if one is wrong.
 pub fn report_checkpoint(
     rt: &impl Print,
@@ -155,10 +170,12 @@ pub fn report_checkpoint(
     c: Checkpoint,
     wrong: usize,
 ) -> io::Result<()> {
-    if let Some(byte) = checkpoint_bytes(c).get(wrong) {
-        report::wrong_byte(rt, wrong, wanted_byte(expected, 0, wrong), *byte)?;
-    }
-    Ok(())
+    report_byte(
+        rt,
+        &checkpoint_bytes(c),
+        wrong,
+        |i| wanted_byte(expected, 0, i),
+    )
 }
 
 pub fn report_call(rt: &impl Print, vector: u64, wanted: Told, got: Told) -> io::Result<()> {
