@@ -33,11 +33,10 @@ PROOFS = ROOT / 'docs' / 'PROOFS.md'
 STATEMENTS = ('Demands', 'Theorems', 'ListTheorems', 'AssumedCases', 'MarkedCases', 'StrippedCases', 'TextCases')
 APART = ('exhaustive', 'vectors')  # for tests: no statement rests on them
 OURS = (  # ask nothing, and are for our own crates all the same
-    'assumptions::stated', 'enumeration::Checkpoint::is_well_formed', 'enumeration::Task::new', 'enumeration::Task::root',
-    'enumeration::Task::visible', 'formula::Assignment::none', 'formula::Assignment::satisfies', 'formula::Assignment::variables',
-    'formula::Clause::empty', 'formula::Clause::other_side', 'formula::Clause::variables', 'formula::all_hold', 'formula::decode',
-    'masks::lowest', 'masks::meets', 'masks::minus', 'masks::size', 'matched::named', 'splitting::all_satisfied', 'splitting::choose_free',
-    'writing::Writer::behind', 'writing::Writer::new',
+    'assumptions::stated', 'enumeration::Task::new', 'enumeration::Task::root', 'enumeration::Task::visible', 'formula::Assignment::none',
+    'formula::Assignment::satisfies', 'formula::Assignment::variables', 'formula::Clause::empty', 'formula::Clause::other_side',
+    'formula::Clause::variables', 'formula::Kind::of', 'formula::all_hold', 'formula::decode', 'masks::lowest', 'masks::meets', 'masks::minus',
+    'masks::size', 'matched::named', 'splitting::all_satisfied', 'splitting::choose_free', 'writing::Writer::behind', 'writing::Writer::new',
 )
 
 USE = re.compile(r'Rattle\.(\w+)\.(specs|proofs)\.([\w.-]+?)(?:\.\{(.*)\}|\s+as\s+(\S+?))?;?$')
