@@ -1,14 +1,16 @@
 -- S19.1: every line of a page has 60 bytes, and is the part that was lent for it.
-use Prim.Native.Nat.{ℕ, ◌+◌, ◌-◌, ◌≤◌, ◌<◌}
-use mathlib.Core.List.{List, [], ◌∷◌}
-use mathlib.Core.Path.{◌≡◌, ◌∙◌}
+use Prim.Native.Nat.{ℕ, ◌+◌, ◌*◌, ◌-◌, ◌≤◌, ◌<◌}
+use mathlib.Core.List.{List, [], ◌∷◌, ◌++◌}
+use mathlib.Core.Path.{◌≡◌, ap, ◌∙◌}
 use native.Mathlib.Omega.{arith}
-use lib.ListN.{length, get_or, length-append, get_or-append}
+use lib.ListN.{length, get_or, take, drop, length-append, get_or-append}
 use Rattle.limits.specs.Limits.{max_variables}
 use Rattle.lists.proofs.TabulatedLaws.{length_tabulated}
+use Rattle.writing.specs.Placed.{placed}
 use Rattle.writing.specs.Text.{line_feed, decimal, column, columns, line_of, blanks, right}
 use Rattle.writing.proofs.BlankLaws.{blanks-length, right-length}
 use Rattle.writing.proofs.DecimalLaws.{decimal-length}
+use Rattle.writing.proofs.PlacedLaws.{placed_part}
 use Rattle.page.specs.PageLines.{line_size, serial_width, steps_width, page_columns, page_line, blank_line}
 
 -- the words of a line are as wide as their columns
@@ -46,3 +48,11 @@ page_line-length serial n mask a steps hs hn ht =
 pub blank-length : length blank_line ≡ line_size
 unfolding blank_line
 blank-length = length-append (blanks (line_size - 1)) (line_feed ∷ []) ∙ (let b = blanks-length (line_size - 1) in omega arith)
+
+-- the part of a page that is lent for line i, and comes back as t
+pub line_lent : (i : ℕ) (page t line : List ℕ) → t ≡ line → length line ≡ line_size
+    → (let from = line_size * i in take from page ++ (t ++ drop (from + line_size - from) (drop from page)) ≡ placed from line page)
+line_lent i page t line e l =
+    let from = line_size * i in
+    let k : length t ≡ from + line_size - from = ap length e ∙ l ∙ omega arith in
+    placed_part from (from + line_size - from) t page k ∙ ap (λ (x : List ℕ). placed from x page) e

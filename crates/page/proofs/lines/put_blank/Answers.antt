@@ -1,16 +1,6 @@
--- `put_blank` writes its line: blanks, and a line feed behind them.
-use native.Mathlib.Omega.{arith}
-use Prim.Native.Nat.{◌-◌}
-use Rattle.writing.proofs.BlankLaws.{blanks-length}
-use Rattle.writing.proofs.PlacedLaws.{puts_more, lent_puts}
-use Rattle.page.specs.PageLines.{line_size, blank_line}
+-- `put_blank` writes a line: the part that is lent comes back as a blank one.
+use Rattle.page.proofs.LineLaws.{blank-length, line_lent}
 use Rattle.page.proofs.lines.put_blank.Goals as goal
 
-pub put_byte-requires : goal.put_byte-requires
-put_byte-requires c = omega (arith, blanks-length (line_size - 1))
-
 pub returns : goal.returns
-unfolding blank_line
-returns c =
-    let h = lent_puts c.at_line-w.ensures (puts_more c.put_blanks.ensures c.put_byte.ensures) in
-    grind arith
+returns c = line_lent c.args.i c.args.page.now c.write_blank.new.line _ c.write_blank.ensures blank-length

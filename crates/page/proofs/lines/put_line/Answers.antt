@@ -1,46 +1,8 @@
--- `put_line` writes its line: one word behind the other.
-use native.Mathlib.Omega.{arith}
-use Prim.Native.Nat.{◌-◌}
-use Rattle.limits.specs.Limits.{max_variables}
-use Rattle.lists.proofs.TabulatedLaws.{length_tabulated}
-use Rattle.writing.specs.Text.{column}
-use Rattle.writing.proofs.BlankLaws.{blanks-length}
-use Rattle.writing.proofs.DecimalLaws.{decimal-length}
-use Rattle.writing.proofs.PlacedLaws.{puts_more, lent_puts}
-use Rattle.page.specs.PageLines.{page_line}
-use Rattle.page.proofs.LineLaws.{serial_length, steps_length}
+-- `put_line` writes a line: the part that is lent comes back as it.
+use Rattle.page.proofs.LineLaws.{page_line-length, line_lent}
 use Rattle.page.proofs.lines.put_line.Goals as goal
 
-pub put_right-requires-clause-size : goal.put_right-requires-clause-size
-put_right-requires-clause-size c = decimal-length 5 c.args.serial c.requires.2
-
-pub put_byte-requires : goal.put_byte-requires
-put_byte-requires c = omega (arith, serial_length c.args.serial c.requires.2)
-
-pub put_columns-requires-clause-room : goal.put_columns-requires-clause-room
-put_columns-requires-clause-room c = omega (arith, serial_length c.args.serial c.requires.2)
-
-pub put_blanks-requires : goal.put_blanks-requires
-put_blanks-requires c = omega (arith, serial_length c.args.serial c.requires.2, length_tabulated (column c.args.mask c.args.a) c.args.n)
-
-pub put_byte-requires-2 : goal.put_byte-requires-2
-put_byte-requires-2 c =
-    omega (arith, serial_length c.args.serial c.requires.2, length_tabulated (column c.args.mask c.args.a) c.args.n, blanks-length (max_variables - c.args.n))
-
-pub put_right-requires-2-clause-size : goal.put_right-requires-2-clause-size
-put_right-requires-2-clause-size c = decimal-length 2 c.args.steps c.requires.4
-
-pub put_right-requires-2-clause-room : goal.put_right-requires-2-clause-room
-put_right-requires-2-clause-room c =
-    omega (arith, serial_length c.args.serial c.requires.2, length_tabulated (column c.args.mask c.args.a) c.args.n, blanks-length (max_variables - c.args.n))
-
-pub put_byte-requires-3 : goal.put_byte-requires-3
-put_byte-requires-3 c =
-    omega (arith, serial_length c.args.serial c.requires.2, length_tabulated (column c.args.mask c.args.a) c.args.n, blanks-length (max_variables - c.args.n), steps_length c.args.steps c.requires.4)
-
 pub returns : goal.returns
-unfolding page_line
 returns c =
-    let columns = puts_more c.put_columns.ensures c.put_blanks.ensures in
-    let h = lent_puts c.at_line-w.ensures (puts_more c.put_right.ensures (puts_more c.put_byte.ensures (puts_more columns (puts_more c.put_byte-2.ensures (puts_more c.put_right-2.ensures c.put_byte-3.ensures))))) in
-    grind arith
+    line_lent c.args.i c.args.page.now c.write_line.new.line _ c.write_line.ensures
+    (page_line-length c.args.serial c.args.n c.args.mask c.args.a c.args.steps c.requires.2 c.requires.3 c.requires.4)
