@@ -13,7 +13,7 @@ pub struct Scope {
 }
 
 // What a walk goes over.
-#[derive(Clone, Drop)]
+#[derive(Clone, Copy)]
 pub struct Task {
     pub formula: Formula,
     pub scope: Scope,

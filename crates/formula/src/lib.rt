@@ -12,9 +12,12 @@ ghost use Rattle.formula.specs.Refusals.{table_row};
 ghost use Rattle.formula.specs.InnerReader.{kind_held, kind_byte, count_event, variable_event, literal_event, end_event, finish_event, past_literal, record_event, PassesLiterals};
 
 mod assignment;
+mod byte_list;
+mod clause_list;
 
-use arrayvec::ArrayVec;
 pub use assignment::Assignment;
+pub use byte_list::ByteList;
+pub use clause_list::ClauseList;
 use limits::{MAX_CLAUSES, MAX_VARIABLES};
 
 // A clause (request: rule): the variables that it names as true (request: on) and those that it names as false.
@@ -25,10 +28,10 @@ pub struct Clause {
 }
 
 // A formula (request: sheet): its number of variables, and its clauses in order.
-#[derive(Clone, Drop)]
+#[derive(Clone, Copy)]
 pub struct Formula {
     pub variables: usize,
-    pub clauses: ArrayVec<Clause, MAX_CLAUSES>,
+    pub clauses: ClauseList,
 }
 
 // S3.1: the refusals, in the order of their numbers; each holds its place.
@@ -357,7 +360,7 @@ fn read_literals(input: &[u8], r: Reader) -> Reader
 pub fn decode(input: &[u8]) -> Result<Formula, Refusal>
     ensures { result ≡ decoded input.now }
 {
-    let mut clauses = ArrayVec::new();
+    let mut clauses = ClauseList::new();
     let mut reader = Reader {
         variables: 0,
         at: 0,

@@ -24,27 +24,26 @@ ghost use Rattle.matched.specs.InnerSpread.{bytes_at, NotesFit, first_noted, tol
 ghost use Rattle.matched.specs.Judge.{judgement_values, judge};
 ghost use Rattle.matched.specs.Weigh.{weighed_values, weighed};
 
-use arrayvec::ArrayVec;
 use assumptions::Assumption;
-use formula::{Assignment, Clause, Formula, Refusal};
+use formula::{Assignment, ByteList, Clause, Formula, Refusal};
 use limits::MAX_CLAUSES;
 use splitting::Stripping;
 
 // An accepted input: its formula, what is assumed, and a byte for each clause: 0 if an assumption satisfies it, else its variable,
 // from 1, or, if stripping dropped it, 128 plus the variable that dropped it.
-#[derive(Clone, Drop)]
+#[derive(Clone, Copy)]
 pub struct Accepted {
     pub formula: Formula,
     pub assignment: Assignment,
-    pub row: ArrayVec<u8, MAX_CLAUSES>,
+    pub row: ByteList<MAX_CLAUSES>,
 }
 
 // A refused input: the refusal and, where what stripping leaves can't be matched, a byte for each clause: 1 if it is marked, else 0.
 // Beside another refusal are no bytes.
-#[derive(Clone, Drop)]
+#[derive(Clone, Copy)]
 pub struct Declined {
     pub refusal: Refusal,
-    pub row: ArrayVec<u8, MAX_CLAUSES>,
+    pub row: ByteList<MAX_CLAUSES>,
 }
 
 // How large a formula is: the numbers of its variables and of its clauses.
@@ -68,7 +67,7 @@ impl From<Refusal> for Declined {
     fn from(refusal: Refusal) -> Declined {
         Declined {
             refusal,
-            row: ArrayVec::new(),
+            row: ByteList::new(),
         }
     }
 }
@@ -83,16 +82,11 @@ impl From<Declined> for Refusal {
 }
 
 // A byte for each clause: 0 if the assignment satisfies it, and for the others, in order, what the answers have, raised by k.
-fn spread(
-    f: &Formula,
-    a: Assignment,
-    answers: &[u8; MAX_CLAUSES],
-    k: u8,
-) -> ArrayVec<u8, MAX_CLAUSES>
+fn spread(f: &Formula, a: Assignment, answers: &[u8; MAX_CLAUSES], k: u8) -> ByteList<MAX_CLAUSES>
     requires { (i : ℕ) → i < max_clauses → get_or answers.now i 0 + k < 256 }
     ensures { result.items ≡ bytes_at f.now.clauses.items a answers.now k (length f.now.clauses.items) }
 {
-    let mut row = ArrayVec::new();
+    let mut row = ByteList::new();
     let mut next: usize = 0;
     for c in f.clauses.iter() {
         if a.satisfies(*c) {
@@ -130,11 +124,11 @@ fn tell(a: Assignment, s: &Stripping, c: Clause, byte: u8) -> u8
 }
 
 // The bytes of the clauses that stripping dropped, and those of the others as they are.
-fn tell_dropped(f: &Formula, a: Assignment, s: &Stripping, row: &[u8]) -> ArrayVec<u8, MAX_CLAUSES>
+fn tell_dropped(f: &Formula, a: Assignment, s: &Stripping, row: &[u8]) -> ByteList<MAX_CLAUSES>
     requires { (length f.now.clauses.items ≤ length row.now) × NotesFit s.now }
     ensures { result.items ≡ told_bytes f.now.clauses.items a s.now row.now (length f.now.clauses.items) }
 {
-    let mut told = ArrayVec::new();
+    let mut told = ByteList::new();
     for (c, byte) in f.clauses.iter().zip(row) {
         told.push(tell(a, s, *c, *byte));
     }
@@ -142,7 +136,7 @@ fn tell_dropped(f: &Formula, a: Assignment, s: &Stripping, row: &[u8]) -> ArrayV
 }
 
 // S18.1: what comes of a formula of which what remains is not matched: what stripping leaves of it is matched.
-fn strip_row(f: &Formula, a: Assignment) -> Result<ArrayVec<u8, MAX_CLAUSES>, Declined>
+fn strip_row(f: &Formula, a: Assignment) -> Result<ByteList<MAX_CLAUSES>, Declined>
     requires { FormulaFits f.now }
     ensures { (n : ℕ) (t : List Literal) (cs : List (List Literal)) → Sized n cs → ClauseOver n t → f.now ≡ formula_of n cs → a ≡ assignment_of t
         → result ≡ held_row (by_stripped n t cs (stripped n (remaining t cs))) }
@@ -161,7 +155,7 @@ fn strip_row(f: &Formula, a: Assignment) -> Result<ArrayVec<u8, MAX_CLAUSES>, De
 }
 
 // What comes of a formula that was read, under assumptions of which none is bad: what remains is matched whole, or stripped.
-fn match_row(f: &Formula, a: Assignment) -> Result<ArrayVec<u8, MAX_CLAUSES>, Declined>
+fn match_row(f: &Formula, a: Assignment) -> Result<ByteList<MAX_CLAUSES>, Declined>
     requires { FormulaFits f.now }
     ensures { (n : ℕ) (t : List Literal) (cs : List (List Literal)) → Sized n cs → ClauseOver n t → f.now ≡ formula_of n cs → a ≡ assignment_of t
         → result ≡ held_row (formula_acceptance n t cs) }

@@ -14,9 +14,8 @@ ghost use Rattle.splitting.specs.InnerChoose.{node, survey_of, matching_at, Smal
 mod clauses;
 mod counts;
 
-use arrayvec::ArrayVec;
 use clauses::{Clauses, Survey};
-use formula::{Assignment, Formula};
+use formula::{Assignment, ByteList, Formula};
 use limits::MAX_VARIABLES;
 use matching::Matching;
 
@@ -30,10 +29,10 @@ pub struct Choice {
 }
 
 // Stripping at a node: the assignment with the noted variables, each the way that it is named, and these in order.
-#[derive(Clone, Drop)]
+#[derive(Clone, Copy)]
 pub struct Stripping {
     pub assignment: Assignment,
-    pub order: ArrayVec<u8, MAX_VARIABLES>,
+    pub order: ByteList<MAX_VARIABLES>,
 }
 
 impl Choice {
@@ -87,7 +86,7 @@ pub fn strip(f: &Formula, a: Assignment) -> Stripping
 {
     let mut s = Stripping {
         assignment: a,
-        order: ArrayVec::new(),
+        order: ByteList::new(),
     };
     for _ in 0..f.variables {
         let names = survey_open(f, s.assignment);

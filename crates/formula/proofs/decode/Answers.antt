@@ -1,6 +1,5 @@
 -- `formula::decode` meets its contract. The loop keeps `Reads`: what is left to read gives what the whole gives.
 use mathlib.Core.Path.{sym, ap, ◌∙◌}
-use borrow.Author.Rules.{rules}
 use Rattle.std.specs.Prelude.{Ok}
 use Rattle.std.proofs.lemmas.Result.{err_from_is_err_and}
 use Rattle.formula.specs.InnerMasked.{held, decoded}
@@ -27,7 +26,7 @@ read_literals-reader-requires c =
     (t.inside, t.small)
 
 pub push-requires : goal.push-requires
-push-requires c = (search rules, ((turn (goal.at.push-requires c).In-Some).stored c.if-reader-after.true).0)
+push-requires c = ((turn (goal.at.push-requires c).In-Some).stored c.if-reader-after.true).0
 
 pub loop-after-preserved : goal.loop-after-preserved
 loop-after-preserved c =
