@@ -83,9 +83,11 @@ impl<'a> Writer<'a> {
         requires { RoomIn (decimal x) self.old }
         ensures { Puts (decimal x) self.old self.new }
     {
-        if 9 < x {
-            self.put_decimal(x / 10);
+        if x < 10 {
+            self.put_byte(b'0' + x as u8);
+            return;
         }
+        self.put_decimal(x / 10);
         self.put_byte(b'0' + (x % 10) as u8);
     }
 
