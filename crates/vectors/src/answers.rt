@@ -51,7 +51,7 @@ impl Says {
     }
 }
 
-// By the numbers, whether known or not.
+// By their numbers, so that two unknown ones are told apart.
 impl PartialEq for Says {
     ghost eq = { λ a b. eqb (byte_of a) (byte_of b) };
 

@@ -19,7 +19,7 @@ told g c =
     let L = lists v (checkpoint_values c.args.last.now) _ _ _ _ _ _ _ _
     (rw (from_on c.args.v.now.fields.now 72) at c.origin-from.ensures) c.from-room.ensures c.from-fill.ensures (omega (arith, c.from-room.ensures))
     c.list-listed.ensures c.count_of-count.ensures (c.last_call.ensures _) c.new-got.ensures in
-    list_compared v (checkpoint_values c.args.last.now) _ _ _ _ _ _ _ _ _ L c.expected-expected.ensures.answer c.checkpoint_wrong-wrong.ensures
+    list_compared v (checkpoint_values c.args.last.now) _ _ _ _ _ _ _ _ _ L c.expected-expected.ensures c.checkpoint_wrong-wrong.ensures
     (c.first_wrong-other.ensures.place (wanted_model v.expected c.from-fill.result) (λ i r lt p. search rules))
     c.agrees.ensures c.agree.ensures
 

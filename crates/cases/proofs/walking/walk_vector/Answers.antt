@@ -13,7 +13,7 @@ told :
     Leaves (walk_agrees (parts_of c.args.v.now) (checkpoint_values c.args.last.now)) (walk_leaves (parts_of c.args.v.now) (checkpoint_values c.args.last.now)) c.new-got.result.checkpoint c.agrees.result
 told g c =
     compared (parts_of c.args.v.now) (checkpoint_values c.args.last.now) _ _ _ _ _ _ _
-    (rw (from_on c.args.v.now.fields.now 72) at c.origin-from.ensures) c.four_bytes.ensures c.call.ensures c.new-got.ensures c.expected-expected.ensures.answer c.checkpoint_wrong-wrong.ensures c.agrees.ensures
+    (rw (from_on c.args.v.now.fields.now 72) at c.origin-from.ensures) c.four_bytes.ensures c.call.ensures c.new-got.ensures c.expected-expected.ensures c.checkpoint_wrong-wrong.ensures c.agrees.ensures
 
 pub returns-then-agrees : goal.returns-then-agrees
 returns-then-agrees g c = rw c.if-agrees.true at (told g (goal.at.returns-then-agrees g c).After-agrees)
