@@ -5,12 +5,12 @@ use Rattle.vectors.specs.declared.answers.Says.TheVariants.{No, Yes, Refused, Ac
 use Rattle.vectors.specs.declared.answers.Answer.{Answer}
 use Rattle.vectors.specs.Corpus.{two_bytes}
 
--- what a byte says: 0 no, 1 yes, and so on
+-- what a byte says: 0 no, 1 yes, and so on; any other is kept
 abbrev pub says_of : ℕ → Says
 says_of b =
-    get_or (No ∷ Yes ∷ Refused ∷ Accepted ∷ Model ∷ Spent ∷ Ended ∷ NotCompared ∷ Models ∷ OtherModels ∷ Written ∷ Filled ∷ Counted ∷ []) b Unknown
+    get_or (No ∷ Yes ∷ Refused ∷ Accepted ∷ Model ∷ Spent ∷ Ended ∷ NotCompared ∷ Models ∷ OtherModels ∷ Written ∷ Filled ∷ Counted ∷ []) b (Unknown b)
 
--- the byte of what an answer says, 13 for every byte that says nothing
+-- the number of what an answer says: the byte that says it, or the one that is kept
 abbrev pub byte_of : Says → ℕ
 byte_of No = 0
 byte_of Yes = 1
@@ -25,7 +25,7 @@ byte_of OtherModels = 9
 byte_of Written = 10
 byte_of Filled = 11
 byte_of Counted = 12
-byte_of Unknown = 13
+byte_of (Unknown n) = n
 
 -- an answer that is not accepted: what it says, and the refusal's number and place
 abbrev pub plain : Says → ℕ → ℕ → Answer

@@ -1,13 +1,15 @@
 // Answers as the corpus writes them.
-ghost use Rattle.std.specs.Prelude.{◌≤◌, ◌≡◌, length};
+ghost use Rattle.std.specs.Prelude.{◌≤◌, ◌≡◌, eqb, length, get_or};
+ghost use Rattle.std.proofs.Common.{rules};
+ghost use Rattle.std.specs.Cmp.Rules.{comparing};
 ghost use Rattle.formula.specs.Refusals.{table_row};
-ghost use Rattle.vectors.specs.Answers.{says_of, plain, refused_answer, expected};
+ghost use Rattle.vectors.specs.Answers.{says_of, byte_of, plain, refused_answer, expected};
 
 use crate::corpus::two_bytes;
 use formula::Refusal;
 
-// What an answer says, in the order of the bytes that the corpus has for it; the last one stands for every other byte, and no act says it.
-#[derive(Clone, Copy, PartialEq, Eq)]
+// What an answer says, in the order of the bytes that the corpus has for it; the last one holds any other number, and no act says it.
+#[derive(Clone, Copy)]
 pub enum Says {
     No,
     Yes,
@@ -22,7 +24,46 @@ pub enum Says {
     Written,
     Filled,
     Counted,
-    Unknown,
+    Unknown(u64),
+}
+
+impl Says {
+    // Its number: the byte that the corpus has for it, or the one that is held.
+    fn number(self) -> u64
+        ensures { result ≡ byte_of self }
+    {
+        match self {
+            Says::No => 0,
+            Says::Yes => 1,
+            Says::Refused => 2,
+            Says::Accepted => 3,
+            Says::Model => 4,
+            Says::Spent => 5,
+            Says::Ended => 6,
+            Says::NotCompared => 7,
+            Says::Models => 8,
+            Says::OtherModels => 9,
+            Says::Written => 10,
+            Says::Filled => 11,
+            Says::Counted => 12,
+            Says::Unknown(number) => number,
+        }
+    }
+}
+
+// By their numbers, so that two unknown ones are told apart.
+impl PartialEq for Says {
+    ghost eq = { λ a b. eqb (byte_of a) (byte_of b) };
+
+    ghost laws = { Prim.search (comparing, rules) };
+
+    fn eq(&self, other: &Says) -> bool {
+        self.number() == other.number()
+    }
+}
+
+impl Eq for Says {
+    ghost laws = { Prim.search (comparing, rules) };
 }
 
 // By its byte.
@@ -44,7 +85,7 @@ impl From<u8> for Says {
             10 => Says::Written,
             11 => Says::Filled,
             12 => Says::Counted,
-            _ => Says::Unknown,
+            _ => Says::Unknown(u64::from(b)),
         }
     }
 }
@@ -88,7 +129,8 @@ impl Answer {
     // The expected answer, with which a vector's fields begin.
     pub fn expected(fields: &[u8]) -> Self
         requires { 6 ≤ length fields.now }
-        ensures { result ≡ expected fields.now }
+        ensures answer { result ≡ expected fields.now }
+        ensures said { byte_of result.says ≡ get_or fields.now 0 0 }
     {
         Answer {
             says: Says::from(fields[0]),

@@ -20,7 +20,7 @@ impl fmt::Display for Says {
             Says::Written => "written",
             Says::Filled => "filled",
             Says::Counted => "counted",
-            Says::Unknown => "unknown",
+            Says::Unknown(_) => "unknown",
         };
         write!(f, "{words}")
     }
