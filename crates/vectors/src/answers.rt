@@ -1,5 +1,5 @@
 // Answers as the corpus writes them.
-ghost use Rattle.std.specs.Prelude.{◌≤◌, ◌≡◌, eqb, length, get_or};
+ghost use Rattle.std.specs.Prelude.{◌≤◌, ◌≡◌, eqb, length};
 ghost use Rattle.std.proofs.Common.{rules};
 ghost use Rattle.std.specs.Cmp.Rules.{comparing};
 ghost use Rattle.formula.specs.Refusals.{table_row};
@@ -66,9 +66,9 @@ impl Eq for Says {
     ghost laws = { Prim.search (comparing, rules) };
 }
 
-// By its byte.
+// By its byte, which is its number.
 impl From<u8> for Says {
-    ghost from_gives = { λ b says. says ≡ says_of b };
+    ghost from_gives = { λ b says. (says ≡ says_of b) × (byte_of says ≡ b) };
 
     fn from(b: u8) -> Says {
         match b {
@@ -129,8 +129,7 @@ impl Answer {
     // The expected answer, with which a vector's fields begin.
     pub fn expected(fields: &[u8]) -> Self
         requires { 6 ≤ length fields.now }
-        ensures answer { result ≡ expected fields.now }
-        ensures said { byte_of result.says ≡ get_or fields.now 0 0 }
+        ensures { result ≡ expected fields.now }
     {
         Answer {
             says: Says::from(fields[0]),

@@ -20,7 +20,7 @@ told :
 told g c =
     let v = parts_of c.args.v.now in
     let is = paging v (checkpoint_values c.args.last.now) _ _ _ _ (rw (from_on c.args.v.now.fields.now 56) at c.origin-from.ensures) c.four_bytes-serial.ensures (c.from-size.ensures ∙ c.two_bytes.ensures) c.write_page-paged.ensures in
-    compared v (checkpoint_values c.args.last.now) _ _ _ _ _ _ _ _ _ _ is c.checkpoint_of-returned.ensures c.expected-expected.ensures.answer c.written_size-written.ensures
+    compared v (checkpoint_values c.args.last.now) _ _ _ _ _ _ _ _ _ _ is c.checkpoint_of-returned.ensures c.expected-expected.ensures c.written_size-written.ensures
     c.answer_of-got.ensures c.checkpoint_wrong-other.ensures
     (c.first_wrong-wrong.ensures.place (page_byte v.expected c.written_size-written.result (get_or v.fields 113 0)) (λ i r lt p. search rules))
     c.agree.ensures
