@@ -12,8 +12,7 @@ ghost use Rattle.dimacs.specs.InnerReader.{kept_room, with_record, Keeps, Ready,
 use crate::opening::{Numbers, read_opening};
 use crate::piece::Piece;
 use crate::scan::{Lines, Token, Words, read_token};
-use arrayvec::ArrayVec;
-use formula::{Clause, Kind, Refusal};
+use formula::{ByteList, Clause, Kind, Refusal};
 use limits::{MAX_CLAUSES, MAX_VARIABLES};
 
 // The bytes of a clause that names every variable once.
@@ -31,7 +30,7 @@ struct Reader {
     variables: usize,
     count: usize,
     current: Clause,
-    kept: ArrayVec<u8, KEPT_ROOM>,
+    kept: ByteList<KEPT_ROOM>,
 }
 
 impl Reader {
@@ -40,7 +39,7 @@ impl Reader {
         requires { (1 ≤ variables) × (variables ≤ max_variables) }
         ensures { Keeps variables progress_start result }
     {
-        let mut kept = ArrayVec::new();
+        let mut kept = ByteList::new();
         kept.push(u8::from(Kind::VariableCount));
         kept.push(variables as u8);
         Reader {

@@ -357,6 +357,7 @@ fn read_literals(input: &[u8], r: Reader) -> Reader
 }
 
 // S3.2: the formula that the input encodes, or the refusal of the first check that fails.
+#[inline(always)]
 pub fn decode(input: &[u8]) -> Result<Formula, Refusal>
     ensures { result ≡ decoded input.now }
 {
