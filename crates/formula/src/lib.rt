@@ -356,7 +356,8 @@ fn read_literals(input: &[u8], r: Reader) -> Reader
     reader
 }
 
-// S3.2: the formula that the input encodes, or the refusal of the first check that fails.
+// S3.2: the formula that the input encodes, or the refusal of the first check that fails. It is inlined, so that the formula is made where
+// its caller keeps it.
 #[inline(always)]
 pub fn decode(input: &[u8]) -> Result<Formula, Refusal>
     ensures { result ≡ decoded input.now }

@@ -166,7 +166,7 @@ fn match_row(f: &Formula, a: Assignment) -> Result<ByteList<MAX_CLAUSES>, Declin
     }
 }
 
-// S5.6, S17.2, S18.1: what comes of an input, under what the assumptions assign or the refusal of a bad one.
+// S5.6, S17.2, S18.1: what comes of an input, under what the assumptions assign or the refusal of a bad one. Inlined, as `decode` is.
 #[inline(always)]
 pub fn accept(input: &[u8], u: Result<Assignment, Refusal>) -> Result<Accepted, Declined>
     requires { (us : List Assumption) × MasksOf input.now us u }
