@@ -8,7 +8,7 @@ use borrow.Author.Tests.{ltb-true, ltb-false, le-leb, lt-leb, eqb-true, eqb-fals
 use lib.Dec.{eqb, ltb}
 use lib.ListN.{length, take, drop, get_or, length-drop, drop_of_length-le}
 use lib.Seq.{length-take-le, drop-drop, drop-cons}
-use Rattle.std.specs.List.{position_or_len, starts_with}
+use Rattle.std.specs.List.{position_or_len, before_first, starts_with}
 use Rattle.std.proofs.lemmas.List.Sums.{passes_at_first, prefix_len-le-length}
 use Rattle.lists.proofs.TestLaws.{bool_clash}
 use Rattle.dimacs.specs.Text.{Piece, pieces, ends_line, parts_words, non_empty, words, comment, others}
@@ -158,3 +158,15 @@ starts_comment (x ∷ s) = rw (and-true (eqb 99 x)) (go (eqb x 99) refl)
     go : (b : Bool) → eqb x 99 ≡ b → eqb 99 x ≡ b
     go true e = let q : 99 ≡ x = sym (eqb-true x 99 e) in eq-eqb 99 x q
     go false e = ne_eqb 99 x (λ q. eqb-false x 99 e (sym q))
+
+-- and so if the rest that it is the first line of does
+pub comment_rest : (p l : Piece) → l ≡ before ends_line p → comment p.bytes ≡ comment l.bytes
+comment_rest p l e = rw e (go p.bytes)
+  where
+    go : (s : List ℕ) → comment s ≡ comment (before_first ends_line s)
+    go [] = refl
+    go (x ∷ s) = by_test (ends_line x) refl
+      where
+        by_test : (b : Bool) → ends_line x ≡ b → eqb x 99 ≡ comment (take (cond (not b) (1 + position_or_len ends_line s) 0) (x ∷ s))
+        by_test true e = ne_eqb x 99 (λ q. absurd (omega (arith, eqb-true x 10 e)))
+        by_test false e = let one : 1 + position_or_len ends_line s ≡ suc (position_or_len ends_line s) = omega arith in rw one refl

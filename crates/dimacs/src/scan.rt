@@ -47,7 +47,7 @@ impl<'a> Iterator for Lines<'a> {
 
     ghost remaining = { item_count lines_left };
 
-    // S15.1: a line ends at its line feed, or with the text. One that starts with c is a comment.
+    // S15.1: a line ends at its line feed, or with the text. It is a comment if it, and so what is left, starts with c.
     fn next(&mut self) -> Option<Piece<'a>> {
         while self.from <= self.text.len() {
             let rest = Piece {
@@ -56,7 +56,7 @@ impl<'a> Iterator for Lines<'a> {
             };
             let (line, behind) = rest.split_where(|x| *x == b'\n');
             self.from = behind.at + 1;
-            if !line.bytes.starts_with(b"c") {
+            if !rest.bytes.starts_with(b"c") {
                 return Some(line);
             }
         }
