@@ -159,7 +159,7 @@ starts_comment (x ∷ s) = rw (and-true (eqb 99 x)) (go (eqb x 99) refl)
     go true e = let q : 99 ≡ x = sym (eqb-true x 99 e) in eq-eqb 99 x q
     go false e = ne_eqb 99 x (λ q. eqb-false x 99 e (sym q))
 
--- and so if the rest that it is the first line of does
+-- or if that starts with c whose first line it is
 pub comment_rest : (p l : Piece) → l ≡ before ends_line p → comment p.bytes ≡ comment l.bytes
 comment_rest p l e = rw e (go p.bytes)
   where

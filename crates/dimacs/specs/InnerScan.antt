@@ -20,7 +20,7 @@ words_at at s = words (record { at = at; bytes = s })
 abbrev pub words_left : Words → List Piece
 words_left w = words (piece_of w.rest)
 
--- the lines of a text from an offset on; none past its length
+-- the lines of a text from an offset on: none past its end
 abbrev pub lines_from : List ℕ → ℕ → List Piece
 lines_from t from = cond (leb from (length t)) (pieces ends_line from [] (drop from t)) []
 

@@ -11,7 +11,7 @@ use crate::piece::Piece;
 // Numbers above this one are taken for it: it is above every number that a formula has.
 const CAP: usize = 1000;
 
-// The lines of a text that are no comments, from the offset `from` on; none if it is past the text's length.
+// The lines of a text that are no comments, from the offset `from` on: none if it is past the text's end.
 #[derive(Clone, Copy)]
 pub struct Lines<'a> {
     text: &'a [u8],
@@ -47,7 +47,7 @@ impl<'a> Iterator for Lines<'a> {
 
     ghost remaining = { item_count lines_left };
 
-    // S15.1: a line ends at its line feed, or with the text. It is a comment if it, and so what is left, starts with c.
+    // S15.1: a line ends at its line feed, or with the text. One that starts with c, as the rest does then, is a comment.
     fn next(&mut self) -> Option<Piece<'a>> {
         while self.from <= self.text.len() {
             let rest = Piece {
