@@ -1,20 +1,19 @@
 -- Laws of the lines of a text, and of the words of a line.
-use Prim.Native.Nat.{ℕ, suc, ◌+◌, ◌<◌}
+use Prim.Native.Nat.{ℕ, suc, ◌+◌, ◌<◌, ◌≤◌}
 use mathlib.Core.Bool.{Bool, true, false, not, cond, and-true}
 use mathlib.Core.List.{List, [], ◌∷◌}
 use mathlib.Core.Path.{◌≡◌, refl, sym, ap, ◌∙◌}
 use native.Mathlib.Omega.{arith}
-use borrow.Author.Tests.{ltb-true, ltb-false, eqb-true, eqb-false, eq-eqb, ne_eqb, not-true}
+use borrow.Author.Tests.{ltb-true, ltb-false, le-leb, lt-leb, eqb-true, eqb-false, eq-eqb, ne_eqb, not-true}
 use lib.Dec.{eqb, ltb}
 use lib.ListN.{length, take, drop, get_or, length-drop, drop_of_length-le}
 use lib.Seq.{length-take-le, drop-drop, drop-cons}
-use Rattle.std.specs.List.{position_or_len, starts_with}
-use Rattle.std.specs.Prelude.{Option}
+use Rattle.std.specs.List.{position_or_len, before_first, starts_with}
 use Rattle.std.proofs.lemmas.List.Sums.{passes_at_first, prefix_len-le-length}
 use Rattle.lists.proofs.TestLaws.{bool_clash}
 use Rattle.dimacs.specs.Text.{Piece, pieces, ends_line, parts_words, non_empty, words, comment, others}
-use Rattle.dimacs.specs.InnerPiece.{before, from_first, behind_first}
-use Rattle.dimacs.specs.InnerScan.{in_word, lines_of}
+use Rattle.dimacs.specs.InnerPiece.{before, from_first}
+use Rattle.dimacs.specs.InnerScan.{in_word, lines_from}
 use Rattle.dimacs.proofs.PieceLaws.{rest_pieces, pieces_until, kept_piece}
 
 -- ---- words
@@ -99,26 +98,36 @@ words_next p q w r e f g h = words_skip p ∙ ap words (sym e) ∙ words_word q 
 
 -- ---- lines
 
+-- a text from an offset on
+abbrev pub rest_from : List ℕ → ℕ → Piece
+rest_from t from = record { at = from; bytes = drop from t }
+
+-- where a line ends
+pub line_end : (t : List ℕ) (from : ℕ) (p q : Piece) → from ≤ length t → q ≡ from_first ends_line p → p ≡ rest_from t from → (from ≤ q.at) × (q.at ≤ length t)
+line_end t from p q h f w =
+    let z : q.at ≡ from + position_or_len ends_line (drop from t) = ap (λ (x : Piece). x.at) (f ∙ ap (from_first ends_line) w) in
+    (omega arith, omega (arith, prefix_len-le-length (λ x. not (ends_line x)) (drop from t), length-drop from t))
+
 -- a line, and those behind it
-pub lines_next : (p l q : Piece) (r : Option Piece) → l ≡ before ends_line p → q ≡ from_first ends_line p → r ≡ behind_first q → pieces ends_line p.at [] p.bytes ≡ l ∷ lines_of r
-lines_next p l q r e f g = pieces_until ends_line p.at p.bytes ∙ ap (λ (ls : List Piece). before ends_line p ∷ ls) (go (ltb k (length s)) refl) ∙ rw (g, f, e)
+pub lines_next : (t : List ℕ) (from : ℕ) (p l q : Piece) → from ≤ length t → l ≡ before ends_line p → q ≡ from_first ends_line p → p ≡ rest_from t from
+    → lines_from t from ≡ l ∷ lines_from t (q.at + 1)
+lines_next t from p l q h e f w =
+    rw (f, e, w, le-leb from (length t) h) (pieces_until ends_line from s ∙ ap (λ (ls : List Piece). before ends_line (rest_from t from) ∷ ls) (go (ltb k (length s)) refl))
   where
     s : List ℕ
-    s = p.bytes
+    s = drop from t
 
     k : ℕ
     k = position_or_len ends_line s
 
-    go : (b : Bool) → ltb k (length s) ≡ b → cond b (pieces ends_line (p.at + k + 1) [] (drop (suc k) s)) [] ≡ lines_of (behind_first (from_first ends_line p))
+    go : (b : Bool) → ltb k (length s) ≡ b → cond b (pieces ends_line (from + k + 1) [] (drop (suc k) s)) [] ≡ lines_from t (from + k + 1)
     go true e =
-        let l = ltb-true k (length s) e in
-        let n : eqb (length (drop k s)) 0 ≡ false = ne_eqb (length (drop k s)) 0 (λ z. absurd (omega (arith, length-drop k s))) in
-        let one : k + 1 ≡ suc k = omega arith in
-        rw (n, drop-drop 1 k s, one) refl
+        let l : from + k + 1 ≤ length t = omega (arith, ltb-true k (length s) e, length-drop from t) in
+        let n : from + suc k ≡ from + k + 1 = omega arith in
+        rw (le-leb (from + k + 1) (length t) l, drop-drop (suc k) from t, n) refl
     go false e =
-        let l = ltb-false k (length s) e in
-        let n : eqb (length (drop k s)) 0 ≡ true = eq-eqb (length (drop k s)) 0 (omega (arith, length-drop k s)) in
-        rw n refl
+        let l : length t < from + k + 1 = omega (arith, ltb-false k (length s) e, length-drop from t) in
+        rw (lt-leb (from + k + 1) (length t) l) refl
 
 -- behind a comment
 pub others-comment : (l : Piece) (ls : List Piece) → comment l.bytes ≡ true → others (l ∷ ls) ≡ others ls
@@ -149,3 +158,15 @@ starts_comment (x ∷ s) = rw (and-true (eqb 99 x)) (go (eqb x 99) refl)
     go : (b : Bool) → eqb x 99 ≡ b → eqb 99 x ≡ b
     go true e = let q : 99 ≡ x = sym (eqb-true x 99 e) in eq-eqb 99 x q
     go false e = ne_eqb 99 x (λ q. eqb-false x 99 e (sym q))
+
+-- or if that starts with c whose first line it is
+pub comment_rest : (p l : Piece) → l ≡ before ends_line p → comment p.bytes ≡ comment l.bytes
+comment_rest p l e = rw e (go p.bytes)
+  where
+    go : (s : List ℕ) → comment s ≡ comment (before_first ends_line s)
+    go [] = refl
+    go (x ∷ s) = by_test (ends_line x) refl
+      where
+        by_test : (b : Bool) → ends_line x ≡ b → eqb x 99 ≡ comment (take (cond (not b) (1 + position_or_len ends_line s) 0) (x ∷ s))
+        by_test true e = ne_eqb x 99 (λ q. absurd (omega (arith, eqb-true x 10 e)))
+        by_test false e = let one : 1 + position_or_len ends_line s ≡ suc (position_or_len ends_line s) = omega arith in rw one refl

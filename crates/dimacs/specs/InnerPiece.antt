@@ -1,5 +1,5 @@
 -- How a piece of a text is parted; proofs/PieceLaws.antt ties it to Text.
-use Rattle.std.specs.Prelude.{ℕ, ◌+◌, Bool, cond, eqb, length, drop, Option, Some, None}
+use Rattle.std.specs.Prelude.{ℕ, ◌+◌, Bool, drop}
 use Rattle.std.specs.List.{position_or_len, before_first}
 use Rattle.dimacs.specs.declared.piece.Piece as held
 use Rattle.dimacs.specs.Text.{Piece}
@@ -14,7 +14,3 @@ before test p = record { at = p.at; bytes = before_first test p.bytes }
 
 abbrev pub from_first : (ℕ → Bool) → Piece → Piece
 from_first test p = record { at = p.at + position_or_len test p.bytes; bytes = drop (position_or_len test p.bytes) p.bytes }
-
--- what is behind its first byte, if there is one
-abbrev pub behind_first : Piece → Option Piece
-behind_first p = cond (eqb (length p.bytes) 0) None (Some (record { at = p.at + 1; bytes = drop 1 p.bytes }))

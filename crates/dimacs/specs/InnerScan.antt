@@ -1,5 +1,5 @@
 -- What the scanning of a text computes; proofs/ScanLaws.antt, TextLaws.antt and OpeningLaws.antt tie it to Text.
-use Rattle.std.specs.Prelude.{ℕ, Bool, not, cond, List, [], Option, Some, None, option_map, ltb}
+use Rattle.std.specs.Prelude.{ℕ, Bool, not, cond, List, [], Option, Some, None, ltb, leb, length, drop}
 use Rattle.dimacs.specs.declared.scan.Lines.{Lines}
 use Rattle.dimacs.specs.declared.scan.Words.{Words}
 use Rattle.dimacs.specs.declared.scan.Token as held
@@ -20,14 +20,13 @@ words_at at s = words (record { at = at; bytes = s })
 abbrev pub words_left : Words → List Piece
 words_left w = words (piece_of w.rest)
 
--- the lines of what is left of a text, if something is
-abbrev pub lines_of : Option Piece → List Piece
-lines_of None = []
-lines_of (Some p) = pieces ends_line p.at [] p.bytes
+-- the lines of a text from an offset on: none past its end
+abbrev pub lines_from : List ℕ → ℕ → List Piece
+lines_from t from = cond (leb from (length t)) (pieces ends_line from [] (drop from t)) []
 
 -- the lines that are left and are no comments
 abbrev pub lines_left : Lines → List Piece
-lines_left l = others (lines_of (option_map piece_of l.rest))
+lines_left l = others (lines_from l.text.now l.from)
 
 -- the least of a number and the cap
 abbrev pub cap : ℕ

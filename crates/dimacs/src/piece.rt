@@ -1,5 +1,5 @@
 // A stretch of a text: a line or a word.
-ghost use Rattle.std.specs.Prelude.{◌≡◌, ◌+◌, ◌<◌, ◌^◌, ℕ, Bool, length, option_map};
+ghost use Rattle.std.specs.Prelude.{◌≡◌, ◌+◌, ◌<◌, ◌^◌, ℕ, Bool, length};
 ghost use Rattle.std.specs.Iterator.{ActsAsAt};
 
 // The offset of its first byte in the text, and its bytes.
@@ -11,7 +11,7 @@ pub struct Piece<'a> {
 }
 
 impl<'a> Piece<'a> {
-    ghost use Rattle.dimacs.specs.InnerPiece.{piece_of, before, from_first, behind_first};
+    ghost use Rattle.dimacs.specs.InnerPiece.{piece_of, before, from_first};
 
     // Up to the first byte that passes the test, and from there on.
     pub fn split_where<F: Fn(&u8) -> bool>(self, test: F) -> (Self, Self)
@@ -29,16 +29,5 @@ impl<'a> Piece<'a> {
                 bytes: &self.bytes[end..],
             },
         )
-    }
-
-    // What is behind the first byte, if there is one.
-    pub fn behind_first(self) -> Option<Self>
-        ensures { option_map piece_of result ≡ behind_first (piece_of self.entry) }
-    {
-        let (_, bytes) = self.bytes.split_first()?;
-        Some(Piece {
-            at: self.at + 1,
-            bytes,
-        })
     }
 }

@@ -11,10 +11,11 @@ use crate::piece::Piece;
 // Numbers above this one are taken for it: it is above every number that a formula has.
 const CAP: usize = 1000;
 
-// The lines of a text that are no comments, from `rest` on.
+// The lines of a text that are no comments, from the offset `from` on: none if it is past the text's end.
 #[derive(Clone, Copy)]
 pub struct Lines<'a> {
-    rest: Option<Piece<'a>>,
+    text: &'a [u8],
+    from: usize,
 }
 
 // The words of a line, from `rest` on.
@@ -35,9 +36,7 @@ impl<'a> Lines<'a> {
     pub fn new(text: &'a [u8]) -> Self
         ensures { lines_left result ≡ others (lines text.now) }
     {
-        Lines {
-            rest: Some(Piece { at: 0, bytes: text }),
-        }
+        Lines { text, from: 0 }
     }
 }
 
@@ -48,12 +47,16 @@ impl<'a> Iterator for Lines<'a> {
 
     ghost remaining = { item_count lines_left };
 
-    // S15.1: a line ends at its line feed, or with the text. One that starts with c is a comment.
+    // S15.1: a line ends at its line feed, or with the text. One that starts with c, as the rest does then, is a comment.
     fn next(&mut self) -> Option<Piece<'a>> {
-        while let Some(rest) = self.rest {
+        while self.from <= self.text.len() {
+            let rest = Piece {
+                at: self.from,
+                bytes: &self.text[self.from..],
+            };
             let (line, behind) = rest.split_where(|x| *x == b'\n');
-            self.rest = behind.behind_first();
-            if !line.bytes.starts_with(b"c") {
+            self.from = behind.at + 1;
+            if !rest.bytes.starts_with(b"c") {
                 return Some(line);
             }
         }

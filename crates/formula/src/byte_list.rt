@@ -49,8 +49,9 @@ impl<const CAP: usize> ByteList<CAP> {
         ensures items { self.new.items ≡ self.old.items ++ byte ∷ [] }
         ensures len { length self.new.items ≡ length self.old.items + 1 }
     {
-        self.cells[self.len] = byte;
-        self.len += 1;
+        let len = self.len;
+        self.cells[len] = byte;
+        self.len = len + 1;
     }
 
     // The bytes.
